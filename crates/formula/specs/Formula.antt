@@ -1,0 +1,41 @@
+-- The formula that a rule encodes, as a tree. A node that can be an obligation carries its number.
+use Prim.Native.Nat.{ℕ, zero, suc}
+use mathlib.Core.List.{List, [], _∷_, _++_}
+use lib.ListN.{getD, length}
+use Rattle.formula.specs.Rule.{root}
+
+-- kinds 0 to 8: false, true, mark, negated mark, and, or, next, until, release. A mark is here a proposition.
+pub data Formula : Type 0 where
+  bottom top : Formula
+  proposition negation : (node p : ℕ) → Formula
+  conjunction disjunction : Formula → Formula → Formula
+  next : (node : ℕ) → Formula → Formula
+  until release : (node : ℕ) → Formula → Formula → Formula
+
+-- node n of that kind: left is the byte, a and b are the trees of the children
+abbrev pub build : (kind n left : ℕ) (a b : Formula) → Formula
+build zero n left a b = bottom
+build (suc zero) n left a b = top
+build (suc (suc zero)) n left a b = proposition n left
+build (suc (suc (suc zero))) n left a b = negation n left
+build (suc (suc (suc (suc zero)))) n left a b = conjunction a b
+build (suc (suc (suc (suc (suc zero))))) n left a b = disjunction a b
+build (suc (suc (suc (suc (suc (suc zero)))))) n left a b = next n a
+build (suc (suc (suc (suc (suc (suc (suc zero))))))) n left a b = until n a b
+build (suc (suc (suc (suc (suc (suc (suc (suc kind)))))))) n left a b = release n a b
+
+-- the trees of all nodes, from those below and the bytes of the rest: a child is looked up among the trees below its parent
+unfoldable pub trees : List Formula → List ℕ → List Formula
+trees below [] = below
+trees below (kind ∷ []) = below
+trees below (kind ∷ (left ∷ [])) = below
+trees below (kind ∷ (left ∷ (right ∷ rest))) =
+    trees (below ++ (build kind (length below) left (getD below left bottom) (getD below right bottom) ∷ [])) rest
+
+-- the tree of node n
+unfoldable pub tree : List ℕ → ℕ → Formula
+tree rule n = getD (trees [] rule) n bottom
+
+-- the formula of a rule: its root's tree
+unfoldable pub formula : List ℕ → Formula
+formula rule = tree rule (root rule)

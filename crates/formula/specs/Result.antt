@@ -1,0 +1,30 @@
+-- Answers: a value, or a refusal.
+use Prim.Native.Nat.{ℕ, zero, suc}
+use mathlib.Core.Bool.{Bool, true, false}
+
+-- "A refusal gives its number and a place."
+pub data Result (A : Type 0) : Type 0 where
+  accepted : A → Result A
+  refused : (number place : ℕ) → Result A
+
+-- what follows an answer: a refusal stays the first one
+abbrev pub andThen : {A B : Type 0} → Result A → (A → Result B) → Result B
+andThen (accepted a) next = next a
+andThen (refused number place) next = refused number place
+
+-- an answer that tells no value
+abbrev pub Check : Type 0
+Check = Result (Unit {0})
+
+abbrev pub fine : Check
+fine = accepted tt
+
+-- the refusal where a test fails
+abbrev pub require : Bool → (number place : ℕ) → Check
+require true number place = fine
+require false number place = refused number place
+
+-- "place the lowest": the refusal of the lowest of 0 to n - 1 that is refused
+unfoldable pub lowest : (ℕ → Check) → ℕ → Check
+lowest check zero = fine
+lowest check (suc n) = andThen (lowest check n) (λ _. check n)

@@ -1,0 +1,95 @@
+-- `sets::insert_at` meets its contract: what is held in hand, put at j, gives the list with t at i. Assumes nothing.
+use borrow.Author.Needs.{needs}
+use native.Mathlib.Omega.{arith}
+use native.Mathlib.Numerals.{add-one}
+use Prim.Native.Nat.{_≤_, _<_, _-_}
+use mathlib.Core.Path.{_≡_, refl, _∙_}
+use lib.ListN.{length, length-set}
+use Rattle.sets.specs.Sets.{insertAt}
+use Rattle.sets.proofs.Lists.{Shifting, put-step}
+use Rattle.sets.proofs.Stores.{full, shifted}
+use Rattle.sets.proofs.insert_at.Statement.{statement}
+use Rattle.sets.proofs.insert_at.Tie as tie
+
+abbrev Inv-loop : tie.InvT-loop
+Inv-loop items₀ n i t hold₀ j₀ items hold j = Shifting items₀ n i t items hold j
+
+abbrev μ-loop : tie.MeasureT-loop
+μ-loop items₀ n i t hold₀ j₀ items hold j = n - j
+
+add-result : tie.Need-add-result Inv-loop μ-loop
+add-result c = search needs
+
+returns : tie.Need-returns Inv-loop μ-loop
+returns c = full (c .before .args .items .now) (c .before .args .n) _ _ _ (omega arith) (omega arith)
+
+loop-holds : tie.Need-loop-holds Inv-loop μ-loop
+loop-holds c = record { low = omega arith; high = omega arith; room = omega arith; size = refl; whole = refl }
+
+mul-y : tie.Need-mul-y Inv-loop μ-loop
+mul-y c = search needs
+
+slice-read-y : tie.Need-slice-read-y Inv-loop μ-loop
+slice-read-y c = search needs
+
+mul-items : tie.Need-mul-items Inv-loop μ-loop
+mul-items c = search needs
+
+slice-write-items : tie.Need-slice-write-items Inv-loop μ-loop
+slice-write-items c = search needs
+
+add-j : tie.Need-add-j Inv-loop μ-loop
+add-j c = search needs
+
+loop-less : tie.Need-loop-less Inv-loop μ-loop
+loop-less c = search needs
+
+loop-again : tie.Need-loop-again Inv-loop μ-loop
+loop-again c =
+    let inv = c .before .before .loop .inv in
+    record {
+      low = omega arith;
+      high = omega arith;
+      room = omega arith;
+      size = simp length-set (inv .size);
+      whole = rw add-one (put-step _ _ _ _ (omega arith) ∙ inv .whole);
+    }
+
+mul-items-2 : tie.Need-mul-items-2 Inv-loop μ-loop
+mul-items-2 c = search needs
+
+slice-write-items-2 : tie.Need-slice-write-items-2 Inv-loop μ-loop
+slice-write-items-2 c = search needs
+
+add-result-2 : tie.Need-add-result-2 Inv-loop μ-loop
+add-result-2 c = search needs
+
+same-length : tie.Need-same-length Inv-loop μ-loop
+same-length c = simp length-set (c .before .loop .inv .size)
+
+returns-2 : tie.Need-returns-2 Inv-loop μ-loop
+returns-2 c =
+    let e : c .before .loop .j ≡ c .before .before .before .args .n = omega arith in
+    shifted _ _ _ _ _ _ (omega arith) (omega arith) (c .before .loop .inv .size) (rw e at (c .before .loop .inv .whole))
+
+pub insert-at-spec : {M : Type 1} → statement M
+insert-at-spec =
+    tie.close
+    (tie.spec
+    Inv-loop
+    μ-loop
+    add-result
+    returns
+    loop-holds
+    mul-y
+    slice-read-y
+    mul-items
+    slice-write-items
+    add-j
+    loop-less
+    loop-again
+    mul-items-2
+    slice-write-items-2
+    add-result-2
+    same-length
+    returns-2)

@@ -1,0 +1,65 @@
+-- `sets::insert_joins` meets its contract: the loop counts down, so it is a right fold (`Folds`). Assumes nothing.
+use borrow.Author.Needs.{needs}
+use native.Mathlib.Omega.{arith}
+use mathlib.Core.Path.{refl}
+use lib.ListN.{take}
+use Rattle.sets.specs.Sets.{insertJoinsN}
+use Rattle.sets.proofs.Folds.{Folding, fold-joins, fold-begins, fold-steps, fold-ends}
+use Rattle.sets.proofs.insert_joins.Statement.{statement}
+use Rattle.sets.proofs.insert_joins.Tie as tie
+
+abbrev Inv-loop : tie.InvT-loop
+Inv-loop items₀ count x ys ny n₀ j₀ items n j = Folding (insertJoinsN x) ys ny items₀ count items n j
+
+abbrev μ-loop : tie.MeasureT-loop
+μ-loop items₀ count x ys ny n₀ j₀ items n j = j
+
+loop-holds : tie.Need-loop-holds Inv-loop μ-loop
+loop-holds c =
+    let s = c .before .before in
+    fold-begins (fold-joins _) (s .args .ys .now) (s .args .ny) (s .pre) _ _
+
+sub-j : tie.Need-sub-j Inv-loop μ-loop
+sub-j c = search needs
+
+mul-insert-join : tie.Need-mul-insert-join Inv-loop μ-loop
+mul-insert-join c = search needs
+
+shared-slice-read-insert-join : tie.Need-shared-slice-read-insert-join Inv-loop μ-loop
+shared-slice-read-insert-join c = search needs
+
+insert-join-requires : tie.Need-insert-join-requires Inv-loop μ-loop
+insert-join-requires c κs = search needs
+
+loop-less : tie.Need-loop-less Inv-loop μ-loop
+loop-less c = search needs
+
+loop-again : tie.Need-loop-again Inv-loop μ-loop
+loop-again c =
+    let at = c .before .before .before .before .before .before in
+    let s = at .before .before .before in
+    fold-steps (fold-joins _) (s .args .ys .now) (s .args .ny) (s .pre) (at .loop .j) (omega arith) (at .loop .inv) (search needs) (c .before .before .insert-join .ensures)
+
+same-length : tie.Need-same-length Inv-loop μ-loop
+same-length c = c .before .loop .inv .size
+
+returns : tie.Need-returns Inv-loop μ-loop
+returns c =
+    let s = c .before .before .before .before in
+    fold-ends (fold-joins _) (s .args .ys .now) (s .args .ny) (s .pre) (c .before .loop .j) (omega arith) (c .before .loop .inv)
+
+pub insert-joins-spec : {M : Type 1} → statement M
+insert-joins-spec =
+    tie.close
+    (tie.spec
+    Inv-loop
+    μ-loop
+    loop-holds
+    sub-j
+    mul-insert-join
+    shared-slice-read-insert-join
+    insert-join-requires
+    loop-less
+    loop-again
+    same-length
+    returns)

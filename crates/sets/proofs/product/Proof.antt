@@ -1,0 +1,65 @@
+-- `sets::product` meets its contract: the loop counts down, so it is a right fold (`Folds`). Assumes nothing.
+use borrow.Author.Needs.{needs}
+use native.Mathlib.Omega.{arith}
+use mathlib.Core.Path.{refl}
+use lib.ListN.{take}
+use Rattle.sets.specs.Sets.{insertProductN}
+use Rattle.sets.proofs.Folds.{Folding, fold-product, fold-begins, fold-steps, fold-ends}
+use Rattle.sets.proofs.product.Statement.{statement}
+use Rattle.sets.proofs.product.Tie as tie
+
+abbrev Inv-loop : tie.InvT-loop
+Inv-loop items₀ count xs nx ys ny n₀ i₀ items n i = Folding (λ ts. insertProductN ts (take ny ys)) xs nx items₀ count items n i
+
+abbrev μ-loop : tie.MeasureT-loop
+μ-loop items₀ count xs nx ys ny n₀ i₀ items n i = i
+
+loop-holds : tie.Need-loop-holds Inv-loop μ-loop
+loop-holds c =
+    let s = c .before .before .before in
+    fold-begins (fold-product _) (s .args .xs .now) (s .args .nx) (s .pre .0) _ _
+
+sub-i : tie.Need-sub-i Inv-loop μ-loop
+sub-i c = search needs
+
+mul-insert-joins : tie.Need-mul-insert-joins Inv-loop μ-loop
+mul-insert-joins c = search needs
+
+shared-slice-read-insert-joins : tie.Need-shared-slice-read-insert-joins Inv-loop μ-loop
+shared-slice-read-insert-joins c = search needs
+
+insert-joins-requires : tie.Need-insert-joins-requires Inv-loop μ-loop
+insert-joins-requires c κs = search needs
+
+loop-less : tie.Need-loop-less Inv-loop μ-loop
+loop-less c = search needs
+
+loop-again : tie.Need-loop-again Inv-loop μ-loop
+loop-again c =
+    let at = c .before .before .before .before .before .before in
+    let s = at .before .before .before .before in
+    fold-steps (fold-product _) (s .args .xs .now) (s .args .nx) (s .pre .0) (at .loop .i) (omega arith) (at .loop .inv) (search needs) (c .before .before .insert-joins .ensures)
+
+same-length : tie.Need-same-length Inv-loop μ-loop
+same-length c = c .before .loop .inv .size
+
+returns : tie.Need-returns Inv-loop μ-loop
+returns c =
+    let s = c .before .before .before .before .before in
+    fold-ends (fold-product _) (s .args .xs .now) (s .args .nx) (s .pre .0) (c .before .loop .i) (omega arith) (c .before .loop .inv)
+
+pub product-spec : {M : Type 1} → statement M
+product-spec =
+    tie.close
+    (tie.spec
+    Inv-loop
+    μ-loop
+    loop-holds
+    sub-i
+    mul-insert-joins
+    shared-slice-read-insert-joins
+    insert-joins-requires
+    loop-less
+    loop-again
+    same-length
+    returns)

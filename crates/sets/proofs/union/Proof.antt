@@ -1,0 +1,65 @@
+-- `sets::union` meets its contract: the loop counts down, so it is a right fold (`Folds`). Assumes nothing.
+use borrow.Author.Needs.{needs}
+use native.Mathlib.Omega.{arith}
+use mathlib.Core.Path.{refl}
+use lib.ListN.{take}
+use Rattle.sets.specs.Sets.{unionN}
+use Rattle.sets.proofs.Folds.{Folding, fold-union, fold-begins, fold-steps, fold-ends}
+use Rattle.sets.proofs.union.Statement.{statement}
+use Rattle.sets.proofs.union.Tie as tie
+
+abbrev Inv-loop : tie.InvT-loop
+Inv-loop items₀ count xs nx n₀ i₀ items n i = Folding unionN xs nx items₀ count items n i
+
+abbrev μ-loop : tie.MeasureT-loop
+μ-loop items₀ count xs nx n₀ i₀ items n i = i
+
+loop-holds : tie.Need-loop-holds Inv-loop μ-loop
+loop-holds c =
+    let s = c .before .before in
+    fold-begins fold-union (s .args .xs .now) (s .args .nx) (s .pre) _ _
+
+sub-i : tie.Need-sub-i Inv-loop μ-loop
+sub-i c = search needs
+
+mul-insert : tie.Need-mul-insert Inv-loop μ-loop
+mul-insert c = search needs
+
+shared-slice-read-insert : tie.Need-shared-slice-read-insert Inv-loop μ-loop
+shared-slice-read-insert c = search needs
+
+insert-requires : tie.Need-insert-requires Inv-loop μ-loop
+insert-requires c κs = search needs
+
+loop-less : tie.Need-loop-less Inv-loop μ-loop
+loop-less c = search needs
+
+loop-again : tie.Need-loop-again Inv-loop μ-loop
+loop-again c =
+    let at = c .before .before .before .before .before .before in
+    let s = at .before .before .before in
+    fold-steps fold-union (s .args .xs .now) (s .args .nx) (s .pre) (at .loop .i) (omega arith) (at .loop .inv) (search needs) (c .before .before .insert .ensures)
+
+same-length : tie.Need-same-length Inv-loop μ-loop
+same-length c = c .before .loop .inv .size
+
+returns : tie.Need-returns Inv-loop μ-loop
+returns c =
+    let s = c .before .before .before .before in
+    fold-ends fold-union (s .args .xs .now) (s .args .nx) (s .pre) (c .before .loop .i) (omega arith) (c .before .loop .inv)
+
+pub union-spec : {M : Type 1} → statement M
+union-spec =
+    tie.close
+    (tie.spec
+    Inv-loop
+    μ-loop
+    loop-holds
+    sub-i
+    mul-insert
+    shared-slice-read-insert
+    insert-requires
+    loop-less
+    loop-again
+    same-length
+    returns)
