@@ -1,5 +1,5 @@
 -- The formula that a rule encodes, as a tree. A node that can be an obligation carries its number.
-use Prim.Native.Nat.{ℕ, zero, suc}
+use Prim.Native.Nat.{ℕ, zero, suc, _<_}
 use mathlib.Core.List.{List, [], _∷_, _++_}
 use lib.ListN.{getD, length}
 use Rattle.formula.specs.Rule.{root}
@@ -39,3 +39,15 @@ tree rule n = getD (trees [] rule) n bottom
 -- the formula of a rule: its root's tree
 unfoldable pub formula : List ℕ → Formula
 formula rule = tree rule (root rule)
+
+-- the propositions of a formula are those of "mark 0..7"
+unfoldable pub InRange : Formula → Type 0
+InRange bottom = Unit {0}
+InRange top = Unit {0}
+InRange (proposition n p) = p < 8
+InRange (negation n p) = p < 8
+InRange (conjunction a b) = InRange a × InRange b
+InRange (disjunction a b) = InRange a × InRange b
+InRange (next n a) = InRange a
+InRange (until n a b) = InRange a × InRange b
+InRange (release n a b) = InRange a × InRange b

@@ -178,8 +178,8 @@ fn check_nodes(rule: &[u8], n: usize) -> Checked
 }
 
 // One place more for the child, if the byte is one.
-fn count_child(counts: &mut [u8; 32], operand: Operand, byte: usize)
-    requires { ⌜ (childFits operand byte 32 ≡ true) × ((k : ℕ) → getD (now counts) k 0 < 255) ⌝ }
+fn count_child(counts: &mut [u8], operand: Operand, byte: usize)
+    requires { ⌜ (childFits operand byte (length (now counts)) ≡ true) × ((k : ℕ) → getD (now counts) k 0 < 255) ⌝ }
     ensures { λ _. ⌜ ((k : ℕ) → getD (now (counts .exit)) k 0 ≡ getD (now (counts .entry)) k 0 + isChild operand byte k) ⌝ }
 {
     if let Operand::Child = operand {

@@ -1,83 +1,107 @@
+-- `formula::check_node` meets its contract: the tests are those of `nodeCheck`, in its order.
+-- Assumes nothing.
+use native.Mathlib.Omega.{arith}
+use mathlib.Core.Path.{_≡_}
+use mathlib.Core.Bool.{Bool, not}
+use mathlib.Core.List.{List}
+use Prim.Native.Nat.{ℕ}
+use Rattle.formula.specs.Rule.{leftOperand, rightOperand, byteFits, childFits}
+use Rattle.formula.proofs.Checks.{leftByte, rightByte, leftChild, rightChild, read-test, kind-unknown, left-unfit, right-unfit, left-above, right-above, all-fits}
 use borrow.Author.Needs.{needs}
 use Rattle.formula.proofs.check_node.Statement.{statement}
 use Rattle.formula.proofs.check_node.Tie as tie
-use Rattle.formula.proofs.check_node.Reads as reads
-use Rattle.formula.proofs.check_node.Lts as lts
-use Rattle.formula.proofs.byte_fits.Reads as byte-fits-reads
-use Rattle.formula.proofs.child_fits.Reads as child-fits-reads
-use Rattle.formula.proofs.kind_of.Reads as kind-of-reads
-use Rattle.formula.proofs.left_of.Reads as left-of-reads
-use Rattle.formula.proofs.left_operand.Reads as left-operand-reads
-use Rattle.formula.proofs.right_of.Reads as right-of-reads
-use Rattle.formula.proofs.right_operand.Reads as right-operand-reads
 
--- src/lib.rt:127:9
+-- the rule and the node, from where the node's bytes are read
+abbrev ruleOf : tie.After-right-of → List ℕ
+ruleOf read = read .before .before .before .before .args .rule .now
+
+abbrev nodeOf : tie.After-right-of → ℕ
+nodeOf read = read .before .before .before .before .args .n
+
+-- each test of the code is that of the rule
+left-byte : (c : tie.After-byte-fits) {t : Bool} → not (c .byte-fits .result) ≡ t → not (leftByte (ruleOf (c .before .before .before)) (nodeOf (c .before .before .before))) ≡ t
+left-byte c e =
+    let read = c .before .before .before in
+    read-test leftOperand byteFits (read .before .before .kind-of .ensures) (read .before .left-of .ensures) (c .before .left-operand .ensures) (c .byte-fits .ensures) e
+
+right-byte : (c : tie.After-byte-fits2) {t : Bool} → not (c .byte-fits2 .result) ≡ t → not (rightByte (ruleOf (c .before .before .before .before .before .before)) (nodeOf (c .before .before .before .before .before .before))) ≡ t
+right-byte c e =
+    let read = c .before .before .before .before .before .before in
+    read-test rightOperand byteFits (read .before .before .kind-of .ensures) (read .right-of .ensures) (c .before .right-operand .ensures) (c .byte-fits2 .ensures) e
+
+left-child : (c : tie.After-child-fits) {t : Bool} → not (c .child-fits .result) ≡ t → not (leftChild (ruleOf (c .before .before .before .before .before .before .before .before .before)) (nodeOf (c .before .before .before .before .before .before .before .before .before))) ≡ t
+left-child c e =
+    let read = c .before .before .before .before .before .before .before .before .before in
+    read-test leftOperand (λ operand byte. childFits operand byte (nodeOf read)) (read .before .before .kind-of .ensures) (read .before .left-of .ensures) (c .before .left-operand2 .ensures) (c .child-fits .ensures) e
+
+right-child : (c : tie.After-child-fits2) {t : Bool} → not (c .child-fits2 .result) ≡ t → not (rightChild (ruleOf (c .before .before .before .before .before .before .before .before .before .before .before .before)) (nodeOf (c .before .before .before .before .before .before .before .before .before .before .before .before))) ≡ t
+right-child c e =
+    let read = c .before .before .before .before .before .before .before .before .before .before .before .before in
+    read-test rightOperand (λ operand byte. childFits operand byte (nodeOf read)) (read .before .before .kind-of .ensures) (read .right-of .ensures) (c .before .right-operand2 .ensures) (c .child-fits2 .ensures) e
+
 kind-of-requires : tie.Need-kind-of-requires
 kind-of-requires c κs = search needs
 
--- src/lib.rt:128:9
 left-of-requires : tie.Need-left-of-requires
 left-of-requires c κs = search needs
 
--- src/lib.rt:129:9
 right-of-requires : tie.Need-right-of-requires
 right-of-requires c κs = search needs
 
--- src/lib.rt:131:9
 returns : tie.Need-returns
-returns c = ?
+returns c = kind-unknown _ _ (omega arith)
 
--- src/lib.rt:133:19
 left-operand-requires : tie.Need-left-operand-requires
 left-operand-requires c κs = search needs
 
--- src/lib.rt:133:9
 byte-fits-requires : tie.Need-byte-fits-requires
 byte-fits-requires c κs = search needs
 
--- src/lib.rt:134:9
 returns-2 : tie.Need-returns-2
-returns-2 c = ?
+returns-2 c = left-unfit _ _ (omega arith) (left-byte (c .before) (c .if2 .taken))
 
--- src/lib.rt:136:19
 right-operand-requires : tie.Need-right-operand-requires
 right-operand-requires c κs = search needs
 
--- src/lib.rt:136:9
 byte-fits-requires-2 : tie.Need-byte-fits-requires-2
 byte-fits-requires-2 c κs = search needs
 
--- src/lib.rt:137:9
 returns-3 : tie.Need-returns-3
-returns-3 c = ?
+returns-3 c =
+    let one = c .before .before .before in
+    right-unfit _ _ (omega arith) (left-byte (one .before) (one .if2 .left)) (right-byte (c .before) (c .if3 .taken))
 
--- src/lib.rt:139:20
 left-operand-requires-2 : tie.Need-left-operand-requires-2
 left-operand-requires-2 c κs = search needs
 
--- src/lib.rt:139:9
 child-fits-requires : tie.Need-child-fits-requires
 child-fits-requires c κs = search needs
 
--- src/lib.rt:140:9
 returns-4 : tie.Need-returns-4
-returns-4 c = ?
+returns-4 c =
+    let two = c .before .before .before in
+    let one = two .before .before .before in
+    left-above _ _ (omega arith) (left-byte (one .before) (one .if2 .left)) (right-byte (two .before) (two .if3 .left)) (left-child (c .before) (c .if4 .taken))
 
--- src/lib.rt:142:20
 right-operand-requires-2 : tie.Need-right-operand-requires-2
 right-operand-requires-2 c κs = search needs
 
--- src/lib.rt:142:9
 child-fits-requires-2 : tie.Need-child-fits-requires-2
 child-fits-requires-2 c κs = search needs
 
--- src/lib.rt:143:9
 returns-5 : tie.Need-returns-5
-returns-5 c = ?
+returns-5 c =
+    let three = c .before .before .before in
+    let two = three .before .before .before in
+    let one = two .before .before .before in
+    right-above _ _ (omega arith) (left-byte (one .before) (one .if2 .left)) (right-byte (two .before) (two .if3 .left)) (left-child (three .before) (three .if4 .left)) (right-child (c .before) (c .if5 .taken))
 
--- src/lib.rt:123:1
 returns-6 : tie.Need-returns-6
-returns-6 c = ?
+returns-6 c =
+    let three = c .before .before .before in
+    let two = three .before .before .before in
+    let one = two .before .before .before in
+    all-fits _ _ (omega arith) (left-byte (one .before) (one .if2 .left)) (right-byte (two .before) (two .if3 .left)) (left-child (three .before) (three .if4 .left)) (right-child (c .before) (c .if5 .left))
 
 pub check-node-spec : {M : Type 1} → statement M
 check-node-spec =

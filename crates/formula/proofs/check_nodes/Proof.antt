@@ -1,49 +1,50 @@
+-- `formula::check_nodes` meets its contract: the nodes before i are fine (`Passing`), and the first refusal is the lowest.
+-- Assumes nothing.
+use borrow.Author.Needs.{needs}
+use native.Mathlib.Omega.{arith}
+use Prim.Native.Nat.{_-_}
+use mathlib.Core.Path.{sym, ap, _∙_}
+use Rattle.formula.specs.Rule.{nodeCheck, answer}
+use Rattle.formula.proofs.Lowest.{Passing, pass-begins, pass-steps, pass-fails, pass-ends}
 use Rattle.formula.proofs.check_nodes.Statement.{statement}
 use Rattle.formula.proofs.check_nodes.Tie as tie
-use Rattle.formula.proofs.check_nodes.Reads as reads
-use Rattle.formula.proofs.check_nodes.Lts as lts
-use Rattle.formula.proofs.check_node.Reads as check-node-reads
 
 abbrev Inv-loop : tie.InvT-loop
-Inv-loop rule n i₀ i = ?
+Inv-loop rule n i₀ i = Passing (nodeCheck rule) n i
 
 abbrev μ-loop : tie.MeasureT-loop
-μ-loop rule n i₀ i = ?
+μ-loop rule n i₀ i = n - i
 
--- src/lib.rt:154:5
 loop-holds : tie.Need-loop-holds Inv-loop μ-loop
-loop-holds c = ?
+loop-holds c = pass-begins _ _
 
--- src/lib.rt:155:13
 check-node-requires : tie.Need-check-node-requires Inv-loop μ-loop
-check-node-requires c κs = ?
+check-node-requires c κs = search needs
 
--- src/lib.rt:156:33
 enum-known-node : tie.Need-enum-known-node Inv-loop μ-loop
-enum-known-node c = ?
+enum-known-node c = search needs
 
--- src/lib.rt:157:13
 returns : tie.Need-returns Inv-loop μ-loop
-returns c = ?
+returns c =
+    let at = c .before .before .before .before .before in
+    pass-fails _ _ (at .loop .i) (omega arith) (at .loop .inv) (sym (ap answer (c .before .node .given .1)) ∙ c .before .before .before .check-node .ensures)
 
 enum-told : tie.Need-enum-told Inv-loop μ-loop
-enum-told c = ?
+enum-told c = search needs
 
--- src/lib.rt:159:9
 add-i : tie.Need-add-i Inv-loop μ-loop
-add-i c = ?
+add-i c = search needs
 
--- src/lib.rt:154:5
 loop-less : tie.Need-loop-less Inv-loop μ-loop
-loop-less c = ?
+loop-less c = search needs
 
--- src/lib.rt:154:5
 loop-again : tie.Need-loop-again Inv-loop μ-loop
-loop-again c = ?
+loop-again c =
+    let at = c .before .before .before .before in
+    pass-steps _ _ (at .loop .i) (omega arith) (at .loop .inv) (sym (c .before .before .check-node .ensures) ∙ ap answer (c .enum-told .given .1))
 
--- src/lib.rt:149:1
 returns-2 : tie.Need-returns-2 Inv-loop μ-loop
-returns-2 c = ?
+returns-2 c = pass-ends _ _ (c .before .loop .i) (omega arith) (c .before .loop .inv)
 
 pub check-nodes-spec : {M : Type 1} → statement M
 check-nodes-spec =

@@ -1,58 +1,58 @@
+-- `formula::check_places` meets its contract: the nodes before k are fine (`Passing`), and the first refusal is the lowest.
+-- Assumes nothing.
+use borrow.Author.Needs.{needs}
+use native.Mathlib.Omega.{arith}
+use Prim.Native.Nat.{_-_}
+use mathlib.Core.Path.{sym, ap, _∙_}
+use Rattle.formula.specs.Rule.{placeCheck, answer}
+use Rattle.formula.proofs.Lowest.{Passing, pass-begins, pass-steps, pass-fails, pass-ends}
 use Rattle.formula.proofs.check_places.Statement.{statement}
 use Rattle.formula.proofs.check_places.Tie as tie
-use Rattle.formula.proofs.check_places.Reads as reads
-use Rattle.formula.proofs.check_places.Lts as lts
-use Rattle.formula.proofs.check_place.Reads as check-place-reads
-use Rattle.formula.proofs.count_places.Reads as count-places-reads
 
 abbrev Inv-loop : tie.InvT-loop
-Inv-loop rule n counts k₀ k = ?
+Inv-loop rule n counts k₀ k = Passing (placeCheck rule) n k
 
 abbrev μ-loop : tie.MeasureT-loop
-μ-loop rule n counts k₀ k = ?
+μ-loop rule n counts k₀ k = n - k
 
--- src/lib.rt:215:18
 count-places-requires : tie.Need-count-places-requires Inv-loop μ-loop
-count-places-requires c κs = ?
+count-places-requires c κs = search needs
 
--- src/lib.rt:217:5
 loop-holds : tie.Need-loop-holds Inv-loop μ-loop
-loop-holds c = ?
+loop-holds c = pass-begins _ _
 
--- src/lib.rt:218:42
 array-read-check-place : tie.Need-array-read-check-place Inv-loop μ-loop
-array-read-check-place c = ?
+array-read-check-place c = search needs
 
--- src/lib.rt:218:13
 check-place-requires : tie.Need-check-place-requires Inv-loop μ-loop
-check-place-requires c κs = ?
+check-place-requires c κs =
+    let s = c .before .before .before .before in
+    (omega arith, rw (← s .pre .0) (c .before .before .count-places .ensures _))
 
--- src/lib.rt:219:33
 enum-known-place : tie.Need-enum-known-place Inv-loop μ-loop
-enum-known-place c = ?
+enum-known-place c = search needs
 
--- src/lib.rt:220:13
 returns : tie.Need-returns Inv-loop μ-loop
-returns c = ?
+returns c =
+    let at = c .before .before .before .before .before in
+    pass-fails _ _ (at .loop .k) (omega arith) (at .loop .inv) (sym (ap answer (c .before .place .given .1)) ∙ c .before .before .before .check-place .ensures)
 
 enum-told : tie.Need-enum-told Inv-loop μ-loop
-enum-told c = ?
+enum-told c = search needs
 
--- src/lib.rt:222:9
 add-k : tie.Need-add-k Inv-loop μ-loop
-add-k c = ?
+add-k c = search needs
 
--- src/lib.rt:217:5
 loop-less : tie.Need-loop-less Inv-loop μ-loop
-loop-less c = ?
+loop-less c = search needs
 
--- src/lib.rt:217:5
 loop-again : tie.Need-loop-again Inv-loop μ-loop
-loop-again c = ?
+loop-again c =
+    let at = c .before .before .before .before in
+    pass-steps _ _ (at .loop .k) (omega arith) (at .loop .inv) (sym (c .before .before .check-place .ensures) ∙ ap answer (c .enum-told .given .1))
 
--- src/lib.rt:211:1
 returns-2 : tie.Need-returns-2 Inv-loop μ-loop
-returns-2 c = ?
+returns-2 c = pass-ends _ _ (c .before .loop .k) (omega arith) (c .before .loop .inv)
 
 pub check-places-spec : {M : Type 1} → statement M
 check-places-spec =

@@ -1,32 +1,26 @@
+-- `formula::child_fits` meets its contract: each arm is told its variant, at which `childFits` computes.
+-- Assumes nothing.
 use borrow.Author.Needs.{needs}
 use Rattle.formula.proofs.child_fits.Statement.{statement}
 use Rattle.formula.proofs.child_fits.Tie as tie
-use Rattle.formula.proofs.child_fits.Reads as reads
-use Rattle.formula.proofs.child_fits.Lts as lts
 
--- src/lib.rt:116:28
 enum-told : tie.Need-enum-told
 enum-told c = search needs
 
--- src/lib.rt:117:33
 enum-told-2 : tie.Need-enum-told-2
 enum-told-2 c = search needs
 
--- src/lib.rt:118:27
 enum-told-3 : tie.Need-enum-told-3
 enum-told-3 c = search needs
 
--- src/lib.rt:112:1
 returns : tie.Need-returns
 returns c = search needs
 
--- src/lib.rt:112:1
 returns-2 : tie.Need-returns-2
 returns-2 c = search needs
 
--- src/lib.rt:112:1
 returns-3 : tie.Need-returns-3
-returns-3 c = ?
+returns-3 c = rw (c .enum-told3 .given .1)
 
 pub child-fits-spec : {M : Type 1} → statement M
 child-fits-spec =

@@ -1,34 +1,55 @@
+-- `formula::count_child` meets its contract: a child's count grows by one, and no other does.
+-- Assumes nothing.
+use native.Mathlib.Omega.{arith}
+use mathlib.Core.Path.{_≡_, refl}
+use mathlib.Core.Logic.{_⊎_, inl, inr}
+use Prim.Native.Nat.{ℕ}
+use denote.Enum.Declared.{tagOf}
+use Rattle.formula.specs.declared.Operand.{Operand}
+use Rattle.formula.specs.declared.Operand.the-variants.{Unused, Proposition, Child}
+use Rattle.formula.specs.Rule.{isChild}
+use Rattle.formula.proofs.Operand.{the-type}
+use Rattle.formula.proofs.Places.{child-below, one-more}
 use borrow.Author.Needs.{needs}
 use Rattle.formula.proofs.count_child.Statement.{statement}
 use Rattle.formula.proofs.count_child.Tie as tie
-use Rattle.formula.proofs.count_child.Reads as reads
-use Rattle.formula.proofs.count_child.Lts as lts
 
--- src/lib.rt:170:9
+-- what is neither of the other two variants is no child
+no-child : (operand : Operand) (byte k : ℕ) → (tagOf the-type operand ≡ 0) ⊎ (tagOf the-type operand ≡ 1) → isChild operand byte k ≡ 0
+no-child Unused byte k tag = refl
+no-child Proposition byte k tag = refl
+no-child Child byte k (inl tag) = absurd (omega arith)
+no-child Child byte k (inr tag) = absurd (omega arith)
+
 enum-told : tie.Need-enum-told
 enum-told c = search needs
 
--- src/lib.rt:170:9
-element-copy-out-counts : tie.Need-element-copy-out-counts
-element-copy-out-counts c = ?
+slice-read-counts : tie.Need-slice-read-counts
+slice-read-counts c = child-below _ (c .before .enum-told .given .1) _ _ (c .before .before .before .pre .0)
 
--- src/lib.rt:170:9
 add-counts : tie.Need-add-counts
-add-counts c = ?
+add-counts c = omega (arith, c .before .before .before .pre .1 (c .before .before .before .args .byte))
 
--- src/lib.rt:170:9
-element-write-counts : tie.Need-element-write-counts
-element-write-counts c = ?
+slice-write-counts : tie.Need-slice-write-counts
+slice-write-counts c = child-below _ (c .before .enum-told .given .1) _ _ (c .before .before .before .pre .0)
 
--- src/lib.rt:165:1
+same-length : tie.Need-same-length
+same-length c = search needs
+
 returns : tie.Need-returns
-returns c = ?
+returns c = one-more _ (c .before .enum-told .given .1) _ (c .before .before .before .args .counts .now) (c .before .before .before .pre .0)
 
--- src/lib.rt:165:1
 returns-2 : tie.Need-returns-2
-returns-2 c = ?
+returns-2 c = λ k. rw (no-child (c .before .args .operand) _ k (c .match .keys2)) (omega arith)
 
 pub count-child-spec : {M : Type 1} → statement M
 count-child-spec =
     tie.close
-    (tie.spec enum-told element-copy-out-counts add-counts element-write-counts returns returns-2)
+    (tie.spec
+    enum-told
+    slice-read-counts
+    add-counts
+    slice-write-counts
+    same-length
+    returns
+    returns-2)

@@ -1,67 +1,84 @@
+-- `formula::count_places` meets its contract: the counts are the places of the nodes passed (`Counting`), and those are too few to overflow.
+-- Assumes nothing.
+use borrow.Author.Needs.{needs}
+use native.Mathlib.Omega.{arith}
+use Prim.Native.Nat.{_-_}
+use Rattle.formula.proofs.Places.{Counting, count-begins, count-ends, left-fits, right-fits, count-steps}
 use Rattle.formula.proofs.count_places.Statement.{statement}
 use Rattle.formula.proofs.count_places.Tie as tie
-use Rattle.formula.proofs.count_places.Reads as reads
-use Rattle.formula.proofs.count_places.Lts as lts
-use Rattle.formula.proofs.count_child.Reads as count-child-reads
-use Rattle.formula.proofs.kind_of.Reads as kind-of-reads
-use Rattle.formula.proofs.left_of.Reads as left-of-reads
-use Rattle.formula.proofs.left_operand.Reads as left-operand-reads
-use Rattle.formula.proofs.right_of.Reads as right-of-reads
-use Rattle.formula.proofs.right_operand.Reads as right-operand-reads
 
 abbrev Inv-loop : tie.InvT-loop
-Inv-loop rule n counts₀ i₀ counts i = ?
+Inv-loop rule n counts₀ i₀ counts i = Counting rule n counts i
 
 abbrev μ-loop : tie.MeasureT-loop
-μ-loop rule n counts₀ i₀ counts i = ?
+μ-loop rule n counts₀ i₀ counts i = n - i
 
--- src/lib.rt:181:5
 loop-holds : tie.Need-loop-holds Inv-loop μ-loop
-loop-holds c = ?
+loop-holds c = count-begins _ _
 
--- src/lib.rt:182:13
 kind-of-requires : tie.Need-kind-of-requires Inv-loop μ-loop
-kind-of-requires c κs = ?
+kind-of-requires c κs = search needs
 
--- src/lib.rt:183:34
+slice-aggregate-count-child : tie.Need-slice-aggregate-count-child Inv-loop μ-loop
+slice-aggregate-count-child c = search needs
+
 left-operand-requires : tie.Need-left-operand-requires Inv-loop μ-loop
-left-operand-requires c κs = ?
+left-operand-requires c κs = search needs
 
--- src/lib.rt:183:54
 left-of-requires : tie.Need-left-of-requires Inv-loop μ-loop
-left-of-requires c κs = ?
+left-of-requires c κs = search needs
 
--- src/lib.rt:183:9
 count-child-requires : tie.Need-count-child-requires Inv-loop μ-loop
-count-child-requires c κs = ?
+count-child-requires c κs =
+    let turn = c .before .before .before .before in
+    let at = turn .before in
+    let s = at .before .before in
+    left-fits _ _ (s .pre .1) (s .pre .2) _ (turn .loop-test .taken) (at .loop .inv) (c .before .before .before .kind-of .ensures) (c .before .left-operand .ensures) (c .left-of .ensures)
 
--- src/lib.rt:184:34
+slice-aggregate-count-child-2 : tie.Need-slice-aggregate-count-child-2 Inv-loop μ-loop
+slice-aggregate-count-child-2 c = search needs
+
 right-operand-requires : tie.Need-right-operand-requires Inv-loop μ-loop
-right-operand-requires c κs = ?
+right-operand-requires c κs = search needs
 
--- src/lib.rt:184:55
 right-of-requires : tie.Need-right-of-requires Inv-loop μ-loop
-right-of-requires c κs = ?
+right-of-requires c κs = search needs
 
--- src/lib.rt:184:9
 count-child-requires-2 : tie.Need-count-child-requires-2 Inv-loop μ-loop
-count-child-requires-2 c κs = ?
+count-child-requires-2 c κs =
+    let first = c .before .before .before .before in
+    let turn = first .before .before .before .before .before in
+    let at = turn .before in
+    let s = at .before .before in
+    let kind = first .before .before .before .before .kind-of .ensures in
+    let left = first .before .before .left-operand .ensures in
+    let l = first .before .left-of .ensures in
+    right-fits _ _ (s .pre .1) (s .pre .2) _ (turn .loop-test .taken) (at .loop .inv) kind left l
+    (first .count-child .last .0) (first .count-child .kept .0) (first .count-child .ensures) (c .before .right-operand .ensures) (c .right-of .ensures)
 
--- src/lib.rt:185:9
 add-i : tie.Need-add-i Inv-loop μ-loop
-add-i c = ?
+add-i c = search needs
 
--- src/lib.rt:181:5
 loop-less : tie.Need-loop-less Inv-loop μ-loop
-loop-less c = ?
+loop-less c = search needs
 
--- src/lib.rt:181:5
 loop-again : tie.Need-loop-again Inv-loop μ-loop
-loop-again c = ?
+loop-again c =
+    let second = c .before in
+    let first = second .before .before .before .before .before in
+    let turn = first .before .before .before .before .before in
+    let at = turn .before in
+    let s = at .before .before in
+    let kind = first .before .before .before .before .kind-of .ensures in
+    let left = first .before .before .left-operand .ensures in
+    let l = first .before .left-of .ensures in
+    let right = second .before .before .right-operand .ensures in
+    let r = second .before .right-of .ensures in
+    count-steps _ _ (s .pre .1) (s .pre .2) _ (turn .loop-test .taken) (at .loop .inv) kind left l (first .count-child .last .0) (first .count-child .kept .0) (first .count-child .ensures) right r
+    (second .count-child2 .last .0) (second .count-child2 .kept .0) (second .count-child2 .ensures)
 
--- src/lib.rt:175:1
 returns : tie.Need-returns Inv-loop μ-loop
-returns c = ?
+returns c = count-ends _ _ _ (c .before .loop .i) (omega arith) (c .before .loop .inv)
 
 pub count-places-spec : {M : Type 1} → statement M
 count-places-spec =
@@ -71,9 +88,11 @@ count-places-spec =
     μ-loop
     loop-holds
     kind-of-requires
+    slice-aggregate-count-child
     left-operand-requires
     left-of-requires
     count-child-requires
+    slice-aggregate-count-child-2
     right-operand-requires
     right-of-requires
     count-child-requires-2

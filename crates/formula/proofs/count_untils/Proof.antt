@@ -1,47 +1,44 @@
+-- `formula::count_untils` meets its contract: the count is that of the nodes passed (`CountingUntils`).
+-- Assumes nothing.
+use borrow.Author.Needs.{needs}
+use native.Mathlib.Omega.{arith}
+use Prim.Native.Nat.{_-_}
+use lib.Dec.{eqb}
+use Rattle.formula.proofs.Untils.{CountingUntils, optional-most, untils-begin, untils-step, untils-end}
 use Rattle.formula.proofs.count_untils.Statement.{statement}
 use Rattle.formula.proofs.count_untils.Tie as tie
-use Rattle.formula.proofs.count_untils.Reads as reads
-use Rattle.formula.proofs.count_untils.Lts as lts
-use Rattle.formula.proofs.kind_of.Reads as kind-of-reads
-use Rattle.formula.proofs.until_count.Reads as until-count-reads
 
 abbrev Inv-loop : tie.InvT-loop
-Inv-loop rule n count₀ i₀ count i = ?
+Inv-loop rule n count₀ i₀ count i = CountingUntils rule n count i
 
 abbrev μ-loop : tie.MeasureT-loop
-μ-loop rule n count₀ i₀ count i = ?
+μ-loop rule n count₀ i₀ count i = n - i
 
--- src/lib.rt:241:5
 loop-holds : tie.Need-loop-holds Inv-loop μ-loop
-loop-holds c = ?
+loop-holds c = untils-begin _ _
 
--- src/lib.rt:242:30
 kind-of-requires : tie.Need-kind-of-requires Inv-loop μ-loop
-kind-of-requires c κs = ?
+kind-of-requires c κs = search needs
 
--- src/lib.rt:242:18
 until-count-requires : tie.Need-until-count-requires Inv-loop μ-loop
-until-count-requires c κs = ?
+until-count-requires c κs = search needs
 
--- src/lib.rt:242:9
 add-count : tie.Need-add-count Inv-loop μ-loop
-add-count c = ?
+add-count c = omega (arith, optional-most (eqb (c .before .kind-of .result) 7) (c .before .kind-of .result))
 
--- src/lib.rt:243:9
 add-i : tie.Need-add-i Inv-loop μ-loop
-add-i c = ?
+add-i c = search needs
 
--- src/lib.rt:241:5
 loop-less : tie.Need-loop-less Inv-loop μ-loop
-loop-less c = ?
+loop-less c = search needs
 
--- src/lib.rt:241:5
 loop-again : tie.Need-loop-again Inv-loop μ-loop
-loop-again c = ?
+loop-again c =
+    let at = c .before .before .before in
+    untils-step _ _ _ (at .loop .i) _ _ (omega arith) (at .loop .inv) (c .before .kind-of .ensures) (c .until-count .ensures)
 
--- src/lib.rt:235:1
 returns : tie.Need-returns Inv-loop μ-loop
-returns c = ?
+returns c = untils-end _ _ _ (c .before .loop .i) (omega arith) (c .before .loop .inv)
 
 pub count-untils-spec : {M : Type 1} → statement M
 count-untils-spec =

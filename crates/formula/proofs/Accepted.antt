@@ -1,0 +1,72 @@
+-- What it says of a rule that no check refuses it.
+use mathlib.Core.Path.{_≡_}
+use mathlib.Core.Bool.{true, and-eq-true-iff}
+use mathlib.Core.List.{List}
+use Prim.Native.Nat.{ℕ, _%_, _≤_, _<_}
+use native.Mathlib.Decide.{ℕ-discrete}
+use native.Mathlib.Omega.{arith}
+use lib.Dec.{leb}
+use lib.ListN.{length}
+use borrow.Author.Tests.{leb-true, ltb-true, eqb-true}
+use Rattle.formula.specs.Result.{fine, lowest}
+use Rattle.formula.specs.Rule.{nodeCount, kindAt, leftAt, rightAt, lengthCheck, nodeCheck, placeCheck, untilCheck, checked, untils as untilsOf}
+use Rattle.formula.proofs.Lowest.{fine-first, fine-second, lowest-each}
+use Rattle.formula.proofs.Operands.{left-proposition, left-child, right-next, right-child}
+use Rattle.formula.proofs.Checks.{Tested, tested, required, require-fine}
+
+-- node n is as 3 to 5 want it: of a known kind, its proposition below 8, its children below it
+pub record Node (rule : List ℕ) (n : ℕ) : Type 0 where
+  pub kind : kindAt rule n ≤ 8
+  pub proposition : 1 < kindAt rule n → kindAt rule n < 4 → leftAt rule n < 8
+  pub left : 3 < kindAt rule n → leftAt rule n < n
+  pub right : 3 < kindAt rule n → rightAt rule n < n
+
+module _ (rule : List ℕ) (n : ℕ) (node : Tested rule n) where
+  proposition-small : 1 < kindAt rule n → kindAt rule n < 4 → leftAt rule n < 8
+  proposition-small low high =
+      let fits : leb (leftAt rule n) 7 ≡ true = rw (← left-proposition (kindAt rule n) (omega arith) (omega arith)) at (node .left-fits) in
+      omega (arith, leb-true)
+
+  left-below : 3 < kindAt rule n → leftAt rule n < n
+  left-below inner = ltb-true (leftAt rule n) n (rw (← left-child (kindAt rule n) (omega arith)) at (node .left-below))
+
+  -- of a next, the right byte is 0
+  right-below : 3 < kindAt rule n → rightAt rule n < n
+  right-below inner = pick (ℕ-discrete (kindAt rule n) 6)
+    where
+      pick : Dec (kindAt rule n ≡ 6) → rightAt rule n < n
+      pick (yes e) =
+          let zero : rightAt rule n ≡ 0 = eqb-true (rightAt rule n) 0 (rw (← right-next (kindAt rule n) e) at (node .right-fits)) in
+          omega (arith, left-below inner)
+      pick (no other) = ltb-true (rightAt rule n) n (rw (← right-child (kindAt rule n) (omega arith) other) at (node .right-below))
+
+pub node-fine : (rule : List ℕ) (n : ℕ) → nodeCheck rule n ≡ fine → Node rule n
+node-fine rule n e =
+    let node = tested rule n e in
+    record { kind = node .known; proposition = proposition-small rule n node; left = left-below rule n node; right = right-below rule n node }
+
+-- a rule that `check` accepts
+pub record Accepted (rule : List ℕ) : Type 0 where
+  pub most : length rule ≤ 96
+  pub some : 0 < nodeCount rule
+  pub whole : length rule % 3 ≡ 0
+  pub nodes : (n : ℕ) → n < nodeCount rule → Node rule n
+  pub untils : length (untilsOf rule (nodeCount rule)) ≤ 8
+
+pub accepted-fine : (rule : List ℕ) → checked rule ≡ fine → Accepted rule
+unfolding checked lengthCheck untilCheck
+accepted-fine rule e =
+    let size = required _ 1 0 _ (fine-first (lengthCheck rule) _ e) in
+    let parts = and-eq-true-iff _ _ .0 (require-fine _ 2 0 (size .1)) in
+    let rest = fine-second (lengthCheck rule) _ e in
+    let nodes = lowest (nodeCheck rule) (nodeCount rule) in
+    let last = fine-second (lowest (placeCheck rule) (nodeCount rule)) _ (fine-second nodes _ rest) in
+    let some : 0 < length rule = ltb-true 0 (length rule) (parts .0) in
+    let whole : length rule % 3 ≡ 0 = eqb-true (length rule % 3) 0 (parts .1) in
+    record {
+      most = leb-true (length rule) 96 (size .0);
+      some = omega arith;
+      whole = whole;
+      nodes = λ n lt. node-fine rule n (lowest-each (nodeCheck rule) (nodeCount rule) (fine-first nodes _ rest) n lt);
+      untils = leb-true (length (untilsOf rule (nodeCount rule))) 8 (require-fine _ 7 0 last);
+    }

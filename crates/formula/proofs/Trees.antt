@@ -1,0 +1,106 @@
+-- The tree of a node by those of its children, and what holds of every tree of a rule that is accepted.
+use mathlib.Core.Path.{_≡_, refl, sym, ap, _∙_}
+use mathlib.Core.List.{List, [], _∷_, _++_}
+use Prim.Native.Nat.{ℕ, zero, suc, _+_, _*_, _≤_, _<_}
+use native.Mathlib.Decide.{decLt}
+use native.Mathlib.Omega.{arith}
+use lib.ListN.{length, getD, take, length-append}
+use lib.Seq.{getD-take, take-append-le, take-take, take-all, getD-append-seam}
+use Rattle.formula.specs.Rule.{nodeCount, kindAt, leftAt, rightAt}
+use Rattle.formula.specs.Formula.{Formula, bottom, top, proposition, negation, conjunction, disjunction, next, until, release, build, trees, tree, InRange}
+use Rattle.formula.proofs.Accepted.{Node}
+
+-- the trees below stay
+kept : (rest : List ℕ) (below : List Formula) → take (length below) (trees below rest) ≡ below
+unfolding trees
+kept [] below = take-all (length below) below (omega arith)
+kept (kind ∷ []) below = take-all (length below) below (omega arith)
+kept (kind ∷ (left ∷ [])) below = take-all (length below) below (omega arith)
+kept (kind ∷ (left ∷ (right ∷ rest))) below =
+    let f : Formula = build kind (length below) left (getD below left bottom) (getD below right bottom) in
+    sym (take-take (length below) (length (below ++ (f ∷ []))) (trees (below ++ (f ∷ [])) rest) (omega (arith, length-append below (f ∷ []))))
+    ∙ ap (take (length below)) (kept rest (below ++ (f ∷ [])))
+    ∙ take-append-le (length below) below (f ∷ []) (omega arith)
+    ∙ take-all (length below) below (omega arith)
+
+-- node m of all, if it is number n of the rest
+abbrev Built : List Formula → List ℕ → (m n : ℕ) → Type 0
+Built all rest m n =
+    getD all m bottom ≡ build (kindAt rest n) m (leftAt rest n) (getD (take m all) (leftAt rest n) bottom) (getD (take m all) (rightAt rest n) bottom)
+
+built : (n m : ℕ) (rest : List ℕ) (below : List Formula) → m ≡ length below + n → n * 3 + 2 < length rest → Built (trees below rest) rest m n
+unfolding trees
+built n m [] below e lt = absurd (omega arith)
+built n m (kind ∷ []) below e lt = absurd (omega arith)
+built n m (kind ∷ (left ∷ [])) below e lt = absurd (omega arith)
+built zero m (kind ∷ (left ∷ (right ∷ rest))) below e lt =
+    let f : Formula = build kind (length below) left (getD below left bottom) (getD below right bottom) in
+    let all : List Formula = trees (below ++ (f ∷ [])) rest in
+    let q : m ≡ length below = omega arith in
+    let s : take (length below) all ≡ below = kept (kind ∷ (left ∷ (right ∷ rest))) below in
+    rw (q, s)
+    (sym (getD-take (length (below ++ (f ∷ []))) all (length below) bottom (omega (arith, length-append below (f ∷ []))))
+    ∙ ap (λ (xs : List Formula). getD xs (length below) bottom) (kept rest (below ++ (f ∷ [])))
+    ∙ getD-append-seam below f [] bottom)
+built (suc n) m (kind ∷ (left ∷ (right ∷ rest))) below e lt =
+    let f : Formula = build kind (length below) left (getD below left bottom) (getD below right bottom) in
+    let a : suc n * 3 ≡ suc (suc (suc (n * 3))) = omega arith in
+    let b : suc n * 3 + 1 ≡ suc (suc (suc (n * 3 + 1))) = omega arith in
+    let d : suc n * 3 + 2 ≡ suc (suc (suc (n * 3 + 2))) = omega arith in
+    rw (b, d, a) (built n m rest (below ++ (f ∷ [])) (omega (arith, length-append below (f ∷ []))) (omega arith))
+
+module _ (rule : List ℕ) (n : ℕ) (inside : n < nodeCount rule) (node : Node rule n) where
+  of-parts : tree rule n ≡ build (kindAt rule n) n (leftAt rule n) (getD (take n (trees [] rule)) (leftAt rule n) bottom) (getD (take n (trees [] rule)) (rightAt rule n) bottom)
+  unfolding tree
+  of-parts = built n n rule [] (omega arith) (omega arith)
+
+  child : (k : ℕ) → k < n → getD (take n (trees [] rule)) k bottom ≡ tree rule k
+  unfolding tree
+  child k lt = getD-take n (trees [] rule) k bottom lt
+
+  module _ (k : ℕ) (ek : k ≡ kindAt rule n) (inner : 3 < k) where
+    pub left-below : (l : ℕ) → l ≡ leftAt rule n → l < n
+    left-below l e = omega (arith, node .left (omega arith))
+
+    pub right-below : (r : ℕ) → r ≡ rightAt rule n → r < n
+    right-below r e = omega (arith, node .right (omega arith))
+
+  -- P is what is said of a node's tree
+  module _ (P : Formula → Type 0) (k : ℕ) (ek : k ≡ kindAt rule n) where
+    pub leaf-in : (l : ℕ) → l ≡ leftAt rule n → ((f g : Formula) → P (build k n l f g)) → P (tree rule n)
+    leaf-in l el h = rw (of-parts, ← ek, ← el) (h _ _)
+
+    pub pair-in : (l r : ℕ) → l ≡ leftAt rule n → r ≡ rightAt rule n → 3 < k → P (build k n l (tree rule l) (tree rule r)) → P (tree rule n)
+    pair-in l r el er inner h = rw (of-parts, ← el, ← er, child l (left-below k ek inner l el), child r (right-below k ek inner r er), ← ek) h
+
+in-range-build : (k n l : ℕ) (f g : Formula) → (1 < k → k < 4 → l < 8) → (3 < k → InRange f) → (3 < k → InRange g) → InRange (build k n l f g)
+unfolding InRange
+in-range-build zero n l f g p a b = tt
+in-range-build (suc zero) n l f g p a b = tt
+in-range-build (suc (suc zero)) n l f g p a b = p (omega arith) (omega arith)
+in-range-build (suc (suc (suc zero))) n l f g p a b = p (omega arith) (omega arith)
+in-range-build (suc (suc (suc (suc zero)))) n l f g p a b = (a (omega arith), b (omega arith))
+in-range-build (suc (suc (suc (suc (suc zero))))) n l f g p a b = (a (omega arith), b (omega arith))
+in-range-build (suc (suc (suc (suc (suc (suc zero)))))) n l f g p a b = a (omega arith)
+in-range-build (suc (suc (suc (suc (suc (suc (suc zero))))))) n l f g p a b = (a (omega arith), b (omega arith))
+in-range-build (suc (suc (suc (suc (suc (suc (suc (suc k)))))))) n l f g p a b = (a (omega arith), b (omega arith))
+
+in-range-step : (rule : List ℕ) (n : ℕ) → n < nodeCount rule → Node rule n → ((k : ℕ) → k < n → InRange (tree rule k)) → InRange (tree rule n)
+in-range-step rule n inside node below = pick (decLt 3 (kindAt rule n))
+  where
+    pick : Dec (3 < kindAt rule n) → InRange (tree rule n)
+    pick (yes inner) =
+        pair-in rule n inside node InRange (kindAt rule n) refl (leftAt rule n) (rightAt rule n) refl refl inner
+        (in-range-build (kindAt rule n) n (leftAt rule n) _ _ (node .proposition) (λ _. below (leftAt rule n) (node .left inner)) (λ _. below (rightAt rule n) (node .right inner)))
+    pick (no leaf) =
+        leaf-in rule n inside node InRange (kindAt rule n) refl (leftAt rule n) refl
+        (λ f g. in-range-build (kindAt rule n) n (leftAt rule n) f g (node .proposition) (λ inner. absurd (leaf inner)) (λ inner. absurd (leaf inner)))
+
+in-range-to : (rule : List ℕ) (bound n : ℕ) → n < bound → n < nodeCount rule → ((k : ℕ) → k ≤ n → Node rule k) → InRange (tree rule n)
+in-range-to rule zero n lt inside nodes = absurd (omega arith)
+in-range-to rule (suc bound) n lt inside nodes =
+    in-range-step rule n inside (nodes n (omega arith)) (λ k l. in-range-to rule bound k (omega arith) (omega arith) (λ j le. nodes j (omega arith)))
+
+-- "mark 0..7": every tree of a rule whose nodes are as 3 to 5 want them
+pub tree-in-range : (rule : List ℕ) (n : ℕ) → n < nodeCount rule → ((k : ℕ) → k ≤ n → Node rule k) → InRange (tree rule n)
+tree-in-range rule n inside nodes = in-range-to rule (suc n) n (omega arith) inside nodes

@@ -1,0 +1,59 @@
+-- The untils of a rule: what a loop over the nodes counts, and the check of the count.
+use mathlib.Core.Path.{_≡_, refl, _∙_}
+use mathlib.Core.Bool.{Bool, true, false, cond}
+use mathlib.Core.List.{List, [], _∷_}
+use Prim.Native.Nat.{ℕ, _+_, _≤_, _<_}
+use native.Mathlib.Numerals.{add-one}
+use native.Mathlib.Omega.{arith}
+use lib.Dec.{eqb}
+use lib.ListN.{length, length-append}
+use borrow.Author.Tests.{le-leb, lt-leb}
+use Rattle.formula.specs.Result.{fine, refused}
+use Rattle.formula.specs.Rule.{nodeCount, kindAt, untils, untilCheck}
+
+-- a loop over n nodes that stands at i: count is the number of the untils among the first i nodes
+pub record CountingUntils (rule : List ℕ) (n count i : ℕ) : Type 0 where
+  pub within : i ≤ n
+  pub most : count ≤ i
+  pub counted : count ≡ length (untils rule i)
+
+-- one or none, whatever the one is
+pub optional-most : (t : Bool) (x : ℕ) → length (cond {A = List ℕ} t (x ∷ []) []) ≤ 1
+optional-most true x = omega arith
+optional-most false x = omega arith
+
+optional-same : (t : Bool) (x y : ℕ) → length (cond {A = List ℕ} t (x ∷ []) []) ≡ length (cond {A = List ℕ} t (y ∷ []) [])
+optional-same true x y = refl
+optional-same false x y = refl
+
+module _ (rule : List ℕ) (n : ℕ) where
+  pub untils-begin : CountingUntils rule n 0 0
+  unfolding untils
+  untils-begin = record { within = omega arith; most = omega arith; counted = refl }
+
+  pub untils-step : (count i kind more : ℕ) → i < n → CountingUntils rule n count i → kind ≡ kindAt rule i → more ≡ length (cond {A = List ℕ} (eqb kind 7) (kind ∷ []) [])
+      → CountingUntils rule n (count + more) (i + 1)
+  unfolding untils
+  untils-step count i kind more lt inv e f =
+      let one = optional-most (eqb kind 7) kind in
+      let last = cond {A = List ℕ} (eqb (kindAt rule i) 7) (i ∷ []) [] in
+      let same : more ≡ length last = rw (← e) (f ∙ optional-same (eqb kind 7) kind i) in
+      record {
+        within = omega arith;
+        most = omega arith;
+        counted = rw (add-one i) (omega (arith, length-append (untils rule i) last));
+      }
+
+  pub untils-end : (count i : ℕ) → n ≤ i → CountingUntils rule n count i → count ≡ length (untils rule n)
+  untils-end count i le inv =
+      let e : n ≡ i = omega arith in
+      rw e (inv .counted)
+
+module _ (rule : List ℕ) (count : ℕ) (counted : count ≡ length (untils rule (nodeCount rule))) where
+  pub too-many : 8 < count → refused 7 0 ≡ untilCheck rule
+  unfolding untilCheck
+  too-many lt = rw (lt-leb (length (untils rule (nodeCount rule))) 8 (omega arith))
+
+  pub few-enough : count ≤ 8 → fine ≡ untilCheck rule
+  unfolding untilCheck
+  few-enough le = rw (le-leb (length (untils rule (nodeCount rule))) 8 (omega arith))

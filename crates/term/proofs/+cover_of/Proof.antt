@@ -1,0 +1,115 @@
+-- `term::cover_of` meets its contract: an and, an or by the covers of its children, whose numbers are lower; every other
+-- node by itself. Assumes nothing.
+use borrow.Author.Needs.{needs}
+use borrow.Fn.Kinds.{In}
+use borrow.Fn.PlainCycle.{Measures, is, falls, and}
+use mathlib.Core.Path.{refl}
+use native.Mathlib.Omega.{arith}
+use Prim.Native.Nat.{ℕ, _<_}
+use Rattle.formula.proofs.Trees.{left-below, right-below, leaf-in, pair-in}
+use Rattle.formula.proofs.kind_of.Reads as kind-of-reads
+use Rattle.formula.proofs.left_of.Reads as left-of-reads
+use Rattle.formula.proofs.right_of.Reads as right-of-reads
+use Rattle.term.specs.Term.{cover}
+use Rattle.term.specs.Packed.{IsCover}
+use Rattle.term.proofs.Sizes.{own-node, ready-small, ready-below, cover-fits}
+use Rattle.term.proofs.cover_of.Reads as cover-of
+use Rattle.term.proofs.cover_of.Kinds as cover-of-kinds
+use Rattle.term.proofs.+cover_of.Lts-cover_of as cover-of-lts
+use Rattle.term.proofs.cover_leaf.Reads as cover-leaf-reads
+use Rattle.term.proofs.cover_pair.Reads as cover-pair-reads
+use Rattle.term.proofs.+cover_of.{statement}
+use Rattle.term.proofs.+cover_of.Tie.{close}
+
+abbrev μ-cover-of : Measures 1 cover-of-kinds.ps ℕ
+μ-cover-of κs a = a .1 .0
+
+abbrev cover-of-at : ℕ → In 1 cover-of-kinds.ps
+cover-of-at t = and 1 cover-of-kinds.ps (is 1 cover-of-kinds.ps μ-cover-of t) cover-of.Pre
+
+abbrev cover-of-below : ℕ → In 1 cover-of-kinds.ps
+cover-of-below t =
+    and 1 cover-of-kinds.ps (falls 1 cover-of-kinds.ps _<_ μ-cover-of t) cover-of.Pre
+
+abbrev claims : ℕ → cover-of-lts.Claims
+claims t = (kind-of-reads.Asked, kind-of-reads.Learnt, cover-leaf-reads.Asked, cover-leaf-reads.Learnt, left-of-reads.Asked, left-of-reads.Learnt, cover-of-below t, cover-of.Post, right-of-reads.Asked, right-of-reads.Learnt, cover-pair-reads.Asked, cover-pair-reads.Learnt)
+
+cover-of-kind-of-requires : (t : ℕ) → cover-of-lts.Need-kind-of-requires (claims t) (cover-of-at t) cover-of.Post
+cover-of-kind-of-requires t c κs = search needs
+
+cover-of-cover-leaf-requires : (t : ℕ) → cover-of-lts.Need-cover-leaf-requires (claims t) (cover-of-at t) cover-of.Post
+cover-of-cover-leaf-requires t c κs =
+    let ready = c .before .before .before .pre .1 in
+    (ready-small _ _ ready, λ e. omega arith, λ e. omega arith)
+
+cover-of-returns : (t : ℕ) → cover-of-lts.Need-returns (claims t) (cover-of-at t) cover-of.Post
+cover-of-returns t c =
+    let k = c .before .before in
+    let ready = k .before .before .pre .1 in
+    leaf-in _ _ (ready .inside) (own-node _ _ ready) (λ f. IsCover (c .cover-leaf .result) (cover f)) _ (k .kind-of .ensures) _ refl (c .cover-leaf .ensures _)
+
+cover-of-cover-leaf-requires-2 : (t : ℕ) → cover-of-lts.Need-cover-leaf-requires-2 (claims t) (cover-of-at t) cover-of.Post
+cover-of-cover-leaf-requires-2 t c κs =
+    let ready = c .before .before .before .before .pre .1 in
+    (ready-small _ _ ready, λ e. omega arith, λ e. omega arith)
+
+cover-of-returns-2 : (t : ℕ) → cover-of-lts.Need-returns-2 (claims t) (cover-of-at t) cover-of.Post
+cover-of-returns-2 t c =
+    let k = c .before .before .before in
+    let ready = k .before .before .pre .1 in
+    leaf-in _ _ (ready .inside) (own-node _ _ ready) (λ f. IsCover (c .cover-leaf2 .result) (cover f)) _ (k .kind-of .ensures) _ refl (c .cover-leaf2 .ensures _)
+
+cover-of-left-of-requires : (t : ℕ) → cover-of-lts.Need-left-of-requires (claims t) (cover-of-at t) cover-of.Post
+cover-of-left-of-requires t c κs = search needs
+
+cover-of-cover-of-requires : (t : ℕ) → cover-of-lts.Need-cover-of-requires (claims t) (cover-of-at t) cover-of.Post
+cover-of-cover-of-requires t c κs =
+    let k = c .before .before .before in
+    let ready = k .before .before .pre .1 in
+    let b = left-below _ _ (ready .inside) (own-node _ _ ready) _ (k .kind-of .ensures) (omega arith) _ (c .left-of .ensures) in
+    (omega arith, ready-below _ _ ready _ b)
+
+cover-of-right-of-requires : (t : ℕ) → cover-of-lts.Need-right-of-requires (claims t) (cover-of-at t) cover-of.Post
+cover-of-right-of-requires t c κs = search needs
+
+cover-of-cover-of-requires-2 : (t : ℕ) → cover-of-lts.Need-cover-of-requires-2 (claims t) (cover-of-at t) cover-of.Post
+cover-of-cover-of-requires-2 t c κs =
+    let k = c .before .before .before .before .before in
+    let ready = k .before .before .pre .1 in
+    let b = right-below _ _ (ready .inside) (own-node _ _ ready) _ (k .kind-of .ensures) (omega arith) _ (c .right-of .ensures) in
+    (omega arith, ready-below _ _ ready _ b)
+
+cover-of-cover-pair-requires : (t : ℕ) → cover-of-lts.Need-cover-pair-requires (claims t) (cover-of-at t) cover-of.Post
+cover-of-cover-pair-requires t c κs =
+    let l = c .before .before in
+    let k = l .before .before .before .before in
+    let ready = k .before .before .pre .1 in
+    let node = own-node _ _ ready in
+    let bl = left-below _ _ (ready .inside) node _ (k .kind-of .ensures) (omega arith) _ (l .before .left-of .ensures) in
+    let br = right-below _ _ (ready .inside) node _ (k .kind-of .ensures) (omega arith) _ (c .before .right-of .ensures) in
+    (cover-fits _ _ ready _ bl (l .cover-of .ensures), cover-fits _ _ ready _ br (c .cover-of2 .ensures), omega arith, omega arith)
+
+cover-of-returns-3 : (t : ℕ) → cover-of-lts.Need-returns-3 (claims t) (cover-of-at t) cover-of.Post
+cover-of-returns-3 t c =
+    let r = c .before in
+    let l = r .before .before in
+    let k = l .before .before .before .before in
+    let ready = k .before .before .pre .1 in
+    pair-in _ _ (ready .inside) (own-node _ _ ready) (λ f. IsCover (c .cover-pair .result) (cover f)) _ (k .kind-of .ensures) _ _ (l .before .left-of .ensures) (r .before .right-of .ensures) (omega arith)
+    (c .cover-pair .ensures _ _ _ _ (l .cover-of .ensures) (r .cover-of2 .ensures))
+
+pub +cover-of-spec : {M : Type 1} → statement M
++cover-of-spec = close μ-cover-of λ t. cover-of-lts.spec (claims t)
+    (cover-of-at t)
+    cover-of.Post
+    (cover-of-kind-of-requires t)
+    (cover-of-cover-leaf-requires t)
+    (cover-of-returns t)
+    (cover-of-cover-leaf-requires-2 t)
+    (cover-of-returns-2 t)
+    (cover-of-left-of-requires t)
+    (cover-of-cover-of-requires t)
+    (cover-of-right-of-requires t)
+    (cover-of-cover-of-requires-2 t)
+    (cover-of-cover-pair-requires t)
+    (cover-of-returns-3 t)

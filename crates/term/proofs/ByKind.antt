@@ -1,0 +1,84 @@
+-- The packed cover and terms of a node, by its kind.
+use mathlib.Core.Path.{_≡_, refl}
+use mathlib.Core.List.{List, [], _∷_, map}
+use Prim.Native.Nat.{ℕ, zero, suc, _*_, _^_, _<_, _≤_}
+use native.Mathlib.Omega.{arith}
+use Rattle.sets.specs.Sets.{unionN, insertProductN}
+use Rattle.formula.specs.Formula.{Formula, build, InRange}
+use Rattle.term.specs.Term.{term, cover, terms}
+use Rattle.term.specs.Packed.{pack, packSet}
+use Rattle.term.proofs.Packing.{pack-unions, pack-union, pack-owing, pack-conjunction, pack-disjunction, pack-until, pack-release}
+
+module _ (n p : ℕ) (f g : Formula) (k : ℕ) where
+  pub cover-false : k ≡ 0 → map packSet (cover (build k n p f g)) ≡ []
+  unfolding cover
+  cover-false e = rw e
+
+  pub cover-true : k ≡ 1 → map packSet (cover (build k n p f g)) ≡ 0 ∷ []
+  unfolding cover
+  cover-true e = rw e
+
+  pub cover-and : k ≡ 4 → map packSet (cover (build k n p f g)) ≡ insertProductN (map packSet (cover f)) (map packSet (cover g)) []
+  unfolding cover
+  cover-and e = rw e (pack-unions (cover f) (cover g))
+
+  pub cover-or : k ≡ 5 → map packSet (cover (build k n p f g)) ≡ unionN (map packSet (cover f)) (map packSet (cover g))
+  unfolding cover
+  cover-or e = rw e (pack-union (cover f) (cover g))
+
+  pub of-false : k ≡ 0 → map pack (terms (build k n p f g)) ≡ []
+  unfolding terms
+  of-false e = rw e
+
+  pub of-true : k ≡ 1 → map pack (terms (build k n p f g)) ≡ 0 ∷ []
+  unfolding terms
+  of-true e = rw e
+
+  pub of-proposition : k ≡ 2 → map pack (terms (build k n p f g)) ≡ 2 ^ p * 256 ∷ []
+  unfolding terms
+  of-proposition e =
+      let q : pack (term (2 ^ p) 0 0) ≡ 2 ^ p * 256 = omega arith in
+      rw (e, q)
+
+  pub of-negation : k ≡ 3 → map pack (terms (build k n p f g)) ≡ 2 ^ p ∷ []
+  unfolding terms
+  of-negation e =
+      let q : pack (term 0 (2 ^ p) 0) ≡ 2 ^ p = omega arith in
+      rw (e, q)
+
+  pub of-next : k ≡ 6 → map pack (terms (build k n p f g)) ≡ map packSet (cover f)
+  unfolding terms
+  of-next e = rw e (pack-owing (cover f))
+
+  module _ (mf : InRange f) (mg : InRange g) where
+    pub of-and : k ≡ 4 → map pack (terms (build k n p f g)) ≡ insertProductN (map pack (terms f)) (map pack (terms g)) []
+    unfolding terms
+    of-and e = rw e (pack-conjunction n f g mf mg)
+
+    pub of-or : k ≡ 5 → map pack (terms (build k n p f g)) ≡ unionN (map pack (terms f)) (map pack (terms g))
+    unfolding terms
+    of-or e = rw e (pack-disjunction n f g mf mg)
+
+    pub of-until : k ≡ 7 → map pack (terms (build k n p f g)) ≡ unionN (map pack (terms g)) (insertProductN (map pack (terms f)) (packSet (2 ^ n) ∷ []) [])
+    unfolding terms
+    of-until e = rw e (pack-until n f g mf mg)
+
+    pub of-release : k ≡ 8 → map pack (terms (build k n p f g)) ≡ insertProductN (map pack (terms g)) (unionN (map pack (terms f)) (packSet (2 ^ n) ∷ [])) []
+    unfolding terms
+    of-release e = rw e (pack-release n f g mf mg)
+
+pub cover-own : (n p : ℕ) (f g : Formula) (k : ℕ) → (k ≡ 0 → ⊥) → (k ≡ 1 → ⊥) → (k ≡ 4 → ⊥) → (k ≡ 5 → ⊥) → map packSet (cover (build k n p f g)) ≡ packSet (2 ^ n) ∷ []
+unfolding cover
+cover-own n p f g zero a b c d = absurd (a refl)
+cover-own n p f g (suc zero) a b c d = absurd (b refl)
+cover-own n p f g (suc (suc zero)) a b c d = refl
+cover-own n p f g (suc (suc (suc zero))) a b c d = refl
+cover-own n p f g (suc (suc (suc (suc zero)))) a b c d = absurd (c refl)
+cover-own n p f g (suc (suc (suc (suc (suc zero))))) a b c d = absurd (d refl)
+cover-own n p f g (suc (suc (suc (suc (suc (suc zero)))))) a b c d = refl
+cover-own n p f g (suc (suc (suc (suc (suc (suc (suc zero))))))) a b c d = refl
+cover-own n p f g (suc (suc (suc (suc (suc (suc (suc (suc k)))))))) a b c d = refl
+
+-- what is left for the last kind
+pub the-last : {k : ℕ} → 3 < k → k ≤ 8 → (k ≡ 4 → ⊥) → (k ≡ 5 → ⊥) → (k ≡ 6 → ⊥) → (k ≡ 7 → ⊥) → k ≡ 8
+the-last a b c d e f = omega arith

@@ -1,0 +1,15 @@
+use borrow.Author.Needs.{needs}
+use native.Mathlib.Omega.{arith}
+use native.Mathlib.Nat.{one-mul, mod-eq-of-lt}
+use lib.Pow.{pow-lt}
+use Rattle.term.proofs.bit.Statement.{statement}
+use Rattle.term.proofs.bit.Tie as tie
+
+shl-result : tie.Need-shl-result
+shl-result c = search needs
+
+returns : tie.Need-returns
+returns c = rw one-mul (mod-eq-of-lt (pow-lt {j = 64} (omega arith)))
+
+pub bit-spec : {M : Type 1} → statement M
+bit-spec = tie.close (tie.spec shl-result returns)

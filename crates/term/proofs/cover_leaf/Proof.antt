@@ -1,0 +1,33 @@
+use borrow.Author.Needs.{needs}
+use native.Mathlib.Omega.{arith}
+use Rattle.term.proofs.ByKind.{cover-false, cover-true, cover-own, cover-and, cover-or, of-false, of-true, of-proposition, of-negation, of-and, of-or, of-until, of-release, the-last}
+use Rattle.term.proofs.cover_leaf.Statement.{statement}
+use Rattle.term.proofs.cover_leaf.Tie as tie
+
+none-requires : tie.Need-none-requires
+none-requires c κs = search needs
+
+returns : tie.Need-returns
+returns c = λ m f g. rw (cover-false _ m f g _ (c .before .if1 .taken)) (c .none .ensures)
+
+one-requires : tie.Need-one-requires
+one-requires c κs = search needs
+
+returns-2 : tie.Need-returns-2
+returns-2 c = λ m f g. rw (cover-true _ m f g _ (c .before .if2 .taken)) (c .one .ensures)
+
+owe-requires : tie.Need-owe-requires
+owe-requires c κs = search needs
+
+one-requires-2 : tie.Need-one-requires-2
+one-requires-2 c κs = search needs
+
+returns-3 : tie.Need-returns-3
+returns-3 c = λ m f g.
+    let s = c .before .before .before .before in
+    rw (cover-own _ m f g _ (c .before .before .before .if1 .left) (c .before .before .if2 .left) (s .pre .1) (s .pre .2), ← c .before .owe .ensures) (c .one2 .ensures)
+
+pub cover-leaf-spec : {M : Type 1} → statement M
+cover-leaf-spec =
+    tie.close
+    (tie.spec none-requires returns one-requires returns-2 owe-requires one-requires-2 returns-3)

@@ -1,0 +1,41 @@
+use borrow.Author.Needs.{needs}
+use native.Mathlib.Omega.{arith}
+use Rattle.sets.proofs.Stores.{empty, single}
+use Rattle.term.proofs.Carries.{carries-of, carried, more-fits, more-is}
+use Rattle.term.proofs.release.Statement.{statement}
+use Rattle.term.proofs.release.Tie as tie
+
+slice-aggregate-union : tie.Need-slice-aggregate-union
+slice-aggregate-union c = search needs
+
+union-requires : tie.Need-union-requires
+union-requires c κs = search needs
+
+slice-aggregate-product : tie.Need-slice-aggregate-product
+slice-aggregate-product c = search needs
+
+slice-aggregate-product-2 : tie.Need-slice-aggregate-product-2
+slice-aggregate-product-2 c = search needs
+
+product-requires : tie.Need-product-requires
+product-requires c κs =
+    let u = c .before .before .before .before .before .before in
+    let a = u .before .before .before .before .before .args .t1 in
+    (search needs, more-fits _ (a .items) _ (a .count) _ (u .union .ensures .updates _ (single _ _)) (omega arith) (search needs))
+
+returns : tie.Need-returns
+returns c us vs ia ib =
+    let u = c .before .before .before .before .before .before .before .before in
+    let a = u .before .before .before .before .before .args .t1 in
+    rw (← carried ia (omega arith), ← carried ib (omega arith)) (carries-of (search needs) (rw (← more-is _ (a .items) _ (a .count) _ (u .union .ensures .updates _ (single _ _)) (omega arith) (search needs)) (c .before .product .ensures .updates _ (empty _))))
+
+pub release-spec : {M : Type 1} → statement M
+release-spec =
+    tie.close
+    (tie.spec
+    slice-aggregate-union
+    union-requires
+    slice-aggregate-product
+    slice-aggregate-product-2
+    product-requires
+    returns)

@@ -1,0 +1,55 @@
+use borrow.Author.Needs.{needs}
+use native.Mathlib.Omega.{arith}
+use Rattle.term.proofs.ByKind.{cover-false, cover-true, cover-own, cover-and, cover-or, of-false, of-true, of-proposition, of-negation, of-and, of-or, of-until, of-release, the-last}
+use lib.Pow.{pow-lt}
+use Rattle.term.proofs.terms_leaf.Statement.{statement}
+use Rattle.term.proofs.terms_leaf.Tie as tie
+
+none-requires : tie.Need-none-requires
+none-requires c κs = search needs
+
+returns : tie.Need-returns
+returns c = λ n f g. rw (of-false n _ f g _ (c .before .if1 .taken)) (c .none .ensures)
+
+one-requires : tie.Need-one-requires
+one-requires c κs = search needs
+
+returns-2 : tie.Need-returns-2
+returns-2 c = λ n f g. rw (of-true n _ f g _ (c .before .if2 .taken)) (c .one .ensures)
+
+bit-requires : tie.Need-bit-requires
+bit-requires c κs = omega (arith, c .before .before .before .pre .1 (omega arith))
+
+mul-one : tie.Need-mul-one
+mul-one c = record { fits = omega (arith, c .bit .ensures, pow-lt {j = 8} (c .before .before .before .before .pre .1 (omega arith))) }
+
+one-requires-2 : tie.Need-one-requires-2
+one-requires-2 c κs = search needs
+
+returns-3 : tie.Need-returns-3
+returns-3 c = λ n f g. rw (of-proposition n _ f g _ (c .before .before .if3 .taken), ← c .before .bit .ensures) (c .one2 .ensures)
+
+bit-requires-2 : tie.Need-bit-requires-2
+bit-requires-2 c κs = omega (arith, c .before .before .before .pre .1 (omega arith))
+
+one-requires-3 : tie.Need-one-requires-3
+one-requires-3 c κs = search needs
+
+returns-4 : tie.Need-returns-4
+returns-4 c = λ n f g. rw (of-negation n _ f g (c .before .before .before .before .before .args .kind) (omega arith), ← c .before .bit2 .ensures) (c .one3 .ensures)
+
+pub terms-leaf-spec : {M : Type 1} → statement M
+terms-leaf-spec =
+    tie.close
+    (tie.spec
+    none-requires
+    returns
+    one-requires
+    returns-2
+    bit-requires
+    mul-one
+    one-requires-2
+    returns-3
+    bit-requires-2
+    one-requires-3
+    returns-4)

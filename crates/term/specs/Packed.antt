@@ -1,0 +1,30 @@
+-- How terms lie in memory: each as one number, a node's terms as a count with 64 places.
+use Prim.Native.Nat.{ℕ, suc, _+_, _*_, _≤_, min}
+use mathlib.Core.Path.{_≡_}
+use mathlib.Core.List.{List, map}
+use lib.ListN.{take, length}
+use Rattle.term.specs.declared.Terms.{Terms}
+use Rattle.term.specs.Term.{Term, term}
+
+-- obligations, must and mustNot from the top: the order of terms is the order of their numbers
+abbrev pub pack : Term → ℕ
+pack t = t .obligations * 65536 + t .must * 256 + t .mustNot
+
+-- a cover set is packed as the term that asks it of the next letter
+abbrev pub packSet : ℕ → ℕ
+packSet c = c * 65536
+
+-- the first n of places are the numbers ws, or n is one more than capacity and ws has more than that
+pub record Carries (capacity : ℕ) (places : List ℕ) (n : ℕ) (ws : List ℕ) : Type 0 where
+  pub count : n ≡ min (suc capacity) (length ws)
+  pub items : length ws ≤ capacity → take n places ≡ ws
+
+-- "A node's terms travel as one value, a count with 64 places."
+abbrev pub IsPacked : Terms → List ℕ → Type 0
+IsPacked ts ws = Carries 64 (ts .items) (ts .count) ws
+
+abbrev pub IsTerms : Terms → List Term → Type 0
+IsTerms r ts = IsPacked r (map pack ts)
+
+abbrev pub IsCover : Terms → List ℕ → Type 0
+IsCover r cs = IsPacked r (map packSet cs)

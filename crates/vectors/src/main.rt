@@ -1,0 +1,61 @@
+// Checks many rules in one run. Standard input has them one after another, each behind its length in two bytes, low
+// byte first; each gets one line, `accepted` or `refused N place P`.
+use formula::Checked;
+use libc::STDIN_FILENO;
+use libc::STDOUT_FILENO;
+
+// The longest input taken for a rule: enough for any that is not refused by its length, and for many that are.
+const LONGEST: usize = 1024;
+
+fn print_answer(answer: Checked) {
+    match answer {
+        Checked::Accepted => {
+            io::write_all(STDOUT_FILENO, b"accepted\n");
+        }
+        Checked::Refused(number, place) => {
+            io::write_all(STDOUT_FILENO, b"refused ");
+            io::print_decimal(STDOUT_FILENO, number as u64);
+            io::write_all(STDOUT_FILENO, b" place ");
+            io::print_decimal(STDOUT_FILENO, place as u64);
+            io::write_all(STDOUT_FILENO, b"\n");
+        }
+    }
+}
+
+// A length in two bytes, low byte first.
+fn length_of(low: u8, high: u8) -> usize {
+    let high = high as usize;
+    (low as usize) + high * 256
+}
+
+// Reads a rule of n bytes into the buffer and answers it; whether there was one.
+fn answer_rule(buffer: &mut [u8], n: usize) -> bool {
+    if buffer.len() < n {
+        return false;
+    }
+    let got = io::read_full(STDIN_FILENO, &mut buffer[..n]);
+    if got < n {
+        return false;
+    }
+    print_answer(term::check(&buffer[..n]));
+    true
+}
+
+// Answers the next rule; whether there was one.
+fn answer_next() -> bool {
+    let mut prefix = [0u8; 2];
+    let got = io::read_full(STDIN_FILENO, &mut prefix);
+    if got < 2 {
+        return false;
+    }
+    let mut buffer = [0u8; LONGEST];
+    answer_rule(&mut buffer, length_of(prefix[0], prefix[1]))
+}
+
+// A loop has to end, and nothing says that the input does: it counts its turns down.
+fn main() {
+    let mut turns = u64::MAX;
+    while turns > 0 && answer_next() {
+        turns -= 1;
+    }
+}

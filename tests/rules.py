@@ -1,0 +1,156 @@
+"""Rules for the comparisons: document 01's rows and limits, random well-formed rules, damaged ones."""
+import os
+import random
+import sys
+
+sys.path.insert(0, os.path.join(os.path.dirname(os.path.abspath(__file__)), "second"))
+import second  # noqa: E402  (the second translator, by another author)
+
+FALSE, TRUE, PROPOSITION, NEGATION, AND, OR, NEXT, UNTIL, RELEASE = range(9)
+
+
+class Builder:
+    """A rule built node by node; leaves may be shared."""
+
+    def __init__(self):
+        self.nodes = []
+
+    def add(self, kind, left=0, right=0):
+        self.nodes.append((kind, left, right))
+        return len(self.nodes) - 1
+
+    def joined(self, kind, parts):
+        node = parts[0]
+        for part in parts[1:]:
+            node = self.add(kind, node, part)
+        return node
+
+    def bytes(self):
+        return bytes(x for node in self.nodes for x in node)
+
+
+def choices(count):
+    """The "and" of (proposition i or next proposition 0) for i below count: 2 ** count terms."""
+    b = Builder()
+    leaves = [b.add(PROPOSITION, i) for i in range(count)]
+    b.joined(AND, [b.add(OR, leaf, b.add(NEXT, leaves[0])) for leaf in leaves])
+    return b.bytes()
+
+
+def next_eventually(count, more=None):
+    """Next-eventually propositions 0 to count - 1, leaves shared, and what more adds, all joined by and."""
+    b = Builder()
+    true = b.add(TRUE)
+    leaves = [b.add(PROPOSITION, i) for i in range(count)]
+    parts = [b.add(NEXT, b.add(UNTIL, true, leaf)) for leaf in leaves]
+    if more:
+        parts.append(more(b, leaves))
+    b.joined(AND, parts)
+    return b.bytes()
+
+
+def always_either(b, leaves):
+    """always (proposition 6 or its negation)"""
+    false = b.add(FALSE)
+    return b.add(RELEASE, false, b.add(OR, b.add(PROPOSITION, 6), b.add(NEGATION, 6)))
+
+
+def eventually_and_next_next():
+    """Eventually propositions 0 to 4 and next next proposition 5."""
+    b = Builder()
+    true = b.add(TRUE)
+    parts = [b.add(UNTIL, true, b.add(PROPOSITION, i)) for i in range(5)]
+    parts.append(b.add(NEXT, b.add(NEXT, b.add(PROPOSITION, 5))))
+    b.joined(AND, parts)
+    return b.bytes()
+
+
+def nested_eventually(count):
+    b = Builder()
+    true, node = b.add(TRUE), b.add(PROPOSITION, 0)
+    for _ in range(count):
+        node = b.add(UNTIL, true, node)
+    return b.bytes()
+
+
+# name, rule, what document 01 says of it: the refusal's number, or 0
+LIMITS = [
+    ("64 terms", choices(6), 0),
+    ("128 terms", choices(7), 20),
+    ("next-eventually 0 to 6", next_eventually(7), 23),
+    ("and next (0 release 1)", next_eventually(7, lambda b, p: b.add(NEXT, b.add(RELEASE, p[0], p[1]))), 21),
+    ("next-eventually 0 to 5 and always (6 or not 6)", next_eventually(6, always_either), 22),
+    ("eventually 0 to 4 and next next 5", eventually_and_next_next(), 24),
+    ("nine nested eventually", nested_eventually(9), 7),
+    ("eight nested eventually", nested_eventually(8), 0),
+]
+
+# a list of 65 that belongs to no node: both are accepted
+SIXTY_FIVE = [bytes.fromhex(text) for text in (
+    "00000002000002010002020002030002040002050006010005010706010005020904080a06010005030c040b0d06010005040f040e10"
+    "060100050512041113060100050615041416081700",
+    "02000002010002020002030002040002050006000005000606000005010804070906000005020b040a0c06000005030e040d0f0600000504"
+    "11041012060000050514041315020100081617")]
+
+
+def fixed():
+    rows = [bytes.fromhex(rule.replace(" ", "")) for _, rule, _ in second.ROWS]
+    return rows + [rule for _, rule, _ in LIMITS] + SIXTY_FIVE + [b"", bytes(1), bytes(96), bytes(97), bytes(99), bytes([255] * 97)]
+
+
+def damaged(rng, rule):
+    """The rule with a byte changed, cut, grown, or two nodes exchanged."""
+    out = bytearray(rule)
+    way = rng.randrange(6)
+    if way == 0:
+        out[rng.randrange(len(out))] = rng.choice((0, 1, 7, 8, 9, len(out) // 3, rng.randrange(256)))
+    elif way == 1:
+        at = 3 * rng.randrange(len(out) // 3)
+        out[at] = rng.randrange(10)
+    elif way == 2:
+        at = 3 * rng.randrange(len(out) // 3) + rng.randrange(1, 3)
+        out[at] = rng.randrange(len(out) // 3 + 1)
+    elif way == 3:
+        del out[rng.randrange(len(out)):]
+    elif way == 4:
+        out += bytes(rng.randrange(4) for _ in range(rng.randrange(1, 7)))
+    else:
+        i, j = (3 * rng.randrange(len(out) // 3) for _ in range(2))
+        out[i:i + 3], out[j:j + 3] = out[j:j + 3], out[i:i + 3]
+    return bytes(out)
+
+
+def crowded(rng):
+    """An "and" of five to seven ors, about 64 terms, below a few random operators: about as often over 64 as not."""
+    b = Builder()
+    leaves = [b.add(rng.choice((PROPOSITION, NEGATION)), p) for p in range(rng.randrange(6, 8))]
+    parts = []
+    for leaf in leaves[:rng.randrange(5, 8)]:
+        other = b.add(NEXT, rng.choice(leaves)) if rng.random() < .8 else rng.choice(leaves)
+        parts.append(b.add(OR, leaf, other))
+    used = {c for kind, *children in b.nodes if kind > NEGATION for c in children}
+    node = b.joined(AND, parts + [leaf for leaf in leaves if leaf not in used])
+    for _ in range(rng.randrange(3)):
+        kind = rng.choice((AND, OR, NEXT, UNTIL, RELEASE))
+        node = b.add(NEXT, node) if kind == NEXT else b.add(kind, *rng.sample((node, rng.choice(leaves)), 2))
+    return b.bytes()
+
+
+# all operators; until-heavy ones, for 7
+FLAVOURS = ((AND, OR, NEXT, UNTIL, RELEASE), (NEXT, UNTIL, UNTIL))
+
+
+def well_formed(rng):
+    if rng.random() < .15:
+        return crowded(rng)
+    return second.random_rule(rng, rng.randrange(1, 18), marks=rng.choice((2, 4, 8)), kinds=rng.choice(FLAVOURS))
+
+
+def random_rules(seed, count):
+    """Well-formed rules of every size and flavour, and as many damaged ones."""
+    rng = random.Random(seed)
+    out = []
+    while len(out) < count:
+        rule = well_formed(rng)
+        out.append(rule if rng.random() < .5 else damaged(rng, rule))
+    return out
