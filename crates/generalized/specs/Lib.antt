@@ -1,4 +1,0 @@
--- The first walk: the generalized automaton of a rule, and how it lies in memory.
-pub mod Explore
-pub mod Generalized
-pub mod Memory
