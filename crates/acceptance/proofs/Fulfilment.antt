@@ -1,0 +1,66 @@
+-- The tests on packed terms say of numbers what the definitions say of terms, and every transition can be packed.
+use mathlib.Core.Path.{_≡_, refl}
+use mathlib.Core.Bool.{Bool, true, false, _&&_, and-assoc}
+use mathlib.Core.List.{List, [], _∷_, _++_, map}
+use Prim.Native.Nat.{ℕ, zero, suc, _<_}
+use native.Mathlib.Omega.{arith}
+use lib.Dec.{eqb}
+use lib.ListN.{getD}
+use borrow.Author.Tests.{eq-eqb, ne-eqb, eqb-true, eqb-false}
+use Rattle.formula.specs.Rule.{nodeCount}
+use Rattle.formula.specs.Formula.{tree, InRange}
+use Rattle.term.specs.Term.{Term, term, joined, terms}
+use Rattle.term.specs.Packed.{pack}
+use Rattle.term.proofs.Packing.{Numbers, none, more, canonical, Bytes, of-terms, terms-numbers}
+use Rattle.generalized.specs.Generalized.{any, shows, fulfils, transitions}
+use Rattle.generalized.specs.Memory.{obligationsN, allTransitions}
+use Rattle.generalized.proofs.Products.{Packed, partial-packed}
+use Rattle.acceptance.specs.Marks.{showsN, anyN, fulfilsN}
+
+-- ---- the tests
+-- one number is another where the three parts are
+equal-parts : (x y : Term) → Bytes x → Bytes y
+    → eqb (pack x) (pack y) ≡ (eqb (x .must) (y .must) && (eqb (x .mustNot) (y .mustNot) && eqb (x .obligations) (y .obligations)))
+equal-parts x y g h = go (eqb (x .must) (y .must)) (eqb (x .mustNot) (y .mustNot)) (eqb (x .obligations) (y .obligations)) refl refl refl
+  where
+    go : (a b c : Bool) → eqb (x .must) (y .must) ≡ a → eqb (x .mustNot) (y .mustNot) ≡ b → eqb (x .obligations) (y .obligations) ≡ c → eqb (pack x) (pack y) ≡ (a && (b && c))
+    go true true true p q r = eq-eqb (pack x) (pack y) (omega (arith, eqb-true))
+    go true true false p q r = ne-eqb (pack x) (pack y) (λ e. eqb-false (x .obligations) (y .obligations) r (omega arith))
+    go true false c p q r = ne-eqb (pack x) (pack y) (λ e. eqb-false (x .mustNot) (y .mustNot) q (omega arith))
+    go false b c p q r = ne-eqb (pack x) (pack y) (λ e. eqb-false (x .must) (y .must) p (omega arith))
+
+pack-obligations : (t : Term) → Bytes t → obligationsN (pack t) ≡ t .obligations
+pack-obligations t g = omega arith
+
+shows-packed : (f : ℕ) (t u : Term) → Bytes t → Bytes u → showsN f (pack t) (pack u) ≡ shows f t u
+unfolding shows
+shows-packed f t u g h =
+    rw (of-terms .joins u t h g, equal-parts (joined u t) t (of-terms .good u t h g) g, pack-obligations u h) (simp and-assoc)
+
+any-packed : (f : ℕ) (t : Term) → Bytes t → {us : List Term} {ns : List ℕ} → Numbers of-terms us ns → anyN (showsN f (pack t)) ns ≡ any (shows f t) us
+unfolding anyN any
+any-packed f t g none = refl
+any-packed f t g (more u h r) = rw (shows-packed f t u g h, any-packed f t g r)
+
+pub fulfils-packed : (rule : List ℕ) (f : ℕ) (t : Term) → InRange (tree rule f) → Bytes t → fulfilsN f (map pack (terms (tree rule f))) (pack t) ≡ fulfils rule f t
+unfolding fulfils
+fulfils-packed rule f t range g = rw (pack-obligations t g, any-packed f t g (terms-numbers (tree rule f) range))
+
+-- ---- the transitions
+append-numbers : {ts us : List Term} {ms ns : List ℕ} → Numbers of-terms ts ms → Numbers of-terms us ns → Numbers of-terms (ts ++ us) (ms ++ ns)
+append-numbers none s = s
+append-numbers (more t g r) s = more t g (append-numbers r s)
+
+all-packed : (rule xs : List ℕ) → ((k : ℕ) → k < nodeCount rule → InRange (tree rule k)) → Packed (allTransitions rule xs)
+unfolding allTransitions transitions
+all-packed rule [] ranges = none
+all-packed rule (x ∷ xs) ranges =
+    canonical of-terms (append-numbers (partial-packed rule x (nodeCount rule) ranges) (all-packed rule xs ranges))
+
+bytes-at : {ts : List Term} {ns : List ℕ} → Numbers of-terms ts ns → (i : ℕ) → Bytes (getD ts i (term 0 0 0))
+bytes-at none i = record { must = omega arith; mustNot = omega arith }
+bytes-at (more t g r) zero = g
+bytes-at (more t g r) (suc i) = bytes-at r i
+
+pub transition-bytes : (rule xs : List ℕ) → ((k : ℕ) → k < nodeCount rule → InRange (tree rule k)) → (i : ℕ) → Bytes (getD (allTransitions rule xs) i (term 0 0 0))
+transition-bytes rule xs ranges = bytes-at (all-packed rule xs ranges)

@@ -1,0 +1,103 @@
+-- `acceptance::fulfils` meets its contract: none of the terms passed shows it (`Seeking`).
+-- Assumes nothing.
+use borrow.Author.Needs.{needs}
+use native.Mathlib.Omega.{arith}
+use native.Mathlib.Numerals.{add-one}
+use mathlib.Core.Path.{_≡_, refl, sym, _∙_}
+use mathlib.Core.Bool.{Bool, true, false, _||_}
+use mathlib.Core.List.{List}
+use Prim.Native.Nat.{ℕ, suc, _+_, _-_, _≤_, _<_}
+use lib.ListN.{length, getD, take, drop, drop-of-length-le}
+use lib.Seq.{length-take-le, drop-cons, getD-take}
+use Rattle.acceptance.specs.Marks.{showsN, anyN}
+use Rattle.acceptance.proofs.fulfils.Statement.{statement}
+use Rattle.acceptance.proofs.fulfils.Tie as tie
+
+-- a search among the first count of items that stands at i: the test's answer is that of the rest
+record Seeking (test : ℕ → Bool) (items : List ℕ) (count i : ℕ) : Type 0 where
+  within : i ≤ count
+  rest : anyN test (take count items) ≡ anyN test (drop i (take count items))
+
+module _ (test : ℕ → Bool) (items : List ℕ) (count i : ℕ) (size : length items ≡ 64) (few : count ≤ 64) (inv : Seeking test items count i) where
+  part : length (take count items) ≡ count
+  part = length-take-le count items (omega arith)
+
+  next : i < count → anyN test (take count items) ≡ (test (getD items i 0) || anyN test (drop (suc i) (take count items)))
+  unfolding anyN
+  next lt =
+      inv .rest ∙ rw (drop-cons (take count items) i 0 (rw part lt), getD-take count items i 0 lt)
+
+  seek-finds : {b : Bool} → i < count → b ≡ test (getD items i 0) → b ≡ true → true ≡ anyN test (take count items)
+  seek-finds lt e f = rw (next lt, ← e, f)
+
+  seek-steps : {b : Bool} → i < count → b ≡ test (getD items i 0) → b ≡ false → Seeking test items count (i + 1)
+  seek-steps lt e f = record { within = omega arith; rest = rw (next lt, ← e, f, add-one i) }
+
+  seek-ends : count ≤ i → false ≡ anyN test (take count items)
+  unfolding anyN
+  seek-ends ge = sym (inv .rest ∙ rw (drop-of-length-le (take count items) {i = i} (rw part ge)))
+
+abbrev Inv-loop : tie.InvT-loop
+Inv-loop f t terms count i₀ i = Seeking (showsN f t) (terms .items) count i
+
+abbrev μ-loop : tie.MeasureT-loop
+μ-loop f t terms count i₀ i = count - i
+
+owes-requires : tie.Need-owes-requires Inv-loop μ-loop
+owes-requires c κs = search needs
+
+returns : tie.Need-returns Inv-loop μ-loop
+returns c = rw (← (c .before .owes .ensures), c .if1 .taken)
+
+loop-holds : tie.Need-loop-holds Inv-loop μ-loop
+loop-holds c = record { within = omega arith; rest = refl }
+
+mul-shows : tie.Need-mul-shows Inv-loop μ-loop
+mul-shows c = search needs
+
+element-copy-out-shows : tie.Need-element-copy-out-shows Inv-loop μ-loop
+element-copy-out-shows c = search needs
+
+shows-requires : tie.Need-shows-requires Inv-loop μ-loop
+shows-requires c κs = search needs
+
+returns-2 : tie.Need-returns-2 Inv-loop μ-loop
+returns-2 c =
+    let at = c .before .before .before .before in
+    rw (← (at .before .before .owes .ensures), at .before .if1 .left)
+    (seek-finds _ _ _ (at .loop .i) (search needs) (at .before .before .before .pre .1) (at .loop .inv) (omega arith) (c .before .shows .ensures) (c .if2 .taken))
+
+add-i : tie.Need-add-i Inv-loop μ-loop
+add-i c = search needs
+
+loop-less : tie.Need-loop-less Inv-loop μ-loop
+loop-less c = search needs
+
+loop-again : tie.Need-loop-again Inv-loop μ-loop
+loop-again c =
+    let at = c .before .before .before .before in
+    seek-steps _ _ _ (at .loop .i) (search needs) (at .before .before .before .pre .1) (at .loop .inv) (omega arith) (c .before .shows .ensures) (c .if2 .left)
+
+returns-3 : tie.Need-returns-3 Inv-loop μ-loop
+returns-3 c =
+    let at = c .before in
+    rw (← (at .before .before .owes .ensures), at .before .if1 .left)
+    (seek-ends _ _ _ (at .loop .i) (search needs) (at .before .before .before .pre .1) (at .loop .inv) (c .loop-test .left))
+
+pub fulfils-spec : {M : Type 1} → statement M
+fulfils-spec =
+    tie.close
+    (tie.spec
+    Inv-loop
+    μ-loop
+    owes-requires
+    returns
+    loop-holds
+    mul-shows
+    element-copy-out-shows
+    shows-requires
+    returns-2
+    add-i
+    loop-less
+    loop-again
+    returns-3)

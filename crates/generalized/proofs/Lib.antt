@@ -1,0 +1,9 @@
+-- What the proofs of several functions, and of the crates above, cite.
+pub mod Lists
+pub mod Exploring
+pub mod Passed
+pub mod Table
+pub mod Products
+pub mod Meeting
+pub mod Covering
+pub mod Walking

@@ -1,0 +1,38 @@
+-- A rule that 1 to 7 and 20 let pass: how many nodes it has, and what each of them is.
+use mathlib.Core.Path.{_≡_}
+use mathlib.Core.List.{List}
+use Prim.Native.Nat.{ℕ, _≤_, _<_}
+use native.Mathlib.Omega.{arith}
+use Rattle.formula.specs.Result.{fine, lowest}
+use Rattle.formula.specs.Rule.{nodeCount}
+use Rattle.formula.specs.Rule
+use Rattle.formula.specs.Formula.{tree, InRange}
+use Rattle.formula.proofs.Lowest.{fine-first, fine-second, lowest-each, lowest-below}
+use Rattle.formula.proofs.Accepted.{accepted-fine}
+use Rattle.term.specs.Size.{sizeCheck, checked, Ready}
+use Rattle.term.proofs.Sizes.{Few, few-fine, ready-in-range}
+
+module _ (rule : List ℕ) (passed : checked rule ≡ fine) where
+  bytes : Rule.checked rule ≡ fine
+  unfolding checked
+  bytes = fine-first (Rule.checked rule) _ passed
+
+  sizes : lowest (sizeCheck rule) (nodeCount rule) ≡ fine
+  unfolding checked
+  sizes = fine-second (Rule.checked rule) _ passed
+
+  pub some-nodes : 0 < nodeCount rule
+  some-nodes = accepted-fine rule bytes .some
+
+  pub most-nodes : nodeCount rule ≤ 32
+  most-nodes = omega (arith, accepted-fine rule bytes .most)
+
+  module _ (k : ℕ) (lt : k < nodeCount rule) where
+    pub ready : Ready rule k
+    ready = record { accepted = bytes; inside = lt; below = lowest-below (sizeCheck rule) (nodeCount rule) sizes k (omega arith) }
+
+    pub few : Few rule k
+    few = few-fine rule k (lowest-each (sizeCheck rule) (nodeCount rule) sizes k lt)
+
+    pub in-range : InRange (tree rule k)
+    in-range = ready-in-range rule k ready k (omega arith)

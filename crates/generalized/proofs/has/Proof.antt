@@ -1,0 +1,15 @@
+-- `generalized::has` meets its contract: the mask 1 takes the remainder by 2.
+-- Assumes nothing.
+use borrow.Author.Needs.{needs}
+use lib.Bits.{and-mask}
+use Rattle.generalized.proofs.has.Statement.{statement}
+use Rattle.generalized.proofs.has.Tie as tie
+
+shr-result : tie.Need-shr-result
+shr-result c = search needs
+
+returns : tie.Need-returns
+returns c = rw (and-mask _ 1)
+
+pub has-spec : {M : Type 1} → statement M
+has-spec = tie.close (tie.spec shr-result returns)

@@ -1,0 +1,86 @@
+-- `generalized::meet` meets its contract: a number below n is that of a seen one, and an unseen one goes to place n.
+-- Assumes nothing.
+use borrow.Author.Needs.{needs}
+use native.Mathlib.Omega.{arith}
+use native.Mathlib.Numerals.{add-one}
+use mathlib.Core.Path.{_≡_, refl, sym, _∙_}
+use mathlib.Core.List.{List}
+use Prim.Native.Nat.{ℕ, _+_, _≤_, _<_}
+use lib.ListN.{length, take, set, length-set}
+use lib.Seq.{take-suc-set, length-take-le}
+use lib.Dec.{eqb}
+use borrow.Author.Tests.{eq-eqb}
+use Rattle.generalized.specs.declared.Met.the-variants.{Number, Full}
+use Rattle.generalized.specs.Explore.{find, meet}
+use Rattle.generalized.specs.Memory.{Meets}
+use Rattle.generalized.proofs.Exploring.{find-next, meet-seen, meet-next, meet-full}
+use Rattle.generalized.proofs.meet.Statement.{statement}
+use Rattle.generalized.proofs.meet.Tie as tie
+
+module _ (items : List ℕ) (n x k full place : ℕ) (le : n ≤ length items) (is : k ≡ find eqb x (take n items)) where
+  count : length (take n items) ≡ n
+  count = length-take-le n items le
+
+  seen : k < n → Meets full place x (meet eqb (length items) full place x (take n items)) (Number k n) items
+  seen lt = (meet-seen eqb (length items) full place x (take n items) (omega (arith, count)), is, le)
+
+  crowded : n ≤ k → length items ≤ n → Meets full place x (meet eqb (length items) full place x (take n items)) Full items
+  crowded ge l = meet-full eqb (length items) full place x (take n items) (omega (arith, count)) (omega (arith, count))
+
+  next : n ≤ k → n < length items → Meets full place x (meet eqb (length items) full place x (take n items)) (Number n (n + 1)) (set items n x)
+  next ge lt = (
+    meet-next eqb (length items) full place x (take n items) (omega (arith, count)) (omega (arith, count)) ∙ rw (add-one, take-suc-set items n x lt),
+    rw (add-one, take-suc-set items n x lt) (sym (find-next eqb x (take n items) (eq-eqb x x refl) (omega (arith, count)) ∙ count)),
+    rw length-set (omega arith),
+  )
+
+find-requires : tie.Need-find-requires
+find-requires c κs = search needs
+
+same-length : tie.Need-same-length
+same-length c = search needs
+
+returns : tie.Need-returns
+returns c full place =
+    let s = c .before .before .before .before in
+    seen (s .args .items .now) (s .args .n) (s .args .x) (c .before .find .result) full place (s .pre) (c .before .find .ensures) (c .if1 .taken)
+
+same-length-2 : tie.Need-same-length-2
+same-length-2 c = search needs
+
+returns-2 : tie.Need-returns-2
+returns-2 c full place =
+    let s = c .before .before .before .before .before in
+    crowded (s .args .items .now) (s .args .n) (s .args .x) (c .before .before .find .result) full place (s .pre) (c .before .before .find .ensures) (c .before .if1 .left) (c .if2 .taken)
+
+mul-items : tie.Need-mul-items
+mul-items c = search needs
+
+slice-write-items : tie.Need-slice-write-items
+slice-write-items c = search needs
+
+add-t8 : tie.Need-add-t8
+add-t8 c = search needs
+
+same-length-3 : tie.Need-same-length-3
+same-length-3 c = search needs
+
+returns-3 : tie.Need-returns-3
+returns-3 c full place =
+    let s = c .before .before .before .before .before in
+    next (s .args .items .now) (s .args .n) (s .args .x) (c .before .before .find .result) full place (s .pre) (c .before .before .find .ensures) (c .before .if1 .left) (c .if2 .left)
+
+pub meet-spec : {M : Type 1} → statement M
+meet-spec =
+    tie.close
+    (tie.spec
+    find-requires
+    same-length
+    returns
+    same-length-2
+    returns-2
+    mul-items
+    slice-write-items
+    add-t8
+    same-length-3
+    returns-3)
