@@ -7,7 +7,7 @@ use native.Mathlib.Omega.{arith}
 use lib.ListN.{length, getD, take, length-append}
 use lib.Seq.{getD-take, take-append-le, take-take, take-all, getD-append-seam}
 use Rattle.formula.specs.Rule.{nodeCount, kindAt, leftAt, rightAt}
-use Rattle.formula.specs.Formula.{Formula, bottom, top, proposition, negation, conjunction, disjunction, next, until, release, build, trees, tree, InRange}
+use Rattle.formula.specs.Formula.{Formula, bottom, proposition, build, trees, tree, InRange}
 use Rattle.formula.proofs.Accepted.{Node}
 
 -- the trees below stay

@@ -1,6 +1,6 @@
 -- When a formula holds, and when a lasso satisfies a rule. A lasso is document 01's plan: a stem, and a cycle (its
 -- loop) taken round and round. A letter is its slot: one byte, in which bit p is proposition (mark) p.
-use Prim.Native.Nat.{ℕ, zero, suc, _-_, _/_, _%_, _^_, _≤_, _<_}
+use Prim.Native.Nat.{ℕ, suc, _-_, _/_, _%_, _^_, _≤_, _<_}
 use mathlib.Core.Path.{_≡_}
 use mathlib.Core.List.{List}
 use mathlib.Core.Bool.{cond}

@@ -1,6 +1,6 @@
 -- The bytes of a rule, and refusals 1 to 7. Here "rule" is the byte string, and a formula is what it encodes.
 use Prim.Native.Nat.{ℕ, zero, suc, _+_, _-_, _*_, _/_, _%_}
-use mathlib.Core.Bool.{Bool, true, false, cond, not, _&&_, _||_}
+use mathlib.Core.Bool.{Bool, true, cond, not, _&&_}
 use mathlib.Core.List.{List, [], _∷_, _++_}
 use lib.ListN.{getD, length}
 use lib.Dec.{eqb, leb, ltb}
@@ -8,7 +8,7 @@ use Rattle.formula.specs.declared.Operand.{Operand}
 use Rattle.formula.specs.declared.Operand.the-variants.{Unused, Proposition, Child}
 use Rattle.formula.specs.declared.Checked.{Checked}
 use Rattle.formula.specs.declared.Checked.the-variants.{Accepted, Refused}
-use Rattle.formula.specs.Result.{Result, accepted, refused, andThen, Check, fine, require, lowest}
+use Rattle.formula.specs.Result.{refused, andThen, Check, fine, require, lowest}
 
 -- "A rule is 1 to 32 nodes of three bytes: kind, left, right. Nodes are numbered from 0."
 abbrev pub nodeCount : List ℕ → ℕ

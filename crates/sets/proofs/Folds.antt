@@ -1,13 +1,13 @@
 -- A loop that counts down over the first n of ts is a right fold of that list: one law for each of its needs.
-use mathlib.Core.Path.{_≡_, refl, sym, ap, _∙_}
+use mathlib.Core.Path.{_≡_, refl, _∙_}
 use mathlib.Core.List.{List, [], _∷_}
-use mathlib.Core.Bool.{Bool, true, false, cond}
+use mathlib.Core.Bool.{Bool, true, false}
 use lib.Bits.{bitOr}
-use Prim.Native.Nat.{ℕ, zero, suc, _+_, _-_, _≤_, _<_}
+use Prim.Native.Nat.{ℕ, suc, _-_, _≤_, _<_}
 use native.Mathlib.Omega.{arith}
 use lib.ListN.{length, getD, take, drop, drop-of-length-le}
 use lib.Seq.{getD-take, drop-cons, length-take-le}
-use Rattle.sets.specs.Sets.{Stores, Updates, consistentN, insertN, unionN, insertJoinN, insertJoinsN, insertProductN, union, insertJoin, insertJoins, insertProduct}
+use Rattle.sets.specs.Sets.{Updates, consistentN, insertN, unionN, insertJoinN, insertJoinsN, insertProductN, union, insertJoin, insertJoins, insertProduct}
 
 -- F is the fold of f
 pub record Fold (F : List ℕ → List ℕ → List ℕ) (f : ℕ → List ℕ → List ℕ) : Type 0 where

@@ -1,8 +1,7 @@
 -- When the first places of a slice store a set, and what a search and a shift make of them.
 use mathlib.Core.Path.{_≡_, refl, sym, ap, _∙_}
 use mathlib.Core.List.{List, [], _∷_}
-use mathlib.Core.Bool.{Bool, true, false}
-use Prim.Native.Nat.{ℕ, zero, suc, _+_, _-_, _≤_, _<_, min}
+use Prim.Native.Nat.{ℕ, suc, _+_, _≤_, _<_}
 use native.Mathlib.Numerals.{add-one}
 use native.Mathlib.Omega.{arith}
 use lib.ListN.{length, getD, take, set, length-take, length-set}
@@ -11,7 +10,7 @@ use lib.Seq.{getD-take, length-take-le}
 use borrow.Author.Tests.{lt-ltb, le-ltb}
 use Rattle.sets.specs.Sets.{Stores, Updates, insertN, insertAt}
 use Rattle.sets.proofs.Lists.{put-last, take-put, length-put}
-use Rattle.sets.proofs.Inserts.{from, from-zero, from-more, from-less, from-same, from-end, insert-longer}
+use Rattle.sets.proofs.Inserts.{from, from-more, from-less, from-same, from-end, insert-longer}
 
 -- no room for one more
 pub full : (xs : List ℕ) (n i t r : ℕ) → n ≡ length xs → r ≡ suc (length xs) → Stores xs r (insertAt i t (take n xs))

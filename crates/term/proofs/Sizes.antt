@@ -1,13 +1,13 @@
 -- A node that is ready for its terms, and what counts of 64 or fewer say of number 20.
-use mathlib.Core.Path.{_≡_, refl, sym, _∙_}
-use mathlib.Core.List.{List, map}
+use mathlib.Core.Path.{_≡_, refl}
+use mathlib.Core.List.{List}
 use mathlib.Core.Bool.{Bool, true, false, _&&_}
 use Prim.Native.Nat.{ℕ, _≤_, _<_}
 use native.Mathlib.Omega.{arith}
 use lib.ListN.{length, length-map}
 use lib.Dec.{leb}
 use borrow.Author.Tests.{leb-true, le-leb, lt-leb}
-use Rattle.formula.specs.Result.{Check, fine, refused, require, lowest}
+use Rattle.formula.specs.Result.{fine, refused, require, lowest}
 use Rattle.formula.specs.Rule.{nodeCount}
 use Rattle.formula.specs.Rule
 use Rattle.formula.specs.Formula.{tree, InRange}

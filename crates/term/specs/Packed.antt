@@ -4,7 +4,7 @@ use mathlib.Core.Path.{_≡_}
 use mathlib.Core.List.{List, map}
 use lib.ListN.{take, length}
 use Rattle.term.specs.declared.Terms.{Terms}
-use Rattle.term.specs.Term.{Term, term}
+use Rattle.term.specs.Term.{Term}
 
 -- obligations, must and mustNot from the top: the order of terms is the order of their numbers
 abbrev pub pack : Term → ℕ

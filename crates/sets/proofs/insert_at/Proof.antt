@@ -2,10 +2,9 @@
 use borrow.Author.Needs.{needs}
 use native.Mathlib.Omega.{arith}
 use native.Mathlib.Numerals.{add-one}
-use Prim.Native.Nat.{_≤_, _<_, _-_}
+use Prim.Native.Nat.{_-_}
 use mathlib.Core.Path.{_≡_, refl, _∙_}
-use lib.ListN.{length, length-set}
-use Rattle.sets.specs.Sets.{insertAt}
+use lib.ListN.{length-set}
 use Rattle.sets.proofs.Lists.{Shifting, put-step}
 use Rattle.sets.proofs.Stores.{full, shifted}
 use Rattle.sets.proofs.insert_at.Statement.{statement}

@@ -1,5 +1,6 @@
+-- `sets::insert_join` meets its contract: a consistent join is inserted, another one dropped.
+-- Assumes nothing.
 use borrow.Author.Needs.{needs}
-use native.Mathlib.Omega.{arith}
 use Rattle.sets.proofs.Folds.{join-kept, join-dropped}
 use Rattle.sets.proofs.insert_join.Statement.{statement}
 use Rattle.sets.proofs.insert_join.Tie as tie

@@ -1,7 +1,6 @@
 -- `sets::product` meets its contract: the loop counts down, so it is a right fold (`Folds`). Assumes nothing.
 use borrow.Author.Needs.{needs}
 use native.Mathlib.Omega.{arith}
-use mathlib.Core.Path.{refl}
 use lib.ListN.{take}
 use Rattle.sets.specs.Sets.{insertProductN}
 use Rattle.sets.proofs.Folds.{Folding, fold-product, fold-begins, fold-steps, fold-ends}

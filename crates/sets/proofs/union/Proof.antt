@@ -1,8 +1,6 @@
 -- `sets::union` meets its contract: the loop counts down, so it is a right fold (`Folds`). Assumes nothing.
 use borrow.Author.Needs.{needs}
 use native.Mathlib.Omega.{arith}
-use mathlib.Core.Path.{refl}
-use lib.ListN.{take}
 use Rattle.sets.specs.Sets.{unionN}
 use Rattle.sets.proofs.Folds.{Folding, fold-union, fold-begins, fold-steps, fold-ends}
 use Rattle.sets.proofs.union.Statement.{statement}

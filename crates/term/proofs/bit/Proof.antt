@@ -1,3 +1,5 @@
+-- `term::bit` meets its contract: a shift of 1 by less than 64 is a power of two.
+-- Assumes nothing.
 use borrow.Author.Needs.{needs}
 use native.Mathlib.Omega.{arith}
 use native.Mathlib.Nat.{one-mul, mod-eq-of-lt}

@@ -1,7 +1,6 @@
 -- `term::check_size` meets its contract: a count above 64 says that there are more than 64 of them.
 -- Assumes nothing.
 use borrow.Author.Needs.{needs}
-use native.Mathlib.Omega.{arith}
 use Rattle.term.proofs.Sizes.{many-terms, many-sets, few-both}
 use Rattle.term.proofs.check_size.Statement.{statement}
 use Rattle.term.proofs.check_size.Tie as tie

@@ -1,6 +1,8 @@
+-- `term::cover_pair` meets its contract: packing carries unions over.
+-- Assumes nothing.
 use borrow.Author.Needs.{needs}
 use native.Mathlib.Omega.{arith}
-use Rattle.term.proofs.ByKind.{cover-false, cover-true, cover-own, cover-and, cover-or, of-false, of-true, of-proposition, of-negation, of-and, of-or, of-until, of-release, the-last}
+use Rattle.term.proofs.ByKind.{cover-and, cover-or}
 use Rattle.term.proofs.cover_pair.Statement.{statement}
 use Rattle.term.proofs.cover_pair.Tie as tie
 

@@ -1,3 +1,5 @@
+-- `term::owe` meets its contract: a set of one node fits above the two bytes.
+-- Assumes nothing.
 use borrow.Author.Needs.{needs}
 use native.Mathlib.Omega.{arith}
 use lib.Pow.{pow-lt}

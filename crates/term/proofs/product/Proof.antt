@@ -1,3 +1,5 @@
+-- `term::product` meets its contract: an empty set updated by `sets::product`.
+-- Assumes nothing.
 use borrow.Author.Needs.{needs}
 use native.Mathlib.Omega.{arith}
 use Rattle.sets.proofs.Stores.{empty}

@@ -1,3 +1,5 @@
+-- `term::release` meets its contract: own and the terms of the left side fit 65 places, and the product starts empty.
+-- Assumes nothing.
 use borrow.Author.Needs.{needs}
 use native.Mathlib.Omega.{arith}
 use Rattle.sets.proofs.Stores.{empty, single}

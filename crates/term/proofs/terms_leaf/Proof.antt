@@ -1,6 +1,8 @@
+-- `term::terms_leaf` meets its contract, kind by kind.
+-- Assumes nothing.
 use borrow.Author.Needs.{needs}
 use native.Mathlib.Omega.{arith}
-use Rattle.term.proofs.ByKind.{cover-false, cover-true, cover-own, cover-and, cover-or, of-false, of-true, of-proposition, of-negation, of-and, of-or, of-until, of-release, the-last}
+use Rattle.term.proofs.ByKind.{of-false, of-true, of-proposition, of-negation}
 use lib.Pow.{pow-lt}
 use Rattle.term.proofs.terms_leaf.Statement.{statement}
 use Rattle.term.proofs.terms_leaf.Tie as tie

@@ -1,6 +1,7 @@
+-- `term::terms_pair` meets its contract, kind by kind: packing carries products and unions over.
+-- Assumes nothing.
 use borrow.Author.Needs.{needs}
-use native.Mathlib.Omega.{arith}
-use Rattle.term.proofs.ByKind.{cover-false, cover-true, cover-own, cover-and, cover-or, of-false, of-true, of-proposition, of-negation, of-and, of-or, of-until, of-release, the-last}
+use Rattle.term.proofs.ByKind.{of-and, of-or, of-until, of-release, the-last}
 use Rattle.term.proofs.terms_pair.Statement.{statement}
 use Rattle.term.proofs.terms_pair.Tie as tie
 

@@ -1,3 +1,5 @@
+-- `term::union` meets its contract: b updated by `sets::union`.
+-- Assumes nothing.
 use borrow.Author.Needs.{needs}
 use native.Mathlib.Omega.{arith}
 use Rattle.sets.proofs.Stores.{self}

@@ -1,3 +1,5 @@
+-- `term::until` meets its contract: a product that starts empty, then a union.
+-- Assumes nothing.
 use borrow.Author.Needs.{needs}
 use native.Mathlib.Omega.{arith}
 use Rattle.sets.proofs.Stores.{empty}
