@@ -98,18 +98,6 @@ def fixed():
     return rows + [rule for _, rule, _ in LIMITS] + SIXTY_FIVE + [b"", bytes(1), bytes(96), bytes(97), bytes(99), bytes([255] * 97)]
 
 
-def check_line(rule):
-    """Numbers 1 to 7 and 20 by the second translator, as the program `vectors` prints them."""
-    try:
-        nodes = second.parse(rule)
-        for n in range(len(nodes)):
-            if len(second.terms(nodes, n)) > 64 or len(second.cover(nodes, n)) > 64:
-                raise second.Refused(20, n)
-        return "accepted"
-    except second.Refused as r:
-        return str(r)
-
-
 def damaged(rng, rule):
     """The rule with a byte changed, cut, grown, or two nodes exchanged."""
     out = bytearray(rule)

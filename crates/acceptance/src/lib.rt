@@ -79,8 +79,8 @@ fn fulfils(f: usize, terms: Terms, t: u64) -> bool
     false
 }
 
-// A mark's byte.
-fn flag(b: bool) -> u8
+// A byte that says yes or no: a mark's, and an accepting state's.
+pub fn flag(b: bool) -> u8
     ensures { λ r. ⌜ r ≡ cond b 1 0 ⌝ }
 {
     if b { 1 } else { 0 }

@@ -22,10 +22,10 @@ module _ {A : Type 0} where
   extends-on : {xs ys zs : List A} → Extends xs ys → Extends ys zs → Extends xs zs
   extends-on {xs} p q = record { more = p .more ++ q .more; are = q .are ∙ ap (λ (l : List A). l ++ q .more) (p .are) ∙ append-assoc xs (p .more) (q .more) }
 
-  accepted-is : {xs ys : List A} → accepted xs ≡ accepted ys → xs ≡ ys
+  pub accepted-is : {xs ys : List A} → accepted xs ≡ accepted ys → xs ≡ ys
   accepted-is e = cc
 
-  not-accepted : {B : Type 0} {number place : ℕ} {xs : List A} → refused number place ≡ accepted xs → B
+  pub not-accepted : {B : Type 0} {number place : ℕ} {xs : List A} → refused number place ≡ accepted xs → B
   not-accepted e = let z : _≡_ {A = ℕ} 0 1 = cc in absurd (omega arith)
 
   -- what follows a check, when the two together are accepted

@@ -4,7 +4,7 @@ use mathlib.Core.List.{List, [], _∷_, _++_, map, map-append, append-nil, appen
 use Prim.Native.Nat.{ℕ, suc, _+_, _-_, _≤_, _<_}
 use native.Mathlib.Numerals.{add-one}
 use native.Mathlib.Omega.{arith}
-use lib.ListN.{length, getD, take, set, length-append, length-map, length-take}
+use lib.ListN.{length, getD, take, set, length-append, length-map, length-set, length-take}
 use lib.Seq.{getD-take, length-take-le, take-take, take-append-le, take-suc, getD-set-same, getD-set-other}
 use lib.Dec.{eqb}
 use borrow.Author.Count.{below-more}
@@ -66,16 +66,22 @@ pub record Walking (rule states terms ends : List ℕ) (n total place : ℕ) : T
   pub fits : total ≤ 1024
   pub left : generalized rule ≡ explore eqb 128 23 transitionCheck 0 (targets rule) (productCheck rule) (128 - place) place total (take n states)
   pub tables : Tables rule (take n states) place states terms ends
+  pub states-room : length states ≡ 128
+  pub terms-room : length terms ≡ 1024
+  pub ends-room : length ends ≡ 128
 
-pub walk-begins : (rule states terms ends : List ℕ) (n : ℕ) → take n states ≡ cover (formula rule) → n ≤ 64 → length states ≡ 128 → Walking rule states terms ends n 0 0
+pub walk-begins : (rule states terms ends : List ℕ) (n : ℕ) → take n states ≡ cover (formula rule) → n ≤ 64 → length states ≡ 128 → length terms ≡ 1024 → length ends ≡ 128 → Walking rule states terms ends n 0 0
 unfolding generalized allTransitions
-walk-begins rule states terms ends n is le size = record {
+walk-begins rule states terms ends n is le size terms-size ends-size = record {
   within = omega arith;
   few = omega arith;
   counted = refl;
   fits = omega arith;
   left = rw is;
   tables = record { numbered = rw (length-take-le n states (omega arith)); listed = refl; ending = λ k lt. absurd (omega arith) };
+  states-room = size;
+  terms-room = terms-size;
+  ends-room = ends-size;
 }
 
 pub walk-ends : (rule states terms ends : List ℕ) (n total place : ℕ) → Walking rule states terms ends n total place → n ≤ place → Walks rule (Counts n total) states terms ends
@@ -89,7 +95,7 @@ walk-ends rule states terms ends n total place inv ge =
     )
 
 -- the walk goes on with the state at place
-module _ (rule states terms ends : List ℕ) (n total place : ℕ) (inv : Walking rule states terms ends n total place) (lt : place < n) (size : length states ≡ 128)
+module _ (rule states terms ends : List ℕ) (n total place : ℕ) (inv : Walking rule states terms ends n total place) (lt : place < n)
     (walked : Walked) (states′ terms′ : List ℕ) (adds : Adds (walkState rule place total (take n states)) (take total terms ++ map pack (transitions rule (getD states place 0))) walked states′ terms′) where
   fuel : 128 - place ≡ suc (128 - suc place)
   fuel = omega (arith, inv .few)
@@ -101,7 +107,7 @@ module _ (rule states terms ends : List ℕ) (n total place : ℕ) (inv : Walkin
   walk-refused e =
       rw e (inv .left ∙ rw fuel (explore-refused eqb 128 23 transitionCheck 0 (targets rule) (productCheck rule) (128 - suc place) place total (take n states) inside (rw e at adds)))
 
-  module _ (met end : ℕ) (e : walked ≡ Counts met end) (size′ : length states′ ≡ 128) where
+  module _ (met end : ℕ) (e : walked ≡ Counts met end) (size′ : length states′ ≡ length states) where
     abbrev state : ℕ
     state = getD states place 0
 
@@ -140,8 +146,8 @@ module _ (rule states terms ends : List ℕ) (n total place : ℕ) (inv : Walkin
     left-now =
         inv .left ∙ rw (fuel, explore-next eqb 128 23 transitionCheck 0 (targets rule) (productCheck rule) (128 - suc place) place total (take n states) inside (added .0), getD-take n states place 0 lt, count-is)
 
-    pub walk-steps : length ends ≡ 128 → {ends′ : List ℕ} → ends′ ≡ set ends place end → Walking rule states′ terms′ ends′ met end (place + 1)
-    walk-steps room stored = record {
+    pub walk-steps : length terms′ ≡ length terms → {ends′ : List ℕ} → ends′ ≡ set ends place end → Walking rule states′ terms′ ends′ met end (place + 1)
+    walk-steps same stored = record {
       within = omega (arith, inside, ap length (grown .are), length-append (take n states) (grown .more), length-take-le met states′ (omega (arith, added .1)));
       few = added .1;
       counted = rw add-one end-is;
@@ -153,4 +159,7 @@ module _ (rule states terms ends : List ℕ) (n total place : ℕ) (inv : Walkin
         ending = rw stored (below-more _ place (λ k l. getD-set-other ends place k end 0 (λ s. omega arith) ∙ inv .tables .ending k l ∙ ap length (ap (allTransitions rule) (sym (kept (suc k) (omega arith)))))
             (getD-set-same ends place end 0 (omega (arith, inv .few)) ∙ end-is));
       };
+      states-room = size′ ∙ inv .states-room;
+      terms-room = same ∙ inv .terms-room;
+      ends-room = rw stored (length-set ends place end ∙ inv .ends-room);
     }

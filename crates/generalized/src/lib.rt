@@ -237,13 +237,8 @@ fn put_end(ends: &mut [usize], place: usize, end: usize)
 
 // The first walk of a rule that 1 to 7 and 20 let pass: its states by number, their transitions one after another,
 // and where each state's end.
-pub fn walk(
-    rule: &[u8],
-    states: &mut [u64; 128],
-    terms: &mut [u64; 1024],
-    ends: &mut [usize; 128],
-) -> Walked
-    requires { ⌜ checked (now rule) ≡ fine ⌝ }
+pub fn walk(rule: &[u8], states: &mut [u64], terms: &mut [u64], ends: &mut [usize]) -> Walked
+    requires { ⌜ (checked (now rule) ≡ fine) × (length (now states) ≡ 128) × (length (now terms) ≡ 1024) × (length (now ends) ≡ 128) ⌝ }
     ensures { λ r. ⌜ Walks (now (rule .entry)) r (now (states .exit)) (now (terms .exit)) (now (ends .exit)) ⌝ }
 {
     let mut items = [0u64; 2048];

@@ -239,7 +239,7 @@ fn check_size(rule: &[u8], n: usize) -> Checked
 }
 
 // 20 for all n nodes.
-fn check_sizes(rule: &[u8], n: usize) -> Checked
+pub fn check_sizes(rule: &[u8], n: usize) -> Checked
     requires { ⌜ (n ≡ nodeCount (now rule)) × (Rule.checked (now rule) ≡ fine) ⌝ }
     ensures { λ r. ⌜ answer r ≡ lowest (sizeCheck (now (rule .entry))) n ⌝ }
 {

@@ -1,26 +1,9 @@
-// Checks many rules in one run. Standard input has them one after another, each behind its length in two bytes, low
-// byte first; each gets one line, `accepted` or `refused N place P`.
-use formula::Checked;
+// Translates many rules in one run. Standard input has them one after another, each behind its length in two bytes,
+// low byte first; each gets what the program showwatch prints.
 use libc::STDIN_FILENO;
-use libc::STDOUT_FILENO;
 
 // The longest input taken for a rule: enough for any that is not refused by its length, and for many that are.
 const LONGEST: usize = 1024;
-
-fn print_answer(answer: Checked) {
-    match answer {
-        Checked::Accepted => {
-            io::write_all(STDOUT_FILENO, b"accepted\n");
-        }
-        Checked::Refused(number, place) => {
-            io::write_all(STDOUT_FILENO, b"refused ");
-            io::print_decimal(STDOUT_FILENO, number as u64);
-            io::write_all(STDOUT_FILENO, b" place ");
-            io::print_decimal(STDOUT_FILENO, place as u64);
-            io::write_all(STDOUT_FILENO, b"\n");
-        }
-    }
-}
 
 // A length in two bytes, low byte first.
 fn length_of(low: u8, high: u8) -> usize {
@@ -37,7 +20,7 @@ fn answer_rule(buffer: &mut [u8], n: usize) -> bool {
     if got < n {
         return false;
     }
-    print_answer(term::check(&buffer[..n]));
+    show::show_rule(&buffer[..n]);
     true
 }
 

@@ -24,17 +24,14 @@ same-length c = search needs
 returns-2 : tie.Need-returns-2
 returns-2 c = search needs
 
-slice-reshare-prefix-check : tie.Need-slice-reshare-prefix-check
-slice-reshare-prefix-check c = search needs
+slice-reshare-prefix-show-rule : tie.Need-slice-reshare-prefix-show-rule
+slice-reshare-prefix-show-rule c = search needs
 
-slice-aggregate-check : tie.Need-slice-aggregate-check
-slice-aggregate-check c = simp length-take (omega arith)
+slice-aggregate-show-rule : tie.Need-slice-aggregate-show-rule
+slice-aggregate-show-rule c = simp length-take (omega arith)
 
-check-requires : tie.Need-check-requires
-check-requires c κs = search needs
-
-print-answer-requires : tie.Need-print-answer-requires
-print-answer-requires c κs = search needs
+show-rule-requires : tie.Need-show-rule-requires
+show-rule-requires c κs = search needs
 
 same-length-2 : tie.Need-same-length-2
 same-length-2 c = search needs
@@ -52,9 +49,8 @@ answer-rule-spec =
     read-full-requires
     same-length
     returns-2
-    slice-reshare-prefix-check
-    slice-aggregate-check
-    check-requires
-    print-answer-requires
+    slice-reshare-prefix-show-rule
+    slice-aggregate-show-rule
+    show-rule-requires
     same-length-2
     returns-3)

@@ -1,0 +1,69 @@
+-- `automaton::number_targets` meets its contract: the first i targets are numbered (`Targeting`).
+-- Assumes nothing.
+use borrow.Author.Needs.{needs}
+use native.Mathlib.Omega.{arith}
+use Prim.Native.Nat.{_-_}
+use mathlib.Core.Path.{refl}
+use lib.ListN.{take}
+use Rattle.automaton.proofs.Codes.{Targeting, target-steps}
+use Rattle.automaton.proofs.number_targets.Statement.{statement}
+use Rattle.automaton.proofs.number_targets.Tie as tie
+
+abbrev Inv-loop : tie.InvT-loop
+Inv-loop states n terms m targets₀ i₀ targets i = Targeting (take n states) terms m targets₀ targets i
+
+abbrev μ-loop : tie.MeasureT-loop
+μ-loop states n terms m targets₀ i₀ targets i = m - i
+
+loop-holds : tie.Need-loop-holds Inv-loop μ-loop
+loop-holds c = record { within = omega arith; size = refl; numbered = λ j lt. absurd (omega arith) }
+
+mul-find : tie.Need-mul-find Inv-loop μ-loop
+mul-find c = search needs
+
+shared-slice-read-find : tie.Need-shared-slice-read-find Inv-loop μ-loop
+shared-slice-read-find c = search needs
+
+find-requires : tie.Need-find-requires Inv-loop μ-loop
+find-requires c κs = search needs
+
+mul-targets : tie.Need-mul-targets Inv-loop μ-loop
+mul-targets c = search needs
+
+slice-write-targets : tie.Need-slice-write-targets Inv-loop μ-loop
+slice-write-targets c = search needs
+
+add-i : tie.Need-add-i Inv-loop μ-loop
+add-i c = search needs
+
+loop-less : tie.Need-loop-less Inv-loop μ-loop
+loop-less c = search needs
+
+loop-again : tie.Need-loop-again Inv-loop μ-loop
+loop-again c =
+    let at = c .before .before .before in
+    target-steps _ _ _ _ _ (at .loop .i) _ (at .before .before .before .before .pre .2) (c .before .before .loop-test .taken) (at .loop .inv) (c .find .ensures)
+
+same-length : tie.Need-same-length Inv-loop μ-loop
+same-length c = c .before .loop .inv .size
+
+returns : tie.Need-returns Inv-loop μ-loop
+returns c j lt = c .before .loop .inv .numbered j (omega arith)
+
+pub number-targets-spec : {M : Type 1} → statement M
+number-targets-spec =
+    tie.close
+    (tie.spec
+    Inv-loop
+    μ-loop
+    loop-holds
+    mul-find
+    shared-slice-read-find
+    find-requires
+    mul-targets
+    slice-write-targets
+    add-i
+    loop-less
+    loop-again
+    same-length
+    returns)

@@ -1,0 +1,57 @@
+-- `automaton::write_transitions` meets its contract: the rows of the pairs before p are written (`Table`).
+-- Assumes nothing.
+use borrow.Author.Needs.{needs}
+use native.Mathlib.Omega.{arith}
+use Prim.Native.Nat.{_-_}
+use lib.ListN.{length}
+use Rattle.automaton.proofs.Writing.{Table, table-begins, table-ends, table-steps, row-room}
+use Rattle.automaton.proofs.write_transitions.Statement.{statement}
+use Rattle.automaton.proofs.write_transitions.Tie as tie
+
+abbrev Inv-loop : tie.InvT-loop
+Inv-loop table₀ terms ends targets marks r pairs k₀ p₀ table k p = Table ends targets marks r terms pairs table₀ table k p
+
+abbrev μ-loop : tie.MeasureT-loop
+μ-loop table₀ terms ends targets marks r pairs k₀ p₀ table k p = length pairs - p
+
+loop-holds : tie.Need-loop-holds Inv-loop μ-loop
+loop-holds c = table-begins _ _ _ _ _ _ _
+
+write-row-requires : tie.Need-write-row-requires Inv-loop μ-loop
+write-row-requires c κs =
+    let at = c .before .before in
+    let s = at .before .before .before .before .before .before .before in
+    (s .pre .1, c .before .loop-test .taken, s .pre .2, s .pre .3, row-room _ _ _ _ _ _ _ _ _ _ (at .loop .inv) (omega arith) (s .pre .2) (s .pre .4))
+
+add-p : tie.Need-add-p Inv-loop μ-loop
+add-p c = search needs
+
+loop-less : tie.Need-loop-less Inv-loop μ-loop
+loop-less c = search needs
+
+loop-again : tie.Need-loop-again Inv-loop μ-loop
+loop-again c =
+    let row = c .before .before in
+    let at = row .before .before .before in
+    let s = at .before .before .before .before .before .before .before in
+    table-steps _ _ _ _ _ _ _ _ _ _ (at .loop .inv) (omega arith) (s .pre .2) (s .pre .1) _ (row .write-row .result) (row .write-row .kept .0) (row .write-row .ensures)
+
+same-length : tie.Need-same-length Inv-loop μ-loop
+same-length c = c .before .loop .inv .size
+
+returns : tie.Need-returns Inv-loop μ-loop
+returns c = table-ends _ _ _ _ _ _ _ _ _ _ (c .before .loop .inv) (c .loop-test .left)
+
+pub write-transitions-spec : {M : Type 1} → statement M
+write-transitions-spec =
+    tie.close
+    (tie.spec
+    Inv-loop
+    μ-loop
+    loop-holds
+    write-row-requires
+    add-p
+    loop-less
+    loop-again
+    same-length
+    returns)

@@ -1,0 +1,43 @@
+-- The correctness of the translation: the automaton of an accepted rule has an accepting pass on a lasso exactly when
+-- the lasso satisfies the rule. Assumes nothing.
+use Prim.Native.Nat.{ℕ, _<_}
+use mathlib.Core.Path.{_≡_, subst}
+use mathlib.Core.Logic.{_↔_, Iff·trans}
+use mathlib.Core.List.{List}
+use lib.ListN.{length}
+use Rattle.formula.specs.Result.{accepted}
+use Rattle.formula.specs.Lasso.{letter, Satisfies}
+use Rattle.term.specs.Size.{checked}
+use Rattle.generalized.specs.Generalized.{generalized}
+use Rattle.automaton.specs.Automaton.{Automaton, AcceptingPass}
+use Rattle.automaton.specs.Degeneralized.{degeneralized, translation}
+use Rattle.correctness.proofs.Periodic.{letter-round}
+use Rattle.correctness.proofs.Passes.{Pass}
+use Rattle.correctness.proofs.Counting.{endless-iff-holds}
+use Rattle.correctness.proofs.Results.{then-accepted}
+use Rattle.correctness.proofs.Numbering.{pass-iff-endless}
+use Rattle.correctness.proofs.Walks.{numbered, Listed, listed-represent, automatonOf, numbering}
+
+-- an automaton's accepting passes are those of the machine over its state numbers
+pass-iff : (a : Automaton) (stem cycle : List ℕ) → AcceptingPass a stem cycle ↔ Pass (length stem) (length cycle) (letter stem cycle) (numbered a)
+pass-iff a stem cycle = (
+  λ p. record { at = p .at; first = p .first; second = p .second; later = p .later; begins = p .begins; steps = p .steps; same = p .same; accepts = p .accepts },
+  λ p. record { at = p .at; first = p .first; second = p .second; later = p .later; begins = p .begins; steps = p .steps; same = p .same; accepts = p .accepts },
+)
+
+-- The demand: "for any accepted rule and any plan, however long, whose loop has a slot, the watcher has an accepting
+-- lap on the plan exactly when the plan keeps the rule". A rule is accepted if its translation is ("none of the numbers
+-- by which translate refuses a rule applies to it, 25 aside"), and its watcher is then the automaton a; a plan is a
+-- stem and a cycle (its loop), a slot is a letter; a lap is a pass; to keep a rule is to satisfy it.
+pub accepting-pass-iff-satisfied : (rule stem cycle : List ℕ) (a : Automaton) → translation rule ≡ accepted a → 0 < length cycle
+    → AcceptingPass a stem cycle ↔ Satisfies rule stem cycle
+unfolding translation Satisfies
+accepting-pass-iff-satisfied rule stem cycle a e pos =
+    let (_, fine, p) = then-accepted (checked rule) _ e in
+    let (states, first, q) = then-accepted (generalized rule) _ p in
+    let (pairs, second, r) = then-accepted (degeneralized rule states) _ q in
+    let same : automatonOf rule states pairs ≡ a = cc in
+    subst (λ (x : Automaton). AcceptingPass x stem cycle ↔ Satisfies rule stem cycle) same
+    (Iff·trans (pass-iff (automatonOf rule states pairs) stem cycle)
+    (Iff·trans (pass-iff-endless (letter stem cycle) (numbering rule fine states first pairs second) (length stem) (length cycle) pos (letter-round stem cycle))
+    (endless-iff-holds rule (Listed rule) (listed-represent rule) (letter stem cycle) (length stem) (length cycle) pos (letter-round stem cycle))))

@@ -1,0 +1,21 @@
+-- What the automaton of a rule accepts, exactly the lassos that satisfy the rule, and the limits that it keeps.
+pub mod Positions
+pub mod Bits
+pub mod Members
+pub mod Runs
+pub mod Trees
+pub mod Sound
+pub mod Periodic
+pub mod Obligations
+pub mod Complete
+pub mod Levels
+pub mod Passes
+pub mod Tests
+pub mod Counting
+pub mod Results
+pub mod Explored
+pub mod Numbering
+pub mod Walks
+pub mod AcceptingPass
+pub mod Labels
+pub mod WellFormed

@@ -1,0 +1,245 @@
+-- The automaton of an accepted rule numbers the machine that counts levels over obligation sets: the first walk
+-- numbers the sets, the second the pairs of such a number and a level. Assumes that both walks are accepted.
+use Prim.Native.Nat.{ℕ, zero, suc, _%_, _<_, _≤_}
+use mathlib.Core.Path.{_≡_, refl, sym, _∙_, ap, subst}
+use mathlib.Core.Logic.{_↔_}
+use mathlib.Core.List.{List, [], _∷_, _++_, map}
+use mathlib.Core.Bool.{true, and-eq-true-iff}
+use native.Mathlib.Omega.{arith}
+use native.Mathlib.Decide.{ℕ-discrete}
+use lib.ListN.{getD, length, length-append, length-map, List·getD-map, List·getD-append}
+use lib.Seq.{getD-append-seam}
+use lib.Dec.{eqb, leb, ltb}
+use borrow.Author.Tests.{eqb-true, eq-eqb, leb-true, ltb-true}
+use Rattle.formula.specs.Result.{accepted, fine, require}
+use Rattle.formula.specs.Rule.{root, nodeCount, lengthCheck}
+use Rattle.formula.specs.Rule
+use Rattle.formula.specs.Formula.{formula}
+use Rattle.term.specs.Term.{Term, cover, terms}
+use Rattle.term.specs.Size.{sizeCheck, checked}
+use Rattle.generalized.specs.Explore.{find}
+use Rattle.generalized.specs.Generalized.{transitions, transitionCheck, productCheck, targets, generalized}
+use Rattle.automaton.specs.Automaton.{Transition, State, Automaton, noState, In, reads, Step, Accepts}
+use Rattle.acceptance.specs.Acceptance.{untilCount}
+use Rattle.automaton.specs.Degeneralized.{nextLevel, Pair, pair, samePair, numbers, initialNumbers, pairTransitions, target, degeneralized, stateOf}
+use Rattle.correctness.proofs.Members.{All, at-in, in-at, map-in, in-map, map-at}
+use Rattle.correctness.proofs.Runs.{Reads, Represents}
+use Rattle.correctness.proofs.Tests.{reads-iff}
+use Rattle.correctness.proofs.Passes.{Machine}
+use Rattle.correctness.proofs.Counting.{Counted, counting}
+use Rattle.correctness.proofs.Results.{then-accepted, required, lowest-fine}
+use Rattle.correctness.proofs.Explored.{Reached, find-in, walked}
+use Rattle.correctness.proofs.Numbering.{Numbering}
+
+-- the root of an accepted rule is a node, and has at most 64 cover sets
+root-inside : (rule : List ℕ) → Rule.checked rule ≡ fine → root rule < nodeCount rule
+unfolding Rule.checked lengthCheck
+root-inside rule e =
+    let (a, p, q) = then-accepted (lengthCheck rule) _ e in
+    let (b, r, s) = then-accepted (require (leb (length rule) 96) 1 0) _ p in
+    let (l, m) = and-eq-true-iff (ltb 0 (length rule)) _ .0 (required _ 2 0 s) in
+    omega (arith, ltb-true 0 (length rule) l, eqb-true (length rule % 3) 0 m)
+
+pub cover-small : (rule : List ℕ) → checked rule ≡ fine → length (cover (formula rule)) ≤ 64
+unfolding checked sizeCheck formula
+cover-small rule e =
+    let (a, p, q) = then-accepted (Rule.checked rule) _ e in
+    let h = required _ 20 (root rule) (lowest-fine (sizeCheck rule) (nodeCount rule) q (root rule) (root-inside rule p)) in
+    leb-true (length (cover (formula rule))) 64 (and-eq-true-iff (leb (length (terms (formula rule))) 64) _ .0 h .1)
+
+-- the numbers below n
+pub numbers-length : (n : ℕ) → length (numbers n) ≡ n
+unfolding numbers
+numbers-length zero = refl
+numbers-length (suc n) = omega (arith, length-append (numbers n) (n ∷ []), numbers-length n)
+
+pub numbers-at : (n k : ℕ) → k < n → getD (numbers n) k 0 ≡ k
+unfolding numbers
+numbers-at zero k l = absurd (omega arith)
+numbers-at (suc n) k l = go (numbers-at n k) (ℕ-discrete (length (numbers n)) k)
+  where
+    go : (k < n → getD (numbers n) k 0 ≡ k) → Dec (length (numbers n) ≡ k) → getD (numbers n ++ (n ∷ [])) k 0 ≡ k
+    go ih (yes e) = subst (λ (j : ℕ). getD (numbers n ++ (n ∷ [])) j 0 ≡ j) e (getD-append-seam (numbers n) n [] 0 ∙ sym (numbers-length n))
+    go ih (no e) = let l : k < length (numbers n) = omega (arith, numbers-length n) in List·getD-append (numbers n) (n ∷ []) 0 k l ∙ ih (omega (arith, numbers-length n))
+
+numbers-in : (n k : ℕ) → In k (numbers n) → k < n
+numbers-in n k h = let (i, l, q) = in-at 0 k (numbers n) h in omega (arith, numbers-length n, numbers-at n i (omega (arith, numbers-length n)))
+
+in-numbers : (n k : ℕ) → k < n → In k (numbers n)
+in-numbers n k l = subst (λ (x : ℕ). In x (numbers n)) (numbers-at n k l) (at-in 0 (numbers n) k (omega (arith, numbers-length n)))
+
+-- two pairs are the same exactly if they are equal
+same-equal : (x y : Pair) → samePair x y ≡ true → x ≡ y
+same-equal x y e =
+    let (a, b) = and-eq-true-iff (eqb (x .state) (y .state)) _ .0 e in
+    let p = eqb-true (x .state) (y .state) a in
+    let q = eqb-true (x .level) (y .level) b in
+    λ i. record { state = p i; level = q i }
+
+same-self : (x : Pair) → samePair x x ≡ true
+same-self x = and-eq-true-iff (eqb (x .state) (x .state)) _ .1 (eq-eqb (x .state) (x .state) refl, eq-eqb (x .level) (x .level) refl)
+
+-- the states of an automaton as numbers
+abbrev pub numbered : Automaton → Machine ℕ
+numbered automaton = record { Initial = λ k. In k (automaton .initial); Step = Step automaton; Accepting = Accepts automaton }
+
+-- a state's transitions as the first walk lists them: all its terms
+abbrev pub Listed : List ℕ → ℕ → Term → Type 0
+Listed rule e t = In t (transitions rule e)
+
+pub listed-represent : (rule : List ℕ) → Represents rule (Listed rule)
+unfolding transitions
+listed-represent rule = record {
+  listed = λ e t m. m;
+  enough = λ e t m. (t, m, record { reads = λ a r. r; obligations = λ n h. h; fulfils = λ n a b k f. f });
+}
+
+module _ (states : List ℕ) (pairs : List Pair) where
+  abbrev pairAt : ℕ → Pair
+  pairAt k = getD pairs k (pair 0 0)
+
+  -- number k of the second walk stands for this set and level
+  abbrev means : ℕ → Counted
+  means k = record { obligations = getD states (pairAt k .state) 0; level = pairAt k .level }
+
+  -- it is a number of the second walk, and its pair has a number of the first
+  pub record Valid (k : ℕ) : Type 0 where
+    pub inside : k < length pairs
+    pub known : pairAt k .state < length states
+
+abbrev pub automatonOf : (rule states : List ℕ) → List Pair → Automaton
+automatonOf rule states pairs = record { states = map (stateOf rule states pairs) pairs; initial = initialNumbers rule }
+
+module _ (rule : List ℕ) (accepted-rule : checked rule ≡ fine) (states : List ℕ) (first : generalized rule ≡ accepted states)
+    (pairs : List Pair) (second : degeneralized rule states ≡ accepted pairs) where
+  abbrev count : ℕ
+  count = length (cover (formula rule))
+
+  abbrev at : ℕ → Pair
+  at k = pairAt states pairs k
+
+  -- the transitions of number k
+  abbrev listedAt : ℕ → List Term
+  listedAt k = transitions rule (getD states (at k .state) 0)
+
+  pub first-walked : Reached 0 128 (targets rule) (productCheck rule) (cover (formula rule)) states
+  unfolding generalized
+  first-walked = walked eqb eqb-true 0 128 23 transitionCheck (targets rule) (productCheck rule) (cover (formula rule)) states (omega (arith, cover-small rule accepted-rule)) first
+
+  initial-count : length (map (λ i. pair i 0) (numbers count)) ≡ count
+  initial-count = length-map (numbers count) (λ i. pair i 0) ∙ numbers-length count
+
+  pub second-walked : Reached (pair 0 0) 96 (λ x. map (target rule states x) (pairTransitions rule states x)) (λ _ _. fine) (map (λ i. pair i 0) (numbers count)) pairs
+  unfolding degeneralized initialNumbers
+  second-walked = walked samePair same-equal (pair 0 0) 96 24 (λ _ _. fine) (λ x. map (target rule states x) (pairTransitions rule states x)) (λ _ _. fine)
+      (map (λ i. pair i 0) (numbers count)) pairs (omega (arith, cover-small rule accepted-rule, initial-count)) second
+
+  -- the first numbers are the initial ones
+  initial-at : (k : ℕ) → k < count → at k ≡ pair k 0
+  initial-at k l =
+      second-walked .prefix .there k (omega (arith, initial-count))
+      ∙ List·getD-map (λ i. pair i 0) (numbers count) k 0
+      ∙ ap (λ (i : ℕ). pair i 0) (numbers-at count k l)
+
+  pub initial-valid : (k : ℕ) → k < count → Valid states pairs k
+  initial-valid k l = record {
+    inside = omega (arith, second-walked .prefix .longer, initial-count);
+    known = subst (λ (x : Pair). x .state < length states) (sym (initial-at k l)) (omega (arith, first-walked .prefix .longer));
+  }
+
+  initial-means : (k : ℕ) → k < count → means states pairs k ≡ record { obligations = getD (cover (formula rule)) k 0; level = 0 }
+  initial-means k l =
+      let o = ap (λ (x : Pair). getD states (x .state) 0) (initial-at k l) ∙ first-walked .prefix .there k l in
+      λ i. record { obligations = o i; level = initial-at k l i .level }
+
+  -- the target of a known state's transition is known
+  target-known : (state : ℕ) → state < length states → (t : Term) → In t (transitions rule (getD states state 0))
+      → (find eqb (t .obligations) states < length states) × (getD states (find eqb (t .obligations) states) 0 ≡ t .obligations)
+  unfolding targets
+  target-known state l t m =
+      find-in eqb eqb-true 0 (λ n. eq-eqb n n refl) (t .obligations) states
+      (first-walked .closed state l (t .obligations) (in-map (λ t. t .obligations) t (transitions rule (getD states state 0)) m))
+
+  -- the pairs' states are numbers of the first walk
+  pub pairs-known : All (λ x. x .state < length states) pairs
+  unfolding pairTransitions target
+  pairs-known = second-walked .every (λ x. x .state < length states) start step
+    where
+      start : All (λ x. x .state < length states) (map (λ i. pair i 0) (numbers count))
+      start x h =
+          let (i, m, e) = map-in (λ i. pair i 0) x (numbers count) h in
+          let q : x .state ≡ i = ap (λ (y : Pair). y .state) e in
+          omega (arith, numbers-in count i m, first-walked .prefix .longer)
+
+      step : (x : Pair) → x .state < length states → All (λ y. y .state < length states) (map (target rule states x) (pairTransitions rule states x))
+      step x l y h =
+          let (t, m, e) = map-in (target rule states x) y (pairTransitions rule states x) h in
+          subst (λ (z : Pair). z .state < length states) (sym e) (target-known (x .state) l t m .0)
+
+  -- number j stands for what the term t leads to from number k
+  pub record Lands (k j : ℕ) (t : Term) : Type 0 where
+    pub valid : Valid states pairs j
+    is : means states pairs j ≡ record { obligations = t .obligations; level = nextLevel rule (at k .level) t }
+
+  abbrev pub leads : ℕ → Term → ℕ
+  leads k t = find samePair (target rule states (at k) t) pairs
+
+  pub lands : (k : ℕ) → Valid states pairs k → (t : Term) → In t (listedAt k) → Lands k (leads k t) t
+  unfolding pairTransitions target
+  lands k v t m =
+      let (a, e) = target-known (at k .state) (v .known) t m in
+      let (b, f) = find-in samePair same-equal (pair 0 0) same-self (target rule states (at k) t) pairs
+      (second-walked .closed k (v .inside) (target rule states (at k) t) (in-map (target rule states (at k)) t (listedAt k) m)) in
+      let o = ap (λ (x : Pair). getD states (x .state) 0) f ∙ e in
+      record {
+        valid = record { inside = b; known = subst (λ (x : Pair). x .state < length states) (sym f) a };
+        is = λ i. record { obligations = o i; level = f i .level };
+      }
+
+  state-at : (k : ℕ) → Valid states pairs k → getD (automatonOf rule states pairs .states) k noState ≡ stateOf rule states pairs (at k)
+  state-at k v = map-at (stateOf rule states pairs) (pair 0 0) noState pairs k (v .inside)
+
+  step-iff : (k letter j : ℕ) → Valid states pairs k → Step (automatonOf rule states pairs) k letter j ↔ ((t : Term) × In t (listedAt k) × Reads t letter × (j ≡ leads k t))
+  unfolding stateOf pairTransitions
+  step-iff k letter j v = (there, back)
+    where
+      transition : Term → Transition
+      transition t = record { must = t .must; mustNot = t .mustNot; target = leads k t }
+
+      there : Step (automatonOf rule states pairs) k letter j → (t : Term) × In t (listedAt k) × Reads t letter × (j ≡ leads k t)
+      there (u, m, r, e) =
+          let (t, l, q) = map-in transition u (listedAt k) (subst (λ (s : State). In u (s .transitions)) (state-at k v) m) in
+          (t, l, reads-iff t (leads k t) letter .0 (subst (λ (x : Transition). reads x letter ≡ true) q r), e ∙ ap (λ (x : Transition). x .target) q)
+
+      back : (t : Term) × In t (listedAt k) × Reads t letter × (j ≡ leads k t) → Step (automatonOf rule states pairs) k letter j
+      back (t, l, r, e) = (
+        transition t,
+        subst (λ (s : State). In (transition t) (s .transitions)) (sym (state-at k v)) (in-map transition t (listedAt k) l),
+        reads-iff t (leads k t) letter .1 r,
+        e,
+      )
+
+  pub numbering : Numbering (counting rule (Listed rule)) (numbered (automatonOf rule states pairs)) (length pairs) (Valid states pairs) (means states pairs)
+  unfolding initialNumbers stateOf
+  numbering = record {
+    small = λ k v. v .inside;
+    initial-valid = λ k h. initial-valid k (numbers-in count k h);
+    initial-means = λ k h.
+        let l = numbers-in count k h in
+        subst (counting rule (Listed rule) .Initial) (sym (initial-means k l)) (at-in 0 (cover (formula rule)) k l, refl);
+    initial-has = λ x (m, z).
+        let (k, l, q) = in-at 0 (x .obligations) (cover (formula rule)) m in
+        (k, in-numbers count k l, initial-means k l ∙ sym (λ i. record { obligations = sym q i; level = z i }));
+    step-valid = λ k letter j v s. let (t, l, r, e) = step-iff k letter j v .0 s in subst (Valid states pairs) (sym e) (lands k v t l .valid);
+    step-means = λ k letter j v s.
+        let (t, l, r, e) = step-iff k letter j v .0 s in
+        let q = ap (means states pairs) e ∙ lands k v t l .is in
+        (t, l, r, ap (λ (x : Counted). x .obligations) q, ap (λ (x : Counted). x .level) q);
+    step-has = λ k letter x v (t, l, r, o, p). (
+      leads k t,
+      step-iff k letter (leads k t) v .1 (t, l, r, refl),
+      lands k v t l .is ∙ sym (λ i. record { obligations = o i; level = p i }),
+    );
+    accepting-means = λ k v c. eqb-true (at k .level) (untilCount rule) (subst (λ (s : State). s .accepting ≡ true) (state-at k v) c);
+    accepting-has = λ k v c. subst (λ (s : State). s .accepting ≡ true) (sym (state-at k v)) (eq-eqb (at k .level) (untilCount rule) c);
+  }

@@ -1,0 +1,115 @@
+-- What the limits of document 01 make of the automaton of an accepted rule. Assumes nothing.
+use Prim.Native.Nat.{ℕ, suc, _≤_, _<_}
+use mathlib.Core.Path.{_≡_, sym, _∙_, ap, subst}
+use mathlib.Core.List.{List, map}
+use native.Mathlib.Omega.{arith}
+use lib.ListN.{getD, length, length-map}
+use borrow.Author.Tests.{leb-true}
+use Rattle.formula.specs.Result.{accepted, fine}
+use Rattle.formula.specs.Rule.{root, nodeCount}
+use Rattle.formula.specs.Rule
+use Rattle.formula.specs.Formula.{formula, tree, InRange}
+use Rattle.formula.proofs.Accepted.{accepted-fine}
+use Rattle.formula.proofs.Trees.{tree-in-range}
+use Rattle.term.specs.Term.{Term, cover}
+use Rattle.term.specs.Size.{checked}
+use Rattle.generalized.specs.Generalized.{partialProduct, transitions, productCheck, generalized}
+use Rattle.automaton.specs.Automaton.{Transition, State, Automaton, In}
+use Rattle.automaton.specs.Degeneralized.{Pair, pair, initialNumbers, pairTransitions, degeneralized, stateOf, translation}
+use Rattle.correctness.proofs.Members.{in-at, at-in, map-in}
+use Rattle.correctness.proofs.Results.{then-accepted, required, lowest-fine}
+use Rattle.correctness.proofs.Labels.{Label, transitions-labelled}
+use Rattle.correctness.proofs.Walks.{cover-small, numbers-length, numbers-at, automatonOf, Valid, first-walked, second-walked, initial-valid, pairs-known, leads, lands}
+
+-- a state of an automaton that has this many states
+pub record WellFormedState (states : ℕ) (s : State) : Type 0 where
+  pub few : length (s .transitions) ≤ 128
+  pub labels : (t : Transition) → In t (s .transitions) → Label (t .must) (t .mustNot)
+  pub targets : (t : Transition) → In t (s .transitions) → t .target < states
+
+-- an automaton within the limits: at most 96 states and 128 transitions of each, labels of two bytes that share no bit,
+-- targets that are states, at most 96 initial numbers that are states and rise
+pub record WellFormed (a : Automaton) : Type 0 where
+  pub states : length (a .states) ≤ 96
+  pub each : (s : State) → In s (a .states) → WellFormedState (length (a .states)) s
+  pub initial : length (a .initial) ≤ 96
+  pub inside : (i : ℕ) → i < length (a .initial) → getD (a .initial) i 0 < length (a .states)
+  pub rising : (i : ℕ) → suc i < length (a .initial) → getD (a .initial) i 0 < getD (a .initial) (suc i) 0
+
+-- a state that 21 lets pass has at most 128 transitions
+few-transitions : (rule : List ℕ) (place state : ℕ) → 0 < nodeCount rule → productCheck rule place state ≡ fine → length (transitions rule state) ≤ 128
+unfolding productCheck transitions
+few-transitions rule place state some e =
+    let n : suc (root rule) ≡ nodeCount rule = omega arith in
+    let h = required _ 21 place (lowest-fine _ (nodeCount rule) e (root rule) (omega arith)) in
+    subst (λ (k : ℕ). length (partialProduct rule state k) ≤ 128) n (leb-true (length (partialProduct rule state (suc (root rule)))) 128 h)
+
+module _ (rule : List ℕ) (accepted-rule : checked rule ≡ fine) (states : List ℕ) (first : generalized rule ≡ accepted states)
+    (pairs : List Pair) (second : degeneralized rule states ≡ accepted pairs) where
+  rule-fine : Rule.checked rule ≡ fine
+  unfolding checked
+  rule-fine = then-accepted (Rule.checked rule) _ accepted-rule .1
+
+  in-range : (n : ℕ) → n < nodeCount rule → InRange (tree rule n)
+  in-range n l = tree-in-range rule n l (λ k le. accepted-fine rule rule-fine .nodes k (omega arith))
+
+  state-formed : (k : ℕ) → k < length pairs → WellFormedState (length pairs) (stateOf rule states pairs (getD pairs k (pair 0 0)))
+  unfolding stateOf pairTransitions
+  state-formed k l = record {
+    few = omega (arith, length-map listed transition, few-transitions rule (here .state) (getD states (here .state) 0) (accepted-fine rule rule-fine .some) passed);
+    labels = λ t m.
+        let (u, n, e) = map-in transition t listed m in
+        subst (λ (x : Transition). Label (x .must) (x .mustNot)) (sym e) (transitions-labelled rule in-range (getD states (here .state) 0) u n);
+    targets = λ t m.
+        let (u, n, e) = map-in transition t listed m in
+        subst (λ (x : Transition). x .target < length pairs) (sym e) (lands rule accepted-rule states first pairs second k valid u n .valid .inside);
+  }
+    where
+      here : Pair
+      here = getD pairs k (pair 0 0)
+
+      valid : Valid states pairs k
+      valid = record { inside = l; known = pairs-known rule accepted-rule states first pairs second here (at-in (pair 0 0) pairs k l) }
+
+      passed : productCheck rule (here .state) (getD states (here .state) 0) ≡ fine
+      passed = first-walked rule accepted-rule states first pairs second .passed (here .state) (valid .known)
+
+      listed : List Term
+      listed = transitions rule (getD states (here .state) 0)
+
+      transition : Term → Transition
+      transition t = record { must = t .must; mustNot = t .mustNot; target = leads rule accepted-rule states first pairs second k t }
+
+  each-formed : (s : State) → In s (map (stateOf rule states pairs) pairs) → WellFormedState (length pairs) s
+  each-formed s m =
+      let (x, n, e) = map-in (stateOf rule states pairs) s pairs m in
+      let (k, l, q) = in-at (pair 0 0) x pairs n in
+      subst (WellFormedState (length pairs)) (ap (stateOf rule states pairs) q ∙ sym e) (state-formed k l)
+
+  formed : WellFormed (automatonOf rule states pairs)
+  unfolding initialNumbers
+  formed = record {
+    states = omega (arith, second-walked rule accepted-rule states first pairs second .small, size);
+    each = λ s m. subst (λ (n : ℕ). WellFormedState n s) (sym size) (each-formed s m);
+    initial = omega (arith, cover-small rule accepted-rule, numbers-length c);
+    inside = λ i l.
+        let m : i < c = omega (arith, numbers-length c) in
+        omega (arith, numbers-at c i m, initial-valid rule accepted-rule states first pairs second i m .inside, size);
+    rising = λ i l. omega (arith, numbers-at c i (omega (arith, numbers-length c)), numbers-at c (suc i) (omega (arith, numbers-length c)));
+  }
+    where
+      c : ℕ
+      c = length (cover (formula rule))
+
+      size : length (map (stateOf rule states pairs) pairs) ≡ length pairs
+      size = length-map pairs (stateOf rule states pairs)
+
+-- what document 01's limits make of every translated automaton
+pub translation-well-formed : (rule : List ℕ) (a : Automaton) → translation rule ≡ accepted a → WellFormed a
+unfolding translation
+translation-well-formed rule a e =
+    let (_, fine, p) = then-accepted (checked rule) _ e in
+    let (states, first, q) = then-accepted (generalized rule) _ p in
+    let (pairs, second, r) = then-accepted (degeneralized rule states) _ q in
+    let same : automatonOf rule states pairs ≡ a = cc in
+    subst WellFormed same (formed rule fine states first pairs second)

@@ -1,0 +1,155 @@
+// Prints what the program showwatch prints of a rule: its automaton, or its refusal.
+use automaton::INITIAL_BYTES;
+use automaton::STATES_BYTES;
+use automaton::TRANSITIONS_BYTES;
+use automaton::Translated;
+use libc::STDOUT_FILENO;
+ghost use Prim.Native.Nat.{_≤_, _<_};
+
+// The most transitions that an automaton has, and the most that a number of two bytes says.
+const MAX_TRANSITIONS: usize = 12288;
+
+const MAX_NUMBER: usize = 65535;
+
+fn print(text: &[u8]) {
+    io::write_all(STDOUT_FILENO, text);
+}
+
+fn print_number(n: usize) {
+    io::print_decimal(STDOUT_FILENO, n as u64);
+}
+
+// `refused N place P`
+pub fn print_refusal(number: u8, place: usize) {
+    print(b"refused ");
+    io::print_decimal(STDOUT_FILENO, number as u64);
+    print(b" place ");
+    print_number(place);
+    print(b"\n");
+}
+
+// A hexadecimal digit, A to F as capitals.
+fn digit(n: u8) -> u8
+    requires { ⌜ n < 16 ⌝ }
+{
+    if n < 10 { 48 + n } else { 55 + n }
+}
+
+// A number in two bytes, low byte first.
+fn number_of(low: u8, high: u8) -> usize
+    ensures { λ r. ⌜ r ≤ 65535 ⌝ }
+{
+    let high = high as usize;
+    (low as usize) + high * 256
+}
+
+// must and must_not in two hexadecimal digits each, then the target.
+fn print_transition(must: u8, must_not: u8, target: usize) {
+    let line = [
+        digit(must / 16),
+        digit(must % 16),
+        b' ',
+        digit(must_not / 16),
+        digit(must_not % 16),
+        b' ',
+    ];
+    print(&line);
+    print_number(target);
+    print(b"\n");
+}
+
+// Transition record k.
+fn print_record(transitions: &[u8], k: usize) {
+    if MAX_TRANSITIONS <= k {
+        return;
+    }
+    let at = k * 4;
+    if transitions.len() < at + 4 {
+        return;
+    }
+    print_transition(
+        transitions[at],
+        transitions[at + 1],
+        number_of(transitions[at + 2], transitions[at + 3]),
+    );
+}
+
+// Transition records from `from` on, count of them.
+fn print_transitions(transitions: &[u8], from: usize, count: usize)
+    requires { ⌜ (from ≤ 12288) × (count ≤ 65535) ⌝ }
+{
+    let mut i = 0;
+    while i < count {
+        print_record(transitions, from + i);
+        i += 1;
+    }
+}
+
+// A state's number, kind and transition count.
+fn print_state(place: usize, accepting: u8, count: usize) {
+    print(b"state ");
+    print_number(place);
+    if accepting == 1 {
+        print(b" accepting ");
+    } else {
+        print(b" plain ");
+    }
+    print_number(count);
+    print(b"\n");
+}
+
+// State record i and its transitions, which begin at `from`; where they end.
+fn print_row(states: &[u8], i: usize, transitions: &[u8], from: usize) -> usize {
+    if MAX_TRANSITIONS < from {
+        return from;
+    }
+    if MAX_TRANSITIONS <= i {
+        return from;
+    }
+    let at = i * 4;
+    if states.len() < at + 4 {
+        return from;
+    }
+    let count = number_of(states[at], states[at + 1]);
+    print_state(i, states[at + 2], count);
+    print_transitions(transitions, from, count);
+    from + count
+}
+
+// The first n state records with their transitions.
+fn print_rows(states: &[u8], n: usize, transitions: &[u8]) {
+    let mut from = 0;
+    let mut i = 0;
+    while i < n {
+        from = print_row(states, i, transitions, from);
+        i += 1;
+    }
+}
+
+// The answer of translate, with the tables that it filled.
+fn print_translated(answer: Translated, states: &[u8], transitions: &[u8]) {
+    match answer {
+        Translated::Accepted(n, m, initial) => {
+            print(b"states ");
+            print_number(n);
+            print(b" initial ");
+            print_number(initial);
+            print(b" transitions ");
+            print_number(m);
+            print(b"\n");
+            print_rows(states, n, transitions);
+        }
+        Translated::Refused(number, place) => {
+            print_refusal(number, place);
+        }
+    }
+}
+
+// Translates the rule and prints the answer.
+pub fn show_rule(rule: &[u8]) {
+    let mut states = [0u8; STATES_BYTES];
+    let mut transitions = [0u8; TRANSITIONS_BYTES];
+    let mut initial = [0u8; INITIAL_BYTES];
+    let answer = automaton::translate(rule, &mut states, &mut transitions, &mut initial);
+    print_translated(answer, &states, &transitions);
+}
