@@ -307,7 +307,7 @@ fn write_transitions(
     r: usize,
     pairs: &[u64],
 ) -> usize
-    requires { ⌜ Filled (now table) [] × Rows (now ends) (now targets) (now marks) r (now pairs) × (length (now pairs) ≤ 96) × (length (now terms) ≡ 1024) × (49152 ≤ length (now table)) ⌝ }
+    requires { ⌜ Rows (now ends) (now targets) (now marks) r (now pairs) × (length (now pairs) ≤ 96) × (length (now terms) ≡ 1024) × (49152 ≤ length (now table)) ⌝ }
     ensures { λ count. ⌜ Adds (now (table .entry)) 0 (records (rowN (now (ends .entry)) (now (targets .entry)) (now (marks .entry)) r (now (terms .entry)) (now (pairs .entry))) (now (pairs .entry))) (now (table .exit)) count ⌝ }
 {
     let mut k = 0;

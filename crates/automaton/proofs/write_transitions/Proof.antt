@@ -21,7 +21,7 @@ write-row-requires : tie.Need-write-row-requires Inv-loop μ-loop
 write-row-requires c κs =
     let at = c .before .before in
     let s = at .before .before .before .before .before .before .before in
-    (s .pre .1, c .before .loop-test .taken, s .pre .2, s .pre .3, row-room _ _ _ _ _ _ _ _ _ _ (at .loop .inv) (omega arith) (s .pre .2) (s .pre .4))
+    (s .pre .0, c .before .loop-test .taken, s .pre .1, s .pre .2, row-room _ _ _ _ _ _ _ _ _ _ (at .loop .inv) (omega arith) (s .pre .1) (s .pre .3))
 
 add-p : tie.Need-add-p Inv-loop μ-loop
 add-p c = search needs
@@ -34,7 +34,7 @@ loop-again c =
     let row = c .before .before in
     let at = row .before .before .before in
     let s = at .before .before .before .before .before .before .before in
-    table-steps _ _ _ _ _ _ _ _ _ _ (at .loop .inv) (omega arith) (s .pre .2) (s .pre .1) _ (row .write-row .result) (row .write-row .kept .0) (row .write-row .ensures)
+    table-steps _ _ _ _ _ _ _ _ _ _ (at .loop .inv) (omega arith) (s .pre .1) (s .pre .0) _ (row .write-row .result) (row .write-row .kept .0) (row .write-row .ensures)
 
 same-length : tie.Need-same-length Inv-loop μ-loop
 same-length c = c .before .loop .inv .size
