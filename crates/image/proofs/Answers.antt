@@ -1,0 +1,142 @@
+-- The outcomes of write and read, by the answers of their checks and what was stored.
+use mathlib.Core.Path.{_≡_, refl, sym, ap, _∙_}
+use mathlib.Core.Bool.{Bool, true, false, not, _&&_, and-eq-true-iff}
+use mathlib.Core.List.{List, _++_}
+use Prim.Native.Nat.{ℕ, _≤_, _<_}
+use native.Mathlib.Omega.{arith}
+use lib.ListN.{length, take, drop, length-drop}
+use lib.Seq.{take-append-seam}
+use lib.Dec.{leb}
+use borrow.Author.Tests.{leb-true, le-leb, lt-leb, not-true, not-false}
+use Rattle.formula.specs.Result.{Result, accepted, refused, fine}
+use Rattle.formula.proofs.Checks.{require-fine}
+use Rattle.automaton.specs.Automaton.{Automaton}
+use Rattle.automaton.specs.Translate.{Counts, outcome, tableCheck}
+use Rattle.image.specs.Image.{transitionsAt, initialAt, imageBytes}
+use Rattle.image.specs.Reader.{countsAt, countsFit, recordsCheck, readTables}
+use Rattle.image.specs.Calls.{Buffer, buffer, written, writes, reads, checks}
+use Rattle.image.specs.Steps.{joinedOver, Loads}
+use Rattle.image.proofs.Before.{not-both}
+use Rattle.image.proofs.Tests.{Small, counts-small}
+use Rattle.image.proofs.Tables.{Bytes, drop-bytes, Passed, counts-back, states-back, transitions-back, initial-back, image-back, image-length}
+use Rattle.image.proofs.Contents.{Contents, contents-fine, bodiesCheck, read-of, checks-of, checks-refused}
+
+-- tables of the sizes that 25 asks for
+pub record Long (s t i : List ℕ) : Type 0 where
+  pub states : 384 ≤ length s
+  pub transitions : 49152 ≤ length t
+  pub initial : 192 ≤ length i
+
+module _ (s t i : List ℕ) where
+  abbrev sizes : Bool
+  sizes = leb 384 (length s) && (leb 49152 (length t) && leb 192 (length i))
+
+  tables-short : {r : Bool} → r ≡ sizes → not r ≡ true → tableCheck s t i ≡ refused 25 0
+  unfolding tableCheck
+  tables-short {r} e f = rw (← e, not-true r f)
+
+  tables-fine : {r : Bool} → r ≡ sizes → not r ≡ false → tableCheck s t i ≡ fine
+  unfolding tableCheck
+  tables-fine {r} e f = rw (← e, not-false r f)
+
+  pub long-fine : tableCheck s t i ≡ fine → Long s t i
+  unfolding tableCheck
+  long-fine e =
+      let tests = and-eq-true-iff (leb 384 (length s)) _ .0 (require-fine sizes 25 0 e) in
+      let rest = and-eq-true-iff (leb 49152 (length t)) _ .0 (tests .1) in
+      record { states = leb-true 384 (length s) (tests .0); transitions = leb-true 49152 (length t) (rest .0); initial = leb-true 192 (length i) (rest .1) }
+
+  pub tables-long : {r : Bool} → r ≡ sizes → not r ≡ false → Long s t i
+  tables-long e f = long-fine (tables-fine e f)
+
+  -- such tables have room for the records of counts that fit
+  pub long-passed : (c : Counts) → Small c → Long s t i → Bytes s → Bytes t → Bytes i → recordsCheck c s t i ≡ fine → Passed c s t i
+  long-passed c small long bs bt bi checked = record {
+    state-bytes = bs;
+    transition-bytes = bt;
+    initial-bytes = bi;
+    state-room = omega (arith, small .states, long .states);
+    transition-room = omega (arith, small .transitions, long .transitions);
+    initial-room = omega (arith, small .initial, long .initial);
+    checked = checked;
+  }
+
+-- the writer, its tests in their order
+module _ (c : Counts) (s t i image : List ℕ) {r : Bool} (fit : r ≡ (leb 384 (length s) && (leb 49152 (length t) && leb 192 (length i)))) where
+  pub write-short : not r ≡ true → buffer (refused 25 0) image ≡ writes c s t i image
+  unfolding writes
+  write-short f = rw (tables-short s t i fit f)
+
+  module _ (long : not r ≡ false) where
+    pub buffer-short : length image < 49746 → buffer (refused 25 0) image ≡ writes c s t i image
+    unfolding writes
+    buffer-short lt = rw (tables-fine s t i fit long, lt-leb 49746 (length image) lt)
+
+    module _ (room : 49746 ≤ length image) {q : Bool} (counted : q ≡ countsFit c) where
+      pub counts-refused : not q ≡ true → buffer (refused 10 0) image ≡ writes c s t i image
+      unfolding writes
+      counts-refused f = rw (tables-fine s t i fit long, le-leb 49746 (length image) room, ← counted, not-true q f)
+
+      module _ (few : not q ≡ false) where
+        pub records-refused : {number place : ℕ} → refused number place ≡ recordsCheck c s t i → buffer (refused number place) image ≡ writes c s t i image
+        unfolding writes readTables
+        records-refused e = rw (tables-fine s t i fit long, le-leb 49746 (length image) room, ← counted, not-false q few, ← e)
+
+        pub write-accepted : {w : Buffer} → Bytes s → Bytes t → Bytes i → recordsCheck c s t i ≡ fine → w ≡ joinedOver c s t i image → w ≡ writes c s t i image
+        unfolding writes readTables
+        write-accepted bs bt bi checked e =
+            let small = counts-small c (sym counted ∙ not-false q few) in
+            let passed = long-passed s t i c small (tables-long s t i fit long) bs bt bi checked in
+            e ∙ rw (tables-fine s t i fit long, le-leb 49746 (length image) room, ← counted, not-false q few, checked, image-back c s t i passed, image-length c s t i passed)
+
+-- what is written when a length is answered
+pub record Writes (r : Result Automaton) (n : ℕ) (before after : List ℕ) : Type 0 where
+  pub automaton : Automaton
+  pub answer : r ≡ accepted automaton
+  pub size : n ≡ length (imageBytes automaton)
+  pub bytes : after ≡ imageBytes automaton ++ drop (length (imageBytes automaton)) before
+
+pub writes-of : (r : Result Automaton) (n : ℕ) (before after : List ℕ) → written r before ≡ buffer (accepted n) after → Writes r n before after
+writes-of (accepted a) n before after e =
+    let same : accepted (length (imageBytes a)) ≡ accepted n = ap (λ (b : Buffer). b .answer) e in
+    record { automaton = a; answer = refl; size = cc; bytes = sym (ap (λ (b : Buffer). b .image) e) }
+writes-of (refused number place) n before after e = not-both (ap (λ (b : Buffer). b .answer) e)
+
+pub written-front : {r : Result Automaton} {n : ℕ} {before after : List ℕ} (done : Writes r n before after) → take n after ≡ imageBytes (done .automaton)
+written-front {before = before} done =
+    let a = done .automaton in
+    rw (done .size, done .bytes) (take-append-seam (imageBytes a) (drop (length (imageBytes a)) before))
+
+-- the bodies of an image, as three tables
+pub body-passed : (image : List ℕ) → Contents image → Bytes image → bodiesCheck (countsAt image) image ≡ fine
+    → Passed (countsAt image) (drop 18 image) (drop (transitionsAt (countsAt image)) image) (drop (initialAt (countsAt image)) image)
+body-passed image contents bytes checked =
+    let size = contents .size in
+    record {
+      state-bytes = drop-bytes 18 image bytes;
+      transition-bytes = drop-bytes (transitionsAt (countsAt image)) image bytes;
+      initial-bytes = drop-bytes (initialAt (countsAt image)) image bytes;
+      state-room = rw (length-drop 18 image) (omega arith);
+      transition-room = rw (length-drop (transitionsAt (countsAt image)) image) (omega arith);
+      initial-room = rw (length-drop (initialAt (countsAt image)) image) (omega arith);
+      checked = checked;
+    }
+
+-- the reader, its tests in their order
+module _ (image s t i : List ℕ) {r : Bool} (fit : r ≡ (leb 384 (length s) && (leb 49152 (length t) && leb 192 (length i)))) where
+  pub read-short : not r ≡ true → outcome (refused 25 0) s t i ≡ reads image s t i
+  unfolding reads
+  read-short f = rw (tables-short s t i fit f)
+
+  module _ (long : not r ≡ false) where
+    pub read-refused : {answer : Result Counts} {number place : ℕ} → answer ≡ refused number place → answer ≡ checks image → outcome answer s t i ≡ reads image s t i
+    unfolding reads
+    read-refused told e = rw (tables-fine s t i fit long, checks-refused image (sym told ∙ e), told)
+
+    pub read-accepted : {c : Counts} {s₁ t₁ i₁ : List ℕ} → Bytes image → accepted c ≡ checks image → Loads image c s t i s₁ t₁ i₁ → outcome (accepted c) s₁ t₁ i₁ ≡ reads image s t i
+    unfolding reads
+    read-accepted {c} bytes e loads =
+        let found = checks-of image c e in
+        let parts = read-of image (found .automaton) (found .read) in
+        let passed = body-passed image (contents-fine image (parts .contents)) bytes (parts .bodies) in
+        rw (loads .states-are, loads .transitions-are, loads .initial-are, tables-fine s t i fit long, found .read, parts .automaton, counts-back _ _ _ _ (parts .bodies), states-back _ _ _ _ passed, transitions-back _ _ _ _ passed, initial-back _ _ _ _ passed, found .same)

@@ -1,0 +1,33 @@
+-- A check before an answer: where the whole is accepted the check is fine, where the whole is refused before a value
+-- the refusal is the check's.
+use mathlib.Core.Path.{_≡_, refl, sym}
+use Prim.Native.Nat.{ℕ}
+use native.Mathlib.Omega.{arith}
+use Rattle.formula.specs.Result.{Result, accepted, refused, andThen, Check, fine}
+
+-- no answer is both
+pub not-both : {A B : Type 0} {number place : ℕ} {x : A} → _≡_ {A = Result A} (refused number place) (accepted x) → B
+not-both e = let z : _≡_ {A = ℕ} 0 1 = cc in absurd (omega arith)
+
+pub record Follows {A : Type 0} (check : Check) (rest : Result A) (x : A) : Type 0 where
+  pub passed : check ≡ fine
+  pub answer : rest ≡ accepted x
+
+pub follows : {A : Type 0} (check : Check) (rest : Result A) (x : A) → andThen check (λ _. rest) ≡ accepted x → Follows check rest x
+follows (accepted u) rest x e = record { passed = refl; answer = e }
+follows (refused number place) rest x e = not-both e
+
+-- the same where the rest is a value
+pub record Passes {A : Type 0} (check : Check) (x y : A) : Type 0 where
+  pub passed : check ≡ fine
+  pub same : x ≡ y
+
+pub passes : {A : Type 0} (check : Check) (x y : A) → accepted x ≡ andThen check (λ _. accepted y) → Passes check x y
+passes check x y e =
+    let after = follows check (accepted y) x (sym e) in
+    let answer : accepted y ≡ accepted x = after .answer in
+    record { passed = after .passed; same = cc }
+
+pub refuses : {A : Type 0} (check : Check) (y : A) {number place : ℕ} → refused number place ≡ andThen check (λ _. accepted y) → refused number place ≡ check
+refuses (accepted u) y e = not-both e
+refuses (refused n p) y e = cc

@@ -1,0 +1,150 @@
+-- What a table of contents says that 10 does not refuse, and what then decides on the image.
+use mathlib.Core.Path.{_≡_, refl, sym, ap, _∙_}
+use mathlib.Core.Bool.{and-eq-true-iff}
+use mathlib.Core.List.{List}
+use Prim.Native.Nat.{ℕ, _-_, _*_}
+use native.Mathlib.Omega.{arith}
+use lib.ListN.{length, take, drop, length-drop}
+use lib.Seq.{take-all}
+use lib.Dec.{leb}
+use borrow.Author.Tests.{eqb-true}
+use Rattle.formula.specs.Result.{Result, accepted, refused, andThen, Check, fine}
+use Rattle.formula.proofs.Checks.{require-fine}
+use Rattle.automaton.specs.Automaton.{Automaton}
+use Rattle.automaton.specs.Translate.{Counts, counts, filled}
+use Rattle.image.specs.Image.{transitionsAt, initialAt, imageLength}
+use Rattle.image.specs.Reader.{numberAt, countsAt, contentsCheck, recordsCheck, automatonFrom, readTables, readImage}
+use Rattle.image.specs.Calls.{checks}
+use Rattle.image.specs.Steps.{Loads}
+use Rattle.image.proofs.Before.{not-both, follows, Passes, refuses}
+use Rattle.image.proofs.Tests.{Small, counts-small}
+use Rattle.image.proofs.Tables.{counts-back}
+
+-- an image that 10 does not refuse
+pub record Contents (image : List ℕ) : Type 0 where
+  pub kind₁ : numberAt image 0 ≡ 1
+  pub kind₂ : numberAt image 6 ≡ 2
+  pub kind₃ : numberAt image 12 ≡ 3
+  pub small : Small (countsAt image)
+  pub offset₁ : numberAt image 4 ≡ 18
+  pub offset₂ : numberAt image 10 ≡ transitionsAt (countsAt image)
+  pub offset₃ : numberAt image 16 ≡ initialAt (countsAt image)
+  pub size : length image ≡ imageLength (countsAt image)
+
+pub contents-fine : (image : List ℕ) → contentsCheck image ≡ fine → Contents image
+unfolding contentsCheck
+contents-fine image e =
+    let long = and-eq-true-iff (leb 18 (length image)) _ .0 (require-fine _ 10 0 e) in
+    let kinds = and-eq-true-iff _ _ .0 (long .1) in
+    let kind = and-eq-true-iff _ _ .0 (kinds .0) in
+    let last = and-eq-true-iff _ _ .0 (kind .1) in
+    let small = and-eq-true-iff _ _ .0 (kinds .1) in
+    let size = and-eq-true-iff _ _ .0 (small .1) in
+    let offset = and-eq-true-iff _ _ .0 (size .0) in
+    let end = and-eq-true-iff _ _ .0 (offset .1) in
+    record {
+      kind₁ = eqb-true (numberAt image 0) 1 (kind .0);
+      kind₂ = eqb-true (numberAt image 6) 2 (last .0);
+      kind₃ = eqb-true (numberAt image 12) 3 (last .1);
+      small = counts-small (countsAt image) (small .0);
+      offset₁ = eqb-true (numberAt image 4) 18 (offset .0);
+      offset₂ = eqb-true (numberAt image 10) (transitionsAt (countsAt image)) (end .0);
+      offset₃ = eqb-true (numberAt image 16) (initialAt (countsAt image)) (end .1);
+      size = eqb-true (length image) (imageLength (countsAt image)) (size .1);
+    }
+
+-- a part that goes to the end is what is left there
+part-whole : (image : List ℕ) (a : ℕ) → take (length image - a) (drop a image) ≡ drop a image
+part-whole image a = take-all (length image - a) (drop a image) (rw (length-drop a image) (omega arith))
+
+pub parts-whole : (c : Counts) (image : List ℕ) (a b d : ℕ) {r : Check} → r ≡ recordsCheck c (take (length image - a) (drop a image)) (take (length image - b) (drop b image)) (take (length image - d) (drop d image))
+    → r ≡ recordsCheck c (drop a image) (drop b image) (drop d image)
+parts-whole c image a b d e = rw (part-whole image a, part-whole image b, part-whole image d) at e
+
+pub parts-loaded : (image : List ℕ) (c : Counts) (s t i : List ℕ) {s₁ t₁ i₁ : List ℕ} → s₁ ≡ filled s (take (4 * c .states) (take (length image - 18) (drop 18 image)))
+    → t₁ ≡ filled t (take (4 * c .transitions) (take (length image - transitionsAt c) (drop (transitionsAt c) image)))
+    → i₁ ≡ filled i (take (2 * c .initial) (take (length image - initialAt c) (drop (initialAt c) image))) → Loads image c s t i s₁ t₁ i₁
+parts-loaded image c s t i es et ei =
+    record { states-are = rw (part-whole image 18) at es; transitions-are = rw (part-whole image (transitionsAt c)) at et; initial-are = rw (part-whole image (initialAt c)) at ei }
+
+-- the bodies of an image, where its contents say that they are
+abbrev pub bodiesCheck : Counts → List ℕ → Check
+bodiesCheck c image = recordsCheck c (drop 18 image) (drop (transitionsAt c) image) (drop (initialAt c) image)
+
+-- what the code knows of an image that 10 does not refuse
+pub record Sized (c : Counts) (image : List ℕ) : Type 0 where
+  pub small : Small c
+  pub size : length image ≡ imageLength c
+
+pub sized : {c : Counts} {image : List ℕ} → Passes (contentsCheck image) c (countsAt image) → Sized c image
+sized {c} {image} contents =
+    let fits = contents-fine image (contents .passed) in
+    rw (contents .same) (record { small = fits .small; size = fits .size })
+
+-- what decides on an image, in the order of the checks
+module _ (image : List ℕ) where
+  pub contents-refused : {number place : ℕ} → refused number place ≡ andThen (contentsCheck image) (λ _. accepted (countsAt image)) → refused number place ≡ checks image
+  unfolding checks readImage
+  contents-refused e = rw (← refuses (contentsCheck image) (countsAt image) e)
+
+  module _ (c : Counts) (contents : Passes (contentsCheck image) c (countsAt image)) where
+    pub bodies-refused : {number place : ℕ} → refused number place ≡ bodiesCheck c image → refused number place ≡ checks image
+    unfolding checks readImage readTables
+    bodies-refused e =
+        let f = rw (contents .same) at e in
+        rw (contents .passed, ← f)
+
+    pub image-read : bodiesCheck c image ≡ fine → readImage image ≡ accepted (automatonFrom c (drop 18 image) (drop (transitionsAt c) image) (drop (initialAt c) image))
+    unfolding readImage readTables
+    image-read e =
+        let f = rw (contents .same) at e in
+        rw (contents .passed, f, contents .same)
+
+    pub image-accepted : bodiesCheck c image ≡ fine → accepted c ≡ checks image
+    unfolding checks
+    image-accepted e = rw (image-read e, counts-back c (drop 18 image) (drop (transitionsAt c) image) (drop (initialAt c) image) e)
+
+-- an image that is read says what its contents and its bodies are
+pub record Read (image : List ℕ) (a : Automaton) : Type 0 where
+  pub contents : contentsCheck image ≡ fine
+  pub bodies : bodiesCheck (countsAt image) image ≡ fine
+  pub automaton : a ≡ automatonFrom (countsAt image) (drop 18 image) (drop (transitionsAt (countsAt image)) image) (drop (initialAt (countsAt image)) image)
+
+pub read-of : (image : List ℕ) (a : Automaton) → readImage image ≡ accepted a → Read image a
+unfolding readImage readTables
+read-of image a e =
+    let first = follows (contentsCheck image) _ a e in
+    let second = follows (bodiesCheck (countsAt image) image) _ a (first .answer) in
+    let same = second .answer in
+    record { contents = first .passed; bodies = second .passed; automaton = cc }
+
+-- and so does one that check accepts
+pub record Checks (image : List ℕ) (c : Counts) : Type 0 where
+  pub automaton : Automaton
+  pub read : readImage image ≡ accepted automaton
+  pub same : c ≡ countsAt image
+
+pub checks-of : (image : List ℕ) (c : Counts) → accepted c ≡ checks image → Checks image c
+unfolding checks
+checks-of image c e = go (readImage image) refl e
+  where
+    go : (r : Result Automaton) → readImage image ≡ r → accepted c ≡ andThen r (λ a. accepted (counts a)) → Checks image c
+    go (accepted a) p e =
+        let parts = read-of image a p in
+        let back = counts-back (countsAt image) (drop 18 image) (drop (transitionsAt (countsAt image)) image) (drop (initialAt (countsAt image)) image) (parts .bodies) in
+        let counted : c ≡ counts a = cc in
+        record { automaton = a; read = p; same = counted ∙ ap counts (parts .automaton) ∙ back }
+    go (refused number place) p e = not-both (sym e)
+
+pub checks-sized : (image : List ℕ) (c : Counts) → accepted c ≡ checks image → Sized c image
+checks-sized image c e =
+    let found = checks-of image c e in
+    sized (record { passed = read-of image (found .automaton) (found .read) .contents; same = found .same })
+
+pub checks-refused : (image : List ℕ) {number place : ℕ} → refused number place ≡ checks image → readImage image ≡ refused number place
+unfolding checks
+checks-refused image {number} {place} e = go (readImage image) e
+  where
+    go : (r : Result Automaton) → refused number place ≡ andThen r (λ a. accepted (counts a)) → r ≡ refused number place
+    go (accepted a) e = not-both e
+    go (refused n p) e = cc

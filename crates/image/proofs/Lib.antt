@@ -1,0 +1,12 @@
+-- What the proofs of several functions, and of the crates above, cite.
+pub mod Before
+pub mod Tests
+pub mod Sums
+pub mod Rising
+pub mod Stores
+pub mod Contents
+pub mod Tables
+pub mod Answers
+pub mod Agree
+pub mod Images
+pub mod RoundTrip

@@ -1,0 +1,67 @@
+-- Write and read are inverse.
+use mathlib.Core.Path.{_≡_, sym, ap, _∙_}
+use mathlib.Core.Bool.{true}
+use mathlib.Core.List.{List}
+use Prim.Native.Nat.{ℕ, _*_}
+use lib.ListN.{take}
+use Rattle.formula.specs.Result.{accepted, fine, require}
+use Rattle.formula.proofs.Checks.{require-fine}
+use Rattle.automaton.specs.Automaton.{Automaton}
+use Rattle.automaton.specs.Translate.{Counts, outcome, tableCheck, filled}
+use Rattle.image.specs.Image.{imageBytes}
+use Rattle.image.specs.Reader.{countsFit, recordsCheck, automatonFrom, readTables, readImage}
+use Rattle.image.specs.Calls.{buffer, bufferCheck, writes, reads}
+use Rattle.image.proofs.Before.{follows, passes}
+use Rattle.image.proofs.Tests.{counts-small}
+use Rattle.image.proofs.Contents.{read-of, contents-fine}
+use Rattle.image.proofs.Tables.{Bytes, Passed, counts-back, states-back, transitions-back, initial-back, image-back}
+use Rattle.image.proofs.Agree.{longer, longer-agrees, longer-bytes, longer-room, tables-agree}
+use Rattle.image.proofs.Answers.{writes-of, written-front, long-fine, long-passed, body-passed}
+use Rattle.image.proofs.Images.{joined-read, whole-image}
+
+-- Demand 2, "Its image is one fixed byte string; write and read are inverse": reading an image and writing what was
+-- read gives that image again, byte by byte. So no two images are read as one automaton.
+pub write-read : (image : List ℕ) (a : Automaton) → Bytes image → readImage image ≡ accepted a → imageBytes a ≡ image
+write-read image a bytes e =
+    let read = read-of image a e in
+    let fits = contents-fine image (read .contents) in
+    ap imageBytes (read .automaton) ∙ image-back _ _ _ _ (body-passed image fits bytes (read .bodies)) ∙ whole-image image bytes fits
+
+-- "Reading back what was written gives the same counts and used entries": the image of an automaton whose tables pass
+-- 10 (counts only) to 13 is read as that automaton, and so with its counts and its entries.
+pub read-write : (c : Counts) (s t i : List ℕ) (a : Automaton) → Bytes s → Bytes t → Bytes i → countsFit c ≡ true → readTables c s t i ≡ accepted a → readImage (imageBytes a) ≡ accepted a
+unfolding readTables
+read-write c s t i a bs bt bi fit e =
+    let s₁ = longer (4 * c .states) s in
+    let t₁ = longer (4 * c .transitions) t in
+    let i₁ = longer (2 * c .initial) i in
+    let same = tables-agree c s t i s₁ t₁ i₁ (longer-agrees (4 * c .states) s) (longer-agrees (4 * c .transitions) t) (longer-agrees (2 * c .initial) i) a e in
+    let answer = passes (recordsCheck c s₁ t₁ i₁) a (automatonFrom c s₁ t₁ i₁) (sym same) in
+    let passed : Passed c s₁ t₁ i₁ = record {
+      state-bytes = longer-bytes (4 * c .states) s bs;
+      transition-bytes = longer-bytes (4 * c .transitions) t bt;
+      initial-bytes = longer-bytes (2 * c .initial) i bi;
+      state-room = longer-room (4 * c .states) s;
+      transition-room = longer-room (4 * c .transitions) t;
+      initial-room = longer-room (2 * c .initial) i;
+      checked = answer .passed;
+    } in
+    ap readImage (ap imageBytes (answer .same) ∙ image-back c s₁ t₁ i₁ passed) ∙ joined-read c s₁ t₁ i₁ passed a fit same
+
+-- the same sentence of the two calls: where write answers n, reading the first n bytes of its buffer into tables that
+-- are long enough answers the counts that were written, and leaves there the used entries that were written, and zero
+-- behind them.
+pub reading-back : (c : Counts) (s t i before after : List ℕ) (n : ℕ) → Bytes s → Bytes t → Bytes i → writes c s t i before ≡ buffer (accepted n) after
+    → (s₁ t₁ i₁ : List ℕ) → tableCheck s₁ t₁ i₁ ≡ fine
+    → reads (take n after) s₁ t₁ i₁ ≡ outcome (accepted c) (filled s₁ (take (4 * c .states) s)) (filled t₁ (take (4 * c .transitions) t)) (filled i₁ (take (2 * c .initial) i))
+unfolding writes reads readTables
+reading-back c s t i before after n bs bt bi e s₁ t₁ i₁ long =
+    let done = writes-of _ n before after e in
+    let a = done .automaton in
+    let tables = follows (tableCheck s t i) _ a (done .answer) in
+    let room = follows (bufferCheck before) _ a (tables .answer) in
+    let counted = follows (require (countsFit c) 10 0) _ a (room .answer) in
+    let fit = require-fine (countsFit c) 10 0 (counted .passed) in
+    let answer = passes (recordsCheck c s t i) a (automatonFrom c s t i) (sym (counted .answer)) in
+    let passed = long-passed s t i c (counts-small c fit) (long-fine s t i (tables .passed)) bs bt bi (answer .passed) in
+    rw (written-front done, long, read-write c s t i a bs bt bi fit (counted .answer), answer .same, counts-back c s t i (answer .passed), states-back c s t i passed, transitions-back c s t i passed, initial-back c s t i passed)

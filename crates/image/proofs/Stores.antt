@@ -1,0 +1,139 @@
+-- What stores leave in a slice: copies, zeros, and parts that were lent.
+use mathlib.Core.Path.{_≡_, refl, _∙_}
+use mathlib.Core.List.{List, [], _∷_, _++_, append-nil, append-assoc}
+use Prim.Native.Nat.{ℕ, _+_, _-_, _*_, _/_, _%_, _≤_, _<_}
+use native.Mathlib.Nat.{zero-add}
+use native.Mathlib.Numerals.{add-one}
+use native.Mathlib.Omega.{arith}
+use lib.ListN.{length, getD, take, drop, set, replicate, length-append, length-drop, length-set, drop-of-length-le}
+use lib.Seq.{sets-eq, paste-suc, take-all, take-at, drop-at, drop-drop, drop-length, length-take-le}
+use borrow.Author.Fill.{fill-more}
+use borrow.Rule.Slice.PartMut.{midOf, putMid}
+use Rattle.automaton.specs.Records.{twoBytes}
+use Rattle.automaton.specs.Translate.{Counts, filled}
+use Rattle.formula.specs.Result.{accepted}
+use Rattle.image.specs.Image.{entry, transitionsAt, initialAt, imageLength, contents}
+use Rattle.image.specs.Calls.{buffer}
+use Rattle.image.specs.Steps.{joinedOver}
+
+-- a loop that stores vs and stands at i: the first i are stored, and the rest is as it was
+pub record Storing (xs vs : List ℕ) (n : ℕ) (ys : List ℕ) (i : ℕ) : Type 0 where
+  pub within : i ≤ n
+  pub size : length ys ≡ length xs
+  pub stored : ys ≡ take i vs ++ drop i xs
+
+module _ (xs vs : List ℕ) (n : ℕ) where
+  pub store-begins : Storing xs vs n xs 0
+  store-begins = record { within = omega arith; size = refl; stored = refl }
+
+  pub store-steps : (ys : List ℕ) (i : ℕ) → i < n → n ≤ length xs → n ≤ length vs → Storing xs vs n ys i → Storing xs vs n (set ys i (getD vs i 0)) (i + 1)
+  store-steps ys i lt room source inv = record {
+    within = omega arith;
+    size = simp length-set (inv .size);
+    stored = rw (add-one, inv .stored) (simp zero-add at (paste-suc xs 0 vs i 0 (omega arith) (omega arith)));
+  }
+
+  pub store-ends : (ys : List ℕ) (i : ℕ) → n ≤ i → Storing xs vs n ys i → ys ≡ take n vs ++ drop n xs
+  store-ends ys i le inv =
+      let e : n ≡ i = omega (arith, inv .within) in
+      rw e (inv .stored)
+
+-- a loop that stores zeros and stands at i
+pub record Clearing (xs ys : List ℕ) (i : ℕ) : Type 0 where
+  pub within : i ≤ length xs
+  pub size : length ys ≡ length xs
+  pub stored : ys ≡ replicate i 0 ++ drop i xs
+
+module _ (xs : List ℕ) where
+  pub clear-begins : Clearing xs xs 0
+  clear-begins = record { within = omega arith; size = refl; stored = refl }
+
+  pub clear-steps : (ys : List ℕ) (i : ℕ) → i < length ys → Clearing xs ys i → Clearing xs (set ys i 0) (i + 1)
+  clear-steps ys i lt inv = record {
+    within = omega (arith, inv .size);
+    size = simp length-set (inv .size);
+    stored = rw (inv .stored) (fill-more i 0 xs (omega (arith, inv .size)));
+  }
+
+  pub clear-ends : (ys : List ℕ) (i : ℕ) → length ys ≤ i → Clearing xs ys i → ys ≡ replicate (length xs) 0
+  clear-ends ys i le inv =
+      let e : i ≡ length xs = omega (arith, inv .size, inv .within) in
+      inv .stored ∙ rw (e, drop-length, append-nil)
+
+-- six stores are an entry of the contents
+pub entry-stored : (xs : List ℕ) (kind count offset : ℕ) → 6 ≤ length xs → kind < 256
+    → set (set (set (set (set (set xs 0 kind) 1 0) 2 (count % 256)) 3 (count / 256)) 4 (offset % 256)) 5 (offset / 256) ≡ entry kind count offset ++ drop 6 xs
+unfolding entry twoBytes
+entry-stored xs kind count offset le lt =
+    let low : kind % 256 ≡ kind = omega arith in
+    let high : kind / 256 ≡ 0 = omega arith in
+    rw (low, high) (sets-eq (kind ∷ (0 ∷ (count % 256 ∷ (count / 256 ∷ (offset % 256 ∷ (offset / 256 ∷ [])))))) xs 0 le)
+
+-- the part from a on of what begins with p is what was there
+module _ (p rest xs : List ℕ) (a : ℕ) (size : length p ≡ a) (whole : xs ≡ p ++ rest) where
+  pub lent-part : midOf a (length xs - a) xs ≡ rest
+  lent-part = rw (whole, drop-at p rest a size) (take-all (length (p ++ rest) - a) rest (rw (length-append p rest, size) (omega arith)))
+
+  -- and the whole, once ys came back in its place
+  pub lent-back : (ys : List ℕ) → putMid a (length xs - a) xs ys ≡ p ++ ys
+  lent-back ys =
+      rw (whole, take-at p rest a size, drop-at p rest a size, drop-of-length-le rest {i = length (p ++ rest) - a} (rw (length-append p rest, size) (omega arith)), append-nil)
+
+-- bs stored at the start of the part from a on, where the bytes before a are p
+pub lent-more : (p bs image xs ys : List ℕ) (a n : ℕ) → length p ≡ a → xs ≡ p ++ drop a image → ys ≡ bs ++ drop n (midOf a (length xs - a) xs)
+    → putMid a (length xs - a) xs ys ≡ (p ++ bs) ++ drop (a + n) image
+lent-more p bs image xs ys a n size whole e =
+    lent-back p (drop a image) xs a size whole ys ∙ rw (e, lent-part p (drop a image) xs a size whole, drop-drop n a image, append-assoc)
+
+-- a copy, and zeros in the part behind it
+pub copied-cleared : (table source xs ys : List ℕ) (n : ℕ) → n ≤ length table → n ≤ length source → xs ≡ take n source ++ drop n table
+    → ys ≡ replicate (length (midOf n (length xs - n) xs)) 0 → putMid n (length xs - n) xs ys ≡ filled table (take n source)
+copied-cleared table source xs ys n room le whole e =
+    let size : length (take n source) ≡ n = length-take-le n source le in
+    lent-back (take n source) (drop n table) xs n size whole ys ∙ rw (e, lent-part (take n source) (drop n table) xs n size whole, length-drop n table, size)
+
+-- three entries, the last two in lent parts, are the contents
+pub contents-written : (c : Counts) (image xs ys zs : List ℕ) → xs ≡ entry 1 (c .states) 18 ++ drop 6 image
+    → ys ≡ entry 2 (c .transitions) (transitionsAt c) ++ drop 6 (midOf 6 (length xs - 6) xs)
+    → zs ≡ entry 3 (c .initial) (initialAt c) ++ drop 6 (midOf 12 (length (putMid 6 (length xs - 6) xs ys) - 12) (putMid 6 (length xs - 6) xs ys))
+    → putMid 12 (length (putMid 6 (length xs - 6) xs ys) - 12) (putMid 6 (length xs - 6) xs ys) zs ≡ contents c ++ drop 18 image
+unfolding contents entry twoBytes
+contents-written c image xs ys zs first second third =
+    let one = entry 1 (c .states) 18 in
+    let two = entry 2 (c .transitions) (transitionsAt c) in
+    lent-more (one ++ two) (entry 3 (c .initial) (initialAt c)) image (putMid 6 (length xs - 6) xs ys) zs 12 6 refl (lent-more one two image xs ys 6 6 refl first second) third
+
+four-together : (a b c d : List ℕ) → ((a ++ b) ++ c) ++ d ≡ a ++ (b ++ (c ++ d))
+four-together a b c d = simp append-assoc
+
+-- and three copies in lent parts after them are an image over the buffer
+module _ (c : Counts) (s t i image xs ys zs ws : List ℕ) (state-room : 4 * c .states ≤ length s) (transition-room : 4 * c .transitions ≤ length t)
+    (first : xs ≡ contents c ++ drop 18 image) (second : ys ≡ take (4 * c .states) s ++ drop (4 * c .states) (midOf 18 (length xs - 18) xs)) where
+  abbrev us : List ℕ
+  us = putMid 18 (length xs - 18) xs ys
+
+  abbrev vs : List ℕ
+  vs = putMid (transitionsAt c) (length us - transitionsAt c) us zs
+
+  contents-length : length (contents c) ≡ 18
+  unfolding contents entry twoBytes
+  contents-length = refl
+
+  states-in : us ≡ (contents c ++ take (4 * c .states) s) ++ drop (transitionsAt c) image
+  states-in = lent-more (contents c) (take (4 * c .states) s) image xs ys 18 (4 * c .states) contents-length first second
+
+  states-end : length (contents c ++ take (4 * c .states) s) ≡ transitionsAt c
+  states-end = rw (length-append (contents c) (take (4 * c .states) s), contents-length, length-take-le (4 * c .states) s state-room)
+
+  module _ (third : zs ≡ take (4 * c .transitions) t ++ drop (4 * c .transitions) (midOf (transitionsAt c) (length us - transitionsAt c) us)) where
+    transitions-in : vs ≡ ((contents c ++ take (4 * c .states) s) ++ take (4 * c .transitions) t) ++ drop (initialAt c) image
+    transitions-in = lent-more (contents c ++ take (4 * c .states) s) (take (4 * c .transitions) t) image us zs (transitionsAt c) (4 * c .transitions) states-end states-in third
+
+    transitions-end : length ((contents c ++ take (4 * c .states) s) ++ take (4 * c .transitions) t) ≡ initialAt c
+    transitions-end = rw (length-append (contents c ++ take (4 * c .states) s) (take (4 * c .transitions) t), states-end, length-take-le (4 * c .transitions) t transition-room)
+
+    pub image-written : ws ≡ take (2 * c .initial) i ++ drop (2 * c .initial) (midOf (initialAt c) (length vs - initialAt c) vs)
+        → buffer (accepted (imageLength c)) (putMid (initialAt c) (length vs - initialAt c) vs ws) ≡ joinedOver c s t i image
+    image-written fourth =
+        let whole = lent-more ((contents c ++ take (4 * c .states) s) ++ take (4 * c .transitions) t) (take (2 * c .initial) i) image vs ws (initialAt c) (2 * c .initial) transitions-end transitions-in fourth in
+        rw (whole, four-together (contents c) (take (4 * c .states) s) (take (4 * c .transitions) t) (take (2 * c .initial) i))

@@ -1,0 +1,171 @@
+-- From the tests that the code makes to the checks of tables and images.
+use mathlib.Core.Path.{_≡_, refl}
+use mathlib.Core.Bool.{Bool, true, false, not, _&&_, and-eq-true-iff}
+use mathlib.Core.List.{List}
+use Prim.Native.Nat.{ℕ, zero, suc, _+_, _*_, _≤_, _<_}
+use native.Mathlib.Omega.{arith}
+use lib.ListN.{length, getD}
+use lib.Dec.{leb, eqb}
+use lib.Bits.{bitAnd}
+use borrow.Author.Tests.{leb-true, lt-ltb, le-ltb, le-leb, lt-leb, eq-eqb, ne-eqb, not-true, not-false}
+use Rattle.formula.specs.Result.{Result, accepted, refused, andThen, Check, fine, lowest}
+use Rattle.automaton.specs.Translate.{Counts}
+use Rattle.image.specs.Image.{transitionsAt, initialAt, imageLength}
+use Rattle.image.specs.Calls.{countsOf}
+use Rattle.image.specs.Reader.{numberAt, countsAt, countsFit, contentsCheck, stateCheck, sumCheck, transitionCheck, initialCheck, recordsCheck}
+
+-- two orders and a test in a row: the first that fails, or the last
+module _ (a x b y : ℕ) (r : Bool) where
+  pub first-fails : x < a → false ≡ (leb a x && (leb b y && r))
+  first-fails lt = rw (lt-leb a x lt)
+
+  pub second-fails : a ≤ x → y < b → false ≡ (leb a x && (leb b y && r))
+  second-fails le lt = rw (le-leb a x le, lt-leb b y lt)
+
+  pub third-left : a ≤ x → b ≤ y → r ≡ (leb a x && (leb b y && r))
+  third-left le le₂ = rw (le-leb a x le, le-leb b y le₂)
+
+-- three equations in a row, of numbers that the code has read
+module _ (x a y b z d : ℕ) where
+  pub first-differs : {x₁ : ℕ} → x₁ ≡ x → (x₁ ≡ a → ⊥) → false ≡ (eqb x a && (eqb y b && eqb z d))
+  first-differs e ne = rw (← e, ne-eqb _ a ne)
+
+  module _ {x₁ : ℕ} (e : x₁ ≡ x) (first : x₁ ≡ a) where
+    pub second-differs : {y₁ : ℕ} → y₁ ≡ y → (y₁ ≡ b → ⊥) → false ≡ (eqb x a && (eqb y b && eqb z d))
+    second-differs f ne = rw (← e, ← f, eq-eqb x₁ a first, ne-eqb _ b ne)
+
+    pub third-agrees : {y₁ z₁ : ℕ} → y₁ ≡ y → y₁ ≡ b → z₁ ≡ z → eqb z₁ d ≡ (eqb x a && (eqb y b && eqb z d))
+    third-agrees f second g = rw (← e, ← f, ← g, eq-eqb x₁ a first, eq-eqb _ b second)
+
+-- what it says of counts that they fit
+pub record Small (c : Counts) : Type 0 where
+  pub states : c .states ≤ 96
+  pub transitions : c .transitions ≤ 12288
+  pub initial : c .initial ≤ 96
+
+pub counts-small : (c : Counts) → countsFit c ≡ true → Small c
+unfolding countsFit
+counts-small c e =
+    let tests = and-eq-true-iff _ _ .0 e in
+    let rest = and-eq-true-iff _ _ .0 (tests .1) in
+    record { states = leb-true (c .states) 96 (tests .0); transitions = leb-true (c .transitions) 12288 (rest .0); initial = leb-true (c .initial) 96 (rest .1) }
+
+-- the contents of an image, by the tests in their order
+module _ (image : List ℕ) where
+  abbrev kinds : Bool
+  kinds = eqb (numberAt image 0) 1 && (eqb (numberAt image 6) 2 && eqb (numberAt image 12) 3)
+
+  abbrev offsets : Counts → Bool
+  offsets c = eqb (numberAt image 4) 18 && (eqb (numberAt image 10) (transitionsAt c) && eqb (numberAt image 16) (initialAt c))
+
+  abbrev contentsAnswer : Result Counts
+  contentsAnswer = andThen (contentsCheck image) (λ _. accepted (countsAt image))
+
+  pub image-short : length image < 18 → refused 10 0 ≡ contentsAnswer
+  unfolding contentsCheck
+  image-short lt = rw (lt-leb 18 (length image) lt)
+
+  module _ (long : 18 ≤ length image) where
+    pub kinds-wrong : {r : Bool} → r ≡ kinds → not r ≡ true → refused 10 0 ≡ contentsAnswer
+    unfolding contentsCheck
+    kinds-wrong {r} e f = rw (le-leb 18 (length image) long, ← e, not-true r f)
+
+    -- the counts as the code has read them
+    module _ {r : Bool} (known : r ≡ kinds) (passed : not r ≡ false) (a b d : ℕ) (states : a ≡ numberAt image 2) (transitions : b ≡ numberAt image 8) (initial : d ≡ numberAt image 14) where
+      pub counts-wrong : {t : Bool} → t ≡ countsFit (countsOf a b d) → not t ≡ true → refused 10 0 ≡ contentsAnswer
+      unfolding contentsCheck
+      counts-wrong {t} e f = rw (le-leb 18 (length image) long, ← known, not-false r passed, ← states, ← transitions, ← initial, ← e, not-true t f)
+
+      module _ {t : Bool} (small : t ≡ countsFit (countsOf a b d)) (fits : not t ≡ false) where
+        pub offsets-wrong : {o : Bool} → o ≡ offsets (countsOf a b d) → not o ≡ true → refused 10 0 ≡ contentsAnswer
+        unfolding contentsCheck
+        offsets-wrong {o} e f = rw (le-leb 18 (length image) long, ← known, not-false r passed, ← states, ← transitions, ← initial, ← small, not-false t fits, ← e, not-true o f)
+
+        module _ {o : Bool} (tight : o ≡ offsets (countsOf a b d)) (agree : not o ≡ false) where
+          pub length-wrong : (length image ≡ imageLength (countsOf a b d) → ⊥) → refused 10 0 ≡ contentsAnswer
+          unfolding contentsCheck
+          length-wrong ne = rw (le-leb 18 (length image) long, ← known, not-false r passed, ← states, ← transitions, ← initial, ← small, not-false t fits, ← tight, not-false o agree, ne-eqb (length image) (imageLength (countsOf a b d)) ne)
+
+          pub contents-fit : length image ≡ imageLength (countsOf a b d) → accepted (countsOf a b d) ≡ contentsAnswer
+          unfolding contentsCheck
+          contents-fit e = rw (le-leb 18 (length image) long, ← known, not-false r passed, ← states, ← transitions, ← initial, ← small, not-false t fits, ← tight, not-false o agree, eq-eqb (length image) (imageLength (countsOf a b d)) e)
+
+-- state record i
+module _ (s : List ℕ) (i : ℕ) where
+  pub count-over : 128 < numberAt s (4 * i) → refused 11 i ≡ andThen (stateCheck s i) (λ _. accepted (numberAt s (4 * i)))
+  unfolding stateCheck
+  count-over lt = rw (lt-leb (numberAt s (4 * i)) 128 lt)
+
+  module _ (small : numberAt s (4 * i) ≤ 128) where
+    pub accepting-wrong : 1 < getD s (4 * i + 2) 0 → refused 11 i ≡ andThen (stateCheck s i) (λ _. accepted (numberAt s (4 * i)))
+    unfolding stateCheck
+    accepting-wrong lt = rw (le-leb (numberAt s (4 * i)) 128 small, lt-leb (getD s (4 * i + 2) 0) 1 lt)
+
+    module _ (flag : getD s (4 * i + 2) 0 ≤ 1) where
+      pub last-wrong : (getD s (4 * i + 3) 0 ≡ 0 → ⊥) → refused 11 i ≡ andThen (stateCheck s i) (λ _. accepted (numberAt s (4 * i)))
+      unfolding stateCheck
+      last-wrong ne = rw (le-leb (numberAt s (4 * i)) 128 small, le-leb (getD s (4 * i + 2) 0) 1 flag, ne-eqb (getD s (4 * i + 3) 0) 0 ne)
+
+      pub state-fits : {n : ℕ} → getD s (4 * i + 3) 0 ≡ 0 → n ≡ numberAt s (4 * i) → accepted n ≡ andThen (stateCheck s i) (λ _. accepted (numberAt s (4 * i)))
+      unfolding stateCheck
+      state-fits e f = rw (le-leb (numberAt s (4 * i)) 128 small, le-leb (getD s (4 * i + 2) 0) 1 flag, eq-eqb (getD s (4 * i + 3) 0) 0 e, f)
+
+-- transition record i, in an automaton of n states
+module _ (n : ℕ) (t : List ℕ) (i : ℕ) where
+  pub target-wrong : n ≤ numberAt t (4 * i + 2) → refused 12 i ≡ transitionCheck n t i
+  unfolding transitionCheck
+  target-wrong le = rw (le-ltb (numberAt t (4 * i + 2)) n le)
+
+  module _ (target : numberAt t (4 * i + 2) < n) where
+    pub shared-mark : (bitAnd (getD t (4 * i) 0) (getD t (4 * i + 1) 0) ≡ 0 → ⊥) → refused 12 i ≡ transitionCheck n t i
+    unfolding transitionCheck
+    shared-mark ne = rw (lt-ltb (numberAt t (4 * i + 2)) n target, ne-eqb (bitAnd (getD t (4 * i) 0) (getD t (4 * i + 1) 0)) 0 ne)
+
+    pub transition-fits : bitAnd (getD t (4 * i) 0) (getD t (4 * i + 1) 0) ≡ 0 → fine ≡ transitionCheck n t i
+    unfolding transitionCheck
+    transition-fits e = rw (lt-ltb (numberAt t (4 * i + 2)) n target, eq-eqb (bitAnd (getD t (4 * i) 0) (getD t (4 * i + 1) 0)) 0 e)
+
+-- what initial number i is to be at least
+abbrev pub leastAt : List ℕ → ℕ → ℕ
+leastAt xs zero = 0
+leastAt xs (suc i) = numberAt xs (2 * i) + 1
+
+-- initial number i, in an automaton of n states
+module _ (n : ℕ) (xs : List ℕ) where
+  pub number-wrong : (i : ℕ) → n ≤ numberAt xs (2 * i) → refused 13 i ≡ initialCheck n xs i
+  unfolding initialCheck
+  number-wrong zero le = rw (le-ltb (numberAt xs 0) n le)
+  number-wrong (suc i) le = rw (le-ltb (numberAt xs (2 * suc i)) n le)
+
+  pub not-rising : (i : ℕ) → numberAt xs (2 * i) < n → numberAt xs (2 * i) < leastAt xs i → refused 13 i ≡ initialCheck n xs i
+  unfolding initialCheck
+  not-rising zero lt less = absurd (omega arith)
+  not-rising (suc i) lt less = rw (lt-ltb (numberAt xs (2 * suc i)) n lt, le-ltb (numberAt xs (2 * i)) (numberAt xs (2 * suc i)) (omega arith))
+
+  pub rising : (i : ℕ) → numberAt xs (2 * i) < n → leastAt xs i ≤ numberAt xs (2 * i) → fine ≡ initialCheck n xs i
+  unfolding initialCheck
+  rising zero lt le = rw (lt-ltb (numberAt xs 0) n lt)
+  rising (suc i) lt le = rw (lt-ltb (numberAt xs (2 * suc i)) n lt, lt-ltb (numberAt xs (2 * i)) (numberAt xs (2 * suc i)) (omega arith))
+
+-- the records of three tables, by the answers of their checks
+module _ (c : Counts) (s t i : List ℕ) where
+  abbrev stateAnswers : Check
+  stateAnswers = andThen (lowest (stateCheck s) (c .states)) (λ _. sumCheck c s)
+
+  regroup : recordsCheck c s t i ≡ andThen stateAnswers (λ _. andThen (lowest (transitionCheck (c .states) t) (c .transitions)) (λ _. lowest (initialCheck (c .states) i) (c .initial)))
+  unfolding recordsCheck
+  regroup = go (lowest (stateCheck s) (c .states)) (sumCheck c s) (andThen (lowest (transitionCheck (c .states) t) (c .transitions)) (λ _. lowest (initialCheck (c .states) i) (c .initial)))
+    where
+      go : (first second rest : Check) → andThen first (λ _. andThen second (λ _. rest)) ≡ andThen (andThen first (λ _. second)) (λ _. rest)
+      go (accepted u) second rest = refl
+      go (refused number place) second rest = refl
+
+  pub states-refused : {number place : ℕ} → refused number place ≡ stateAnswers → refused number place ≡ recordsCheck c s t i
+  states-refused e = rw (regroup, ← e)
+
+  module _ (fine-states : stateAnswers ≡ fine) where
+    pub transitions-refused : {number place : ℕ} → refused number place ≡ lowest (transitionCheck (c .states) t) (c .transitions) → refused number place ≡ recordsCheck c s t i
+    transitions-refused e = rw (regroup, fine-states, ← e)
+
+    pub initial-left : lowest (transitionCheck (c .states) t) (c .transitions) ≡ fine → lowest (initialCheck (c .states) i) (c .initial) ≡ recordsCheck c s t i
+    initial-left e = rw (regroup, fine-states, e)

@@ -1,0 +1,61 @@
+-- `image::check` meets its contract: the contents decide first, then the bodies, whose counts are then the contents'.
+-- Assumes nothing.
+use borrow.Author.Needs.{needs}
+use mathlib.Core.Path.{sym, ap, _∙_}
+use Rattle.formula.specs.Rule.{answer}
+use Rattle.image.specs.Reader.{countsAt, contentsCheck}
+use Rattle.image.specs.Calls.{countsOf, readAnswer}
+use Rattle.image.proofs.Before.{Passes, passes}
+use Rattle.image.proofs.Contents.{sized, contents-refused, bodies-refused, image-accepted}
+use Rattle.image.proofs.check.Statement.{statement}
+use Rattle.image.proofs.check.Tie as tie
+
+check-contents-requires : tie.Need-check-contents-requires
+check-contents-requires c κs = search needs
+
+enum-known-contents : tie.Need-enum-known-contents
+enum-known-contents c = search needs
+
+enum-told : tie.Need-enum-told
+enum-told c = search needs
+
+returns : tie.Need-returns
+returns c =
+    let told = ap readAnswer (c .enum-told .given .1) in
+    told ∙ contents-refused _ (sym told ∙ c .before .before .check-contents .ensures)
+
+-- what the contents say where they are accepted
+read : (c : tie.After-known-told) → Passes (contentsCheck (c .before .before .before .before .before .args .image .now)) (countsOf (c .before .contents .given .0 .0) (c .before .contents .given .0 .1 .0) (c .before .contents .given .0 .1 .1 .0)) (countsAt (c .before .before .before .before .before .args .image .now))
+read c = passes _ _ _ (sym (ap readAnswer (c .before .contents .given .1)) ∙ c .before .before .before .check-contents .ensures)
+
+check-bodies-requires : tie.Need-check-bodies-requires
+check-bodies-requires c κs =
+    let known = sized (read c) in
+    (known .small .states, known .small .transitions, known .small .initial, known .size)
+
+enum-known-bodies : tie.Need-enum-known-bodies
+enum-known-bodies c = search needs
+
+returns-2 : tie.Need-returns-2
+returns-2 c =
+    bodies-refused _ _ (read (c .before .before .before .before)) (sym (ap answer (c .before .bodies .given .1)) ∙ c .before .before .before .check-bodies .ensures)
+
+enum-told-2 : tie.Need-enum-told-2
+enum-told-2 c = search needs
+
+returns-3 : tie.Need-returns-3
+returns-3 c = image-accepted _ _ (read (c .before .before .before)) (sym (c .before .before .check-bodies .ensures) ∙ ap answer (c .enum-told2 .given .1))
+
+pub check-spec : {M : Type 1} → statement M
+check-spec =
+    tie.close
+    (tie.spec
+    check-contents-requires
+    enum-known-contents
+    enum-told
+    returns
+    check-bodies-requires
+    enum-known-bodies
+    returns-2
+    enum-told-2
+    returns-3)

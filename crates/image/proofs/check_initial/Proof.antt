@@ -1,0 +1,68 @@
+-- `image::check_initial` meets its contract: the numbers before i are fine, and the next is to be above the last of them (`Rising`).
+-- Assumes nothing.
+use borrow.Author.Needs.{needs}
+use native.Mathlib.Omega.{arith}
+use Prim.Native.Nat.{_-_}
+use Rattle.formula.proofs.Lowest.{pass-ends}
+use Rattle.image.proofs.Rising.{Rising, rise-begins, out-of-range, rise-fails, rise-steps}
+use Rattle.image.proofs.check_initial.Statement.{statement}
+use Rattle.image.proofs.check_initial.Tie as tie
+
+abbrev Inv-loop : tie.InvT-loop
+Inv-loop initial n state-count least₀ i₀ least i = Rising state-count initial n least i
+
+abbrev μ-loop : tie.MeasureT-loop
+μ-loop initial n state-count least₀ i₀ least i = n - i
+
+loop-holds : tie.Need-loop-holds Inv-loop μ-loop
+loop-holds c = rise-begins _ _ _
+
+mul-number-at : tie.Need-mul-number-at Inv-loop μ-loop
+mul-number-at c = search needs
+
+number-at-requires : tie.Need-number-at-requires Inv-loop μ-loop
+number-at-requires c κs = search needs
+
+returns : tie.Need-returns Inv-loop μ-loop
+returns c =
+    let at = c .before .before .before in
+    out-of-range _ _ _ _ (at .loop .i) _ (omega arith) (at .loop .inv) (c .before .number-at .ensures) (omega arith)
+
+returns-2 : tie.Need-returns-2 Inv-loop μ-loop
+returns-2 c =
+    let at = c .before .before .before .before in
+    rise-fails _ _ _ _ (at .loop .i) _ (omega arith) (at .loop .inv) (c .before .before .number-at .ensures) (omega arith) (omega arith)
+
+add-least : tie.Need-add-least Inv-loop μ-loop
+add-least c = search needs
+
+add-i : tie.Need-add-i Inv-loop μ-loop
+add-i c = search needs
+
+loop-less : tie.Need-loop-less Inv-loop μ-loop
+loop-less c = search needs
+
+loop-again : tie.Need-loop-again Inv-loop μ-loop
+loop-again c =
+    let at = c .before .before .before .before in
+    rise-steps _ _ _ _ (at .loop .i) _ (omega arith) (at .loop .inv) (c .before .before .number-at .ensures) (omega arith) (omega arith)
+
+returns-3 : tie.Need-returns-3 Inv-loop μ-loop
+returns-3 c = pass-ends _ _ (c .before .loop .i) (omega arith) (c .before .loop .inv .passing)
+
+pub check-initial-spec : {M : Type 1} → statement M
+check-initial-spec =
+    tie.close
+    (tie.spec
+    Inv-loop
+    μ-loop
+    loop-holds
+    mul-number-at
+    number-at-requires
+    returns
+    returns-2
+    add-least
+    add-i
+    loop-less
+    loop-again
+    returns-3)

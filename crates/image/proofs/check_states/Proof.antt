@@ -1,0 +1,78 @@
+-- `image::check_states` meets its contract: no record before i is refused, and the total is that of their counts (`Summing`).
+-- Assumes nothing.
+use borrow.Author.Needs.{needs}
+use native.Mathlib.Omega.{arith}
+use Prim.Native.Nat.{_-_}
+use mathlib.Core.Path.{sym, ap, _∙_}
+use Rattle.image.specs.Steps.{stateAnswer}
+use Rattle.image.proofs.Sums.{Summing, sum-begins, sum-steps, sum-fails, sum-differs, sum-agrees}
+use Rattle.image.proofs.check_states.Statement.{statement}
+use Rattle.image.proofs.check_states.Tie as tie
+
+abbrev Inv-loop : tie.InvT-loop
+Inv-loop states n transition-count total₀ i₀ total i = Summing states n total i
+
+abbrev μ-loop : tie.MeasureT-loop
+μ-loop states n transition-count total₀ i₀ total i = n - i
+
+loop-holds : tie.Need-loop-holds Inv-loop μ-loop
+loop-holds c = sum-begins _ _
+
+check-state-requires : tie.Need-check-state-requires Inv-loop μ-loop
+check-state-requires c κs = search needs
+
+enum-known-state : tie.Need-enum-known-state Inv-loop μ-loop
+enum-known-state c = search needs
+
+enum-told : tie.Need-enum-told Inv-loop μ-loop
+enum-told c = search needs
+
+returns : tie.Need-returns Inv-loop μ-loop
+returns c =
+    let at = c .before .before .before .before in
+    sum-fails _ _ (at .loop .i) _ (omega arith) (at .loop .inv) _ _ (sym (ap (stateAnswer (at .loop .i)) (c .enum-told .given .1)) ∙ c .before .before .check-state .ensures)
+
+add-total : tie.Need-add-total Inv-loop μ-loop
+add-total c =
+    let at = c .before .before .before .before .before in
+    let next = sum-steps _ _ (at .loop .i) _ (omega arith) (at .loop .inv) _ (sym (ap (stateAnswer (at .loop .i)) (c .before .state .given .1)) ∙ c .before .before .before .check-state .ensures) in
+    omega (arith, next .most, next .passing .within)
+
+add-i : tie.Need-add-i Inv-loop μ-loop
+add-i c = search needs
+
+loop-less : tie.Need-loop-less Inv-loop μ-loop
+loop-less c = search needs
+
+loop-again : tie.Need-loop-again Inv-loop μ-loop
+loop-again c =
+    let at = c .before .before .before .before .before in
+    sum-steps _ _ (at .loop .i) _ (omega arith) (at .loop .inv) _ (sym (ap (stateAnswer (at .loop .i)) (c .before .state .given .1)) ∙ c .before .before .before .check-state .ensures)
+
+returns-2 : tie.Need-returns-2 Inv-loop μ-loop
+returns-2 c =
+    let at = c .before .before in
+    sum-differs _ _ (at .loop .i) _ _ (omega arith) (at .loop .inv) (c .if1 .taken)
+
+returns-3 : tie.Need-returns-3 Inv-loop μ-loop
+returns-3 c =
+    let at = c .before .before in
+    sum-agrees _ _ (at .loop .i) _ _ (omega arith) (at .loop .inv) (c .if1 .left)
+
+pub check-states-spec : {M : Type 1} → statement M
+check-states-spec =
+    tie.close
+    (tie.spec
+    Inv-loop
+    μ-loop
+    loop-holds
+    check-state-requires
+    enum-known-state
+    enum-told
+    returns
+    add-total
+    add-i
+    loop-less
+    loop-again
+    returns-2
+    returns-3)

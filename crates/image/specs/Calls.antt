@@ -1,0 +1,65 @@
+-- The calls write and read: answer, place and every lent byte, for every input.
+use Prim.Native.Nat.{ℕ}
+use mathlib.Core.List.{List, _++_}
+use lib.ListN.{length, drop}
+use lib.Dec.{leb}
+use Rattle.formula.specs.Result.{Result, accepted, refused, andThen, Check, require}
+use Rattle.automaton.specs.Automaton.{Automaton}
+use Rattle.automaton.specs.Records.{stateRecords, transitionRecords, initialRecords}
+use Rattle.automaton.specs.Translate.{Counts, counts, Outcome, outcome, tableCheck, filled}
+use Rattle.image.specs.declared.Written.{Written}
+use Rattle.image.specs.declared.Written.the-variants.{Length, Refused}
+use Rattle.image.specs.declared.Loaded.{Loaded}
+use Rattle.image.specs.declared.Loaded.the-variants.{Counted, Rejected}
+use Rattle.image.specs.Image.{imageBytes}
+use Rattle.image.specs.Reader.{countsFit, readTables, readImage}
+
+-- three numbers as counts
+abbrev pub countsOf : (states transitions initial : ℕ) → Counts
+countsOf states transitions initial = record { states = states; transitions = transitions; initial = initial }
+
+-- what the answer of write says in document 01's numbers and values
+abbrev pub writeAnswer : Written → Result ℕ
+writeAnswer (Length n) = accepted n
+writeAnswer (Refused number place) = refused number place
+
+-- an answer, and the lent buffer afterwards
+pub record Buffer : Type 0 where
+  pub answer : Result ℕ
+  pub image : List ℕ
+
+abbrev pub buffer : Result ℕ → List ℕ → Buffer
+buffer a image = record { answer = a; image = image }
+
+-- "25 .. or an image buffer under 49,746 bytes for writing"
+abbrev pub bufferCheck : List ℕ → Check
+bufferCheck image = require (leb 49746 (length image)) 25 0
+
+-- "Writing leaves the bytes behind the image as they were."; a refusal leaves all
+abbrev pub written : Result Automaton → (image : List ℕ) → Buffer
+written (accepted a) image = buffer (accepted (length (imageBytes a))) (imageBytes a ++ drop (length (imageBytes a)) image)
+written (refused number place) image = buffer (refused number place) image
+
+-- 25; "The writer checks its tables by 10 (counts only) to 13."
+unfoldable pub writes : Counts → (states transitions initial image : List ℕ) → Buffer
+writes c s t i image =
+    written (andThen (tableCheck s t i) (λ _. andThen (bufferCheck image) (λ _. andThen (require (countsFit c) 10 0) (λ _. readTables c s t i)))) image
+
+-- what the answer of read says in document 01's numbers and values
+abbrev pub readAnswer : Loaded → Result Counts
+readAnswer (Counted states transitions initial) = accepted (countsOf states transitions initial)
+readAnswer (Rejected number place) = refused number place
+
+-- the counts, the records, and zero in all unused places; a refusal leaves all as it was
+abbrev pub loaded : Result Automaton → (states transitions initial : List ℕ) → Outcome
+loaded (accepted a) s t i =
+    outcome (accepted (counts a)) (filled s (stateRecords a)) (filled t (transitionRecords a)) (filled i (initialRecords a))
+loaded (refused number place) s t i = outcome (refused number place) s t i
+
+-- 25, then 10 to 13
+unfoldable pub reads : (image states transitions initial : List ℕ) → Outcome
+reads image s t i = loaded (andThen (tableCheck s t i) (λ _. readImage image)) s t i
+
+-- what the call check says of an image: its counts, or its refusal by 10 to 13
+unfoldable pub checks : List ℕ → Result Counts
+checks image = andThen (readImage image) (λ a. accepted (counts a))

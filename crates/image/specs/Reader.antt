@@ -1,0 +1,90 @@
+-- What a reader says of any bytes: refusals 10 to 13, or the automaton.
+use Prim.Native.Nat.{ℕ, zero, suc, _+_, _*_}
+use mathlib.Core.List.{List, [], _∷_}
+use mathlib.Core.Bool.{Bool, not, _&&_, _||_}
+use lib.ListN.{getD, length, drop}
+use lib.Dec.{eqb, leb, ltb}
+use lib.Bits.{bitAnd}
+use Rattle.formula.specs.Result.{Result, accepted, andThen, Check, require, lowest}
+use Rattle.automaton.specs.Automaton.{Transition, State, Automaton}
+use Rattle.automaton.specs.Translate.{Counts}
+use Rattle.image.specs.Image.{transitionsAt, initialAt, imageLength}
+
+-- "Numbers are 16-bit, low byte first": the one at place i
+abbrev pub numberAt : List ℕ → ℕ → ℕ
+numberAt bytes i = getD bytes i 0 + 256 * getD bytes (i + 1) 0
+
+-- the counts that an image's contents give
+abbrev pub countsAt : List ℕ → Counts
+countsAt image = record { states = numberAt image 2; transitions = numberAt image 8; initial = numberAt image 14 }
+
+-- "a count above 96, 12,288 or 96"
+unfoldable pub countsFit : Counts → Bool
+countsFit c = leb (c .states) 96 && (leb (c .transitions) 12288 && leb (c .initial) 96)
+
+-- "10: image under 18 bytes, wrong kinds, a count above 96, 12,288 or 96, a wrong offset or length. Place 0."
+unfoldable pub contentsCheck : List ℕ → Check
+contentsCheck image =
+    require (leb 18 (length image) && ((eqb (numberAt image 0) 1 && (eqb (numberAt image 6) 2 && eqb (numberAt image 12) 3)) && (countsFit (countsAt image) && ((eqb (numberAt image 4) 18 && (eqb (numberAt image 10) (transitionsAt (countsAt image)) && eqb (numberAt image 16) (initialAt (countsAt image)))) && eqb (length image) (imageLength (countsAt image)))))) 10 0
+
+-- "11: state record with a wrong byte or a count above 128"
+unfoldable pub stateCheck : List ℕ → ℕ → Check
+stateCheck states i =
+    require (leb (numberAt states (4 * i)) 128 && (leb (getD states (4 * i + 2) 0) 1 && eqb (getD states (4 * i + 3) 0) 0)) 11 i
+
+-- the transition counts of the first n state records, added up
+unfoldable pub countSum : List ℕ → ℕ → ℕ
+countSum states zero = 0
+countSum states (suc n) = countSum states n + numberAt states (4 * n)
+
+-- "or (place: the number of states) counts that don't add up"
+abbrev pub sumCheck : Counts → List ℕ → Check
+sumCheck c states = require (eqb (countSum states (c .states)) (c .transitions)) 11 (c .states)
+
+-- "12: target not a state, or must and not share a mark."
+unfoldable pub transitionCheck : (stateCount : ℕ) → List ℕ → ℕ → Check
+transitionCheck stateCount transitions i =
+    require (ltb (numberAt transitions (4 * i + 2)) stateCount && eqb (bitAnd (getD transitions (4 * i) 0) (getD transitions (4 * i + 1) 0)) 0) 12 i
+
+-- "13: initial number out of range or not above the one before."
+unfoldable pub initialCheck : (stateCount : ℕ) → List ℕ → ℕ → Check
+initialCheck stateCount initial zero = require (ltb (numberAt initial 0) stateCount) 13 0
+initialCheck stateCount initial (suc i) =
+    require (ltb (numberAt initial (2 * suc i)) stateCount && ltb (numberAt initial (2 * i)) (numberAt initial (2 * suc i))) 13 (suc i)
+
+-- 11 to 13 of three tables, "Place the lowest such entry."
+unfoldable pub recordsCheck : Counts → (states transitions initial : List ℕ) → Check
+recordsCheck c states transitions initial =
+    andThen (lowest (stateCheck states) (c .states))
+    (λ _. andThen (sumCheck c states)
+    (λ _. andThen (lowest (transitionCheck (c .states) transitions) (c .transitions)) (λ _. lowest (initialCheck (c .states) initial) (c .initial))))
+
+-- the first n transition records
+unfoldable pub transitionsFrom : ℕ → List ℕ → List Transition
+transitionsFrom zero bytes = []
+transitionsFrom (suc n) bytes =
+    record { must = getD bytes 0 0; mustNot = getD bytes 1 0; target = numberAt bytes 2 } ∷ transitionsFrom n (drop 4 bytes)
+
+-- the first n state records, each with its transitions: "Transitions, grouped by state"
+unfoldable pub statesFrom : ℕ → (states transitions : List ℕ) → List State
+statesFrom zero states transitions = []
+statesFrom (suc n) states transitions =
+    record { accepting = eqb (getD states 2 0) 1; transitions = transitionsFrom (numberAt states 0) transitions } ∷ statesFrom n (drop 4 states) (drop (4 * numberAt states 0) transitions)
+
+unfoldable pub numbersFrom : ℕ → List ℕ → List ℕ
+numbersFrom zero bytes = []
+numbersFrom (suc n) bytes = numberAt bytes 0 ∷ numbersFrom n (drop 2 bytes)
+
+unfoldable pub automatonFrom : Counts → (states transitions initial : List ℕ) → Automaton
+automatonFrom c states transitions initial =
+    record { states = statesFrom (c .states) states transitions; initial = numbersFrom (c .initial) initial }
+
+-- the automaton of three tables, or its refusal by 11 to 13
+unfoldable pub readTables : Counts → (states transitions initial : List ℕ) → Result Automaton
+readTables c states transitions initial =
+    andThen (recordsCheck c states transitions initial) (λ _. accepted (automatonFrom c states transitions initial))
+
+-- the automaton of an image, or its refusal by 10 to 13
+unfoldable pub readImage : List ℕ → Result Automaton
+readImage image =
+    andThen (contentsCheck image) (λ _. readTables (countsAt image) (drop 18 image) (drop (transitionsAt (countsAt image)) image) (drop (initialAt (countsAt image)) image))

@@ -1,0 +1,471 @@
+// The image of an automaton: the calls write and read, and check, which looks at an image and stores nothing.
+use automaton::INITIAL_BYTES;
+use automaton::MAX_STATES;
+use automaton::MAX_TRANSITIONS;
+use automaton::STATES_BYTES;
+use automaton::TABLE_TOO_SHORT;
+use automaton::TRANSITIONS_BYTES;
+use formula::Checked;
+ghost use mathlib.Core.Path.{_≡_};
+ghost use mathlib.Core.Bool.{_&&_};
+ghost use mathlib.Core.List.{_++_};
+ghost use Prim.Native.Nat.{_+_, _*_, _<_, _≤_};
+ghost use lib.Dec.{eqb, leb};
+ghost use lib.ListN.{length, take, drop, replicate};
+ghost use Rattle.formula.specs.Result.{accepted, andThen, require, lowest};
+ghost use Rattle.formula.specs.Rule.{answer};
+ghost use Rattle.automaton.specs.Translate.{outcome, filled};
+ghost use Rattle.image.specs.Image.{entry, transitionsAt, initialAt, imageLength, contents};
+ghost use Rattle.image.specs.Reader.{numberAt, countsAt, countsFit, contentsCheck, stateCheck, countSum, transitionCheck, initialCheck, recordsCheck};
+ghost use Rattle.image.specs.Calls.{countsOf, writeAnswer, buffer, writes, readAnswer, reads, checks};
+ghost use Rattle.image.specs.Steps.{stateAnswer, joinedOver, Loads};
+
+// The numbers of document 01 by which an image or tables are refused.
+pub const BAD_CONTENTS: u8 = 10;
+
+pub const BAD_STATE: u8 = 11;
+
+pub const BAD_TRANSITION: u8 = 12;
+
+pub const BAD_INITIAL: u8 = 13;
+
+// The table of contents takes 18 bytes, a whole image at most 49,746.
+pub const CONTENTS_BYTES: usize = 18;
+
+pub const IMAGE_BYTES: usize = 49746;
+
+// The most initial states, and the most transitions of one state.
+pub const MAX_INITIAL: usize = 96;
+
+pub const MAX_OF_STATE: usize = 128;
+
+// The answer of write: the image's length, or a refusal's number and place.
+pub enum Written {
+    Length(usize),
+    Refused(u8, usize),
+}
+
+// The answer of read: how many states, transitions and initial states, or a refusal's number and place.
+pub enum Loaded {
+    Counted(usize, usize, usize),
+    Rejected(u8, usize),
+}
+
+// The transition count of a state record, or that the record is refused.
+enum StateCount {
+    Count(usize),
+    Wrong,
+}
+
+// A byte as a number.
+fn wide(x: u8) -> usize
+    ensures { λ r. ⌜ r ≡ x ⌝ }
+{
+    x as usize
+}
+
+// The number at place i, low byte first.
+fn number_at(bytes: &[u8], i: usize) -> usize
+    requires { ⌜ i + 1 < length (now bytes) ⌝ }
+    ensures { λ r. ⌜ r ≡ numberAt (now (bytes .entry)) i ⌝ }
+{
+    wide(bytes[i]) + 256 * wide(bytes[i + 1])
+}
+
+// The lengths of three lent tables against 25.
+fn tables_fit(states: usize, transitions: usize, initial: usize) -> bool
+    ensures { λ r. ⌜ r ≡ (leb 384 states && (leb 49152 transitions && leb 192 initial)) ⌝ }
+{
+    if states < STATES_BYTES {
+        return false;
+    }
+    if transitions < TRANSITIONS_BYTES {
+        return false;
+    }
+    INITIAL_BYTES <= initial
+}
+
+// The counts against 10.
+fn counts_fit(states: usize, transitions: usize, initial: usize) -> bool
+    ensures { λ r. ⌜ r ≡ countsFit (countsOf states transitions initial) ⌝ }
+{
+    if MAX_STATES < states {
+        return false;
+    }
+    if MAX_TRANSITIONS < transitions {
+        return false;
+    }
+    initial <= MAX_INITIAL
+}
+
+// The transition count of state record i, unless 11 refuses it.
+fn check_state(states: &[u8], i: usize) -> StateCount
+    requires { ⌜ 4 * i + 3 < length (now states) ⌝ }
+    ensures { λ r. ⌜ stateAnswer i r ≡ andThen (stateCheck (now (states .entry)) i) (λ _. accepted (numberAt (now (states .entry)) (4 * i))) ⌝ }
+{
+    let count = number_at(states, 4 * i);
+    if MAX_OF_STATE < count {
+        return StateCount::Wrong;
+    }
+    if 1 < states[4 * i + 2] {
+        return StateCount::Wrong;
+    }
+    if states[4 * i + 3] != 0 {
+        return StateCount::Wrong;
+    }
+    StateCount::Count(count)
+}
+
+// 11 for the first n state records, whose counts are to add up to transition_count.
+fn check_states(states: &[u8], n: usize, transition_count: usize) -> Checked
+    requires { ⌜ (n ≤ 96) × (4 * n ≤ length (now states)) ⌝ }
+    ensures { λ r. ⌜ answer r ≡ andThen (lowest (stateCheck (now (states .entry))) n) (λ _. require (eqb (countSum (now (states .entry)) n) «transition_count») 11 n) ⌝ }
+{
+    let mut total = 0;
+    let mut i = 0;
+    while i < n {
+        let state = check_state(states, i);
+        let StateCount::Count(count) = state else {
+            return Checked::Refused(BAD_STATE, i);
+        };
+        total += count;
+        i += 1;
+    }
+    if total != transition_count {
+        return Checked::Refused(BAD_STATE, n);
+    }
+    Checked::Accepted
+}
+
+// 12 for transition record i.
+fn check_transition(transitions: &[u8], i: usize, state_count: usize) -> Checked
+    requires { ⌜ 4 * i + 3 < length (now transitions) ⌝ }
+    ensures { λ r. ⌜ answer r ≡ transitionCheck «state_count» (now (transitions .entry)) i ⌝ }
+{
+    if state_count <= number_at(transitions, 4 * i + 2) {
+        return Checked::Refused(BAD_TRANSITION, i);
+    }
+    let must = transitions[4 * i];
+    let must_not = transitions[4 * i + 1];
+    if must & must_not != 0 {
+        return Checked::Refused(BAD_TRANSITION, i);
+    }
+    Checked::Accepted
+}
+
+// 12 for the first n transition records.
+fn check_transitions(transitions: &[u8], n: usize, state_count: usize) -> Checked
+    requires { ⌜ 4 * n ≤ length (now transitions) ⌝ }
+    ensures { λ r. ⌜ answer r ≡ lowest (transitionCheck «state_count» (now (transitions .entry))) n ⌝ }
+{
+    let mut i = 0;
+    while i < n {
+        let transition = check_transition(transitions, i, state_count);
+        if let Checked::Refused(number, place) = transition {
+            return Checked::Refused(number, place);
+        }
+        i += 1;
+    }
+    Checked::Accepted
+}
+
+// 13 for the first n initial numbers. The next is to be at least one above the one before.
+fn check_initial(initial: &[u8], n: usize, state_count: usize) -> Checked
+    requires { ⌜ 2 * n ≤ length (now initial) ⌝ }
+    ensures { λ r. ⌜ answer r ≡ lowest (initialCheck «state_count» (now (initial .entry))) n ⌝ }
+{
+    let mut least = 0;
+    let mut i = 0;
+    while i < n {
+        let number = number_at(initial, 2 * i);
+        if state_count <= number {
+            return Checked::Refused(BAD_INITIAL, i);
+        }
+        if number < least {
+            return Checked::Refused(BAD_INITIAL, i);
+        }
+        least = number + 1;
+        i += 1;
+    }
+    Checked::Accepted
+}
+
+// 11 to 13 of three tables.
+fn check_records(
+    states: &[u8],
+    state_count: usize,
+    transitions: &[u8],
+    transition_count: usize,
+    initial: &[u8],
+    initial_count: usize,
+) -> Checked
+    requires { ⌜ («state_count» ≤ 96) × (4 * «state_count» ≤ length (now states)) × (4 * «transition_count» ≤ length (now transitions)) × (2 * «initial_count» ≤ length (now initial)) ⌝ }
+    ensures { λ r. ⌜ answer r ≡ recordsCheck (countsOf «state_count» «transition_count» «initial_count») (now (states .entry)) (now (transitions .entry)) (now (initial .entry)) ⌝ }
+{
+    let first = check_states(states, state_count, transition_count);
+    if let Checked::Refused(number, place) = first {
+        return Checked::Refused(number, place);
+    }
+    let second = check_transitions(transitions, transition_count, state_count);
+    if let Checked::Refused(number, place) = second {
+        return Checked::Refused(number, place);
+    }
+    check_initial(initial, initial_count, state_count)
+}
+
+// The kinds of the three entries against 10.
+fn kinds_fit(image: &[u8]) -> bool
+    requires { ⌜ 18 ≤ length (now image) ⌝ }
+    ensures { λ r. ⌜ r ≡ (eqb (numberAt (now (image .entry)) 0) 1 && (eqb (numberAt (now (image .entry)) 6) 2 && eqb (numberAt (now (image .entry)) 12) 3)) ⌝ }
+{
+    if number_at(image, 0) != 1 {
+        return false;
+    }
+    if number_at(image, 6) != 2 {
+        return false;
+    }
+    number_at(image, 12) == 3
+}
+
+// The offsets of the three entries against 10: bodies without gaps.
+fn offsets_fit(image: &[u8], transitions_at: usize, initial_at: usize) -> bool
+    requires { ⌜ 18 ≤ length (now image) ⌝ }
+    ensures { λ r. ⌜ r ≡ (eqb (numberAt (now (image .entry)) 4) 18 && (eqb (numberAt (now (image .entry)) 10) «transitions_at» && eqb (numberAt (now (image .entry)) 16) «initial_at»)) ⌝ }
+{
+    if number_at(image, 4) != CONTENTS_BYTES {
+        return false;
+    }
+    if number_at(image, 10) != transitions_at {
+        return false;
+    }
+    number_at(image, 16) == initial_at
+}
+
+// The counts of an image, unless 10 refuses it.
+fn check_contents(image: &[u8]) -> Loaded
+    ensures { λ r. ⌜ readAnswer r ≡ andThen (contentsCheck (now (image .entry))) (λ _. accepted (countsAt (now (image .entry)))) ⌝ }
+{
+    if image.len() < CONTENTS_BYTES {
+        return Loaded::Rejected(BAD_CONTENTS, 0);
+    }
+    if !kinds_fit(image) {
+        return Loaded::Rejected(BAD_CONTENTS, 0);
+    }
+    let states = number_at(image, 2);
+    let transitions = number_at(image, 8);
+    let initial = number_at(image, 14);
+    if !counts_fit(states, transitions, initial) {
+        return Loaded::Rejected(BAD_CONTENTS, 0);
+    }
+    let transitions_at = CONTENTS_BYTES + 4 * states;
+    let initial_at = transitions_at + 4 * transitions;
+    if !offsets_fit(image, transitions_at, initial_at) {
+        return Loaded::Rejected(BAD_CONTENTS, 0);
+    }
+    if image.len() != initial_at + 2 * initial {
+        return Loaded::Rejected(BAD_CONTENTS, 0);
+    }
+    Loaded::Counted(states, transitions, initial)
+}
+
+// 11 to 13 of an image that has its contents and its length.
+fn check_bodies(image: &[u8], states: usize, transitions: usize, initial: usize) -> Checked
+    requires { ⌜ (states ≤ 96) × (transitions ≤ 12288) × (initial ≤ 96) × (length (now image) ≡ imageLength (countsOf states transitions initial)) ⌝ }
+    ensures { λ r. ⌜ answer r ≡ recordsCheck (countsOf states transitions initial) (drop 18 (now (image .entry))) (drop (transitionsAt (countsOf states transitions initial)) (now (image .entry))) (drop (initialAt (countsOf states transitions initial)) (now (image .entry))) ⌝ }
+{
+    let transitions_at = CONTENTS_BYTES + 4 * states;
+    let initial_at = transitions_at + 4 * transitions;
+    check_records(
+        &image[CONTENTS_BYTES..],
+        states,
+        &image[transitions_at..],
+        transitions,
+        &image[initial_at..],
+        initial,
+    )
+}
+
+// 10 to 13 of any bytes; on acceptance the counts.
+pub fn check(image: &[u8]) -> Loaded
+    ensures { λ r. ⌜ readAnswer r ≡ checks (now (image .entry)) ⌝ }
+{
+    let contents = check_contents(image);
+    let Loaded::Counted(states, transitions, initial) = contents else {
+        return contents;
+    };
+    let bodies = check_bodies(image, states, transitions, initial);
+    if let Checked::Refused(number, place) = bodies {
+        return Loaded::Rejected(number, place);
+    }
+    Loaded::Counted(states, transitions, initial)
+}
+
+// The first n bytes of source in the first places of target.
+fn copy(target: &mut [u8], source: &[u8], n: usize)
+    requires { ⌜ (n ≤ length (now target)) × (n ≤ length (now source)) ⌝ }
+    ensures { λ _. ⌜ now (target .exit) ≡ take n (now (source .entry)) ++ drop n (now (target .entry)) ⌝ }
+{
+    let mut k = 0;
+    while k < n {
+        target[k] = source[k];
+        k += 1;
+    }
+}
+
+// Zero in every place.
+fn clear(bytes: &mut [u8])
+    ensures { λ _. ⌜ now (bytes .exit) ≡ replicate (length (now (bytes .entry))) 0 ⌝ }
+{
+    let mut i = 0;
+    while i < bytes.len() {
+        bytes[i] = 0;
+        i += 1;
+    }
+}
+
+// The first n bytes of source in a table, and zero behind them.
+fn load(table: &mut [u8], source: &[u8], n: usize)
+    requires { ⌜ (n ≤ length (now table)) × (n ≤ length (now source)) ⌝ }
+    ensures { λ _. ⌜ now (table .exit) ≡ filled (now (table .entry)) (take n (now (source .entry))) ⌝ }
+{
+    copy(table, source, n);
+    clear(&mut table[n..]);
+}
+
+// The bodies of an image in three tables.
+fn load_bodies(
+    image: &[u8],
+    state_count: usize,
+    transition_count: usize,
+    initial_count: usize,
+    states: &mut [u8],
+    transitions: &mut [u8],
+    initial: &mut [u8],
+)
+    requires { ⌜ («state_count» ≤ 96) × («transition_count» ≤ 12288) × («initial_count» ≤ 96) × (length (now image) ≡ imageLength (countsOf «state_count» «transition_count» «initial_count»)) × (384 ≤ length (now states)) × (49152 ≤ length (now transitions)) × (192 ≤ length (now initial)) ⌝ }
+    ensures { λ _. ⌜ Loads (now (image .entry)) (countsOf «state_count» «transition_count» «initial_count») (now (states .entry)) (now (transitions .entry)) (now (initial .entry)) (now (states .exit)) (now (transitions .exit)) (now (initial .exit)) ⌝ }
+{
+    let transitions_at = CONTENTS_BYTES + 4 * state_count;
+    let initial_at = transitions_at + 4 * transition_count;
+    load(states, &image[CONTENTS_BYTES..], 4 * state_count);
+    load(transitions, &image[transitions_at..], 4 * transition_count);
+    load(initial, &image[initial_at..], 2 * initial_count);
+}
+
+// 25, then 10 to 13; the whole image is looked at before anything is stored.
+pub fn read(image: &[u8], states: &mut [u8], transitions: &mut [u8], initial: &mut [u8]) -> Loaded
+    ensures { λ r. ⌜ outcome (readAnswer r) (now (states .exit)) (now (transitions .exit)) (now (initial .exit)) ≡ reads (now (image .entry)) (now (states .entry)) (now (transitions .entry)) (now (initial .entry)) ⌝ }
+{
+    if !tables_fit(states.len(), transitions.len(), initial.len()) {
+        return Loaded::Rejected(TABLE_TOO_SHORT, 0);
+    }
+    let found = check(image);
+    let Loaded::Counted(state_count, transition_count, initial_count) = found else {
+        return found;
+    };
+    load_bodies(
+        image,
+        state_count,
+        transition_count,
+        initial_count,
+        states,
+        transitions,
+        initial,
+    );
+    Loaded::Counted(state_count, transition_count, initial_count)
+}
+
+// An entry of the table of contents in the first six places.
+fn write_entry(bytes: &mut [u8], kind: u8, count: usize, offset: usize)
+    requires { ⌜ (6 ≤ length (now bytes)) × (count < 65536) × (offset < 65536) ⌝ }
+    ensures { λ _. ⌜ now (bytes .exit) ≡ entry kind count offset ++ drop 6 (now (bytes .entry)) ⌝ }
+{
+    bytes[0] = kind;
+    bytes[1] = 0;
+    bytes[2] = (count % 256) as u8;
+    bytes[3] = (count / 256) as u8;
+    bytes[4] = (offset % 256) as u8;
+    bytes[5] = (offset / 256) as u8;
+}
+
+// The table of contents in the first 18 places.
+fn write_contents(image: &mut [u8], states: usize, transitions: usize, initial: usize)
+    requires { ⌜ (18 ≤ length (now image)) × (states ≤ 96) × (transitions ≤ 12288) × (initial ≤ 96) ⌝ }
+    ensures { λ _. ⌜ now (image .exit) ≡ contents (countsOf states transitions initial) ++ drop 18 (now (image .entry)) ⌝ }
+{
+    let transitions_at = CONTENTS_BYTES + 4 * states;
+    let initial_at = transitions_at + 4 * transitions;
+    write_entry(image, 1, states, CONTENTS_BYTES);
+    write_entry(&mut image[6..], 2, transitions, transitions_at);
+    write_entry(&mut image[12..], 3, initial, initial_at);
+}
+
+// The contents first, then each body in the part of the buffer that begins where it lies; the image's length.
+fn write_image(
+    states: &[u8],
+    state_count: usize,
+    transitions: &[u8],
+    transition_count: usize,
+    initial: &[u8],
+    initial_count: usize,
+    image: &mut [u8],
+) -> usize
+    requires { ⌜ («state_count» ≤ 96) × («transition_count» ≤ 12288) × («initial_count» ≤ 96) × (384 ≤ length (now states)) × (49152 ≤ length (now transitions)) × (192 ≤ length (now initial)) × (49746 ≤ length (now image)) ⌝ }
+    ensures { λ r. ⌜ buffer (accepted r) (now (image .exit)) ≡ joinedOver (countsOf «state_count» «transition_count» «initial_count») (now (states .entry)) (now (transitions .entry)) (now (initial .entry)) (now (image .entry)) ⌝ }
+{
+    let transitions_at = CONTENTS_BYTES + 4 * state_count;
+    let initial_at = transitions_at + 4 * transition_count;
+    write_contents(image, state_count, transition_count, initial_count);
+    copy(&mut image[CONTENTS_BYTES..], states, 4 * state_count);
+    copy(
+        &mut image[transitions_at..],
+        transitions,
+        4 * transition_count,
+    );
+    copy(&mut image[initial_at..], initial, 2 * initial_count);
+    initial_at + 2 * initial_count
+}
+
+// 25, then 10 to 13 of the tables; on acceptance the image's length.
+pub fn write(
+    states: &[u8],
+    state_count: usize,
+    transitions: &[u8],
+    transition_count: usize,
+    initial: &[u8],
+    initial_count: usize,
+    image: &mut [u8],
+) -> Written
+    ensures { λ r. ⌜ buffer (writeAnswer r) (now (image .exit)) ≡ writes (countsOf «state_count» «transition_count» «initial_count») (now (states .entry)) (now (transitions .entry)) (now (initial .entry)) (now (image .entry)) ⌝ }
+{
+    if !tables_fit(states.len(), transitions.len(), initial.len()) {
+        return Written::Refused(TABLE_TOO_SHORT, 0);
+    }
+    if image.len() < IMAGE_BYTES {
+        return Written::Refused(TABLE_TOO_SHORT, 0);
+    }
+    if !counts_fit(state_count, transition_count, initial_count) {
+        return Written::Refused(BAD_CONTENTS, 0);
+    }
+    let records = check_records(
+        states,
+        state_count,
+        transitions,
+        transition_count,
+        initial,
+        initial_count,
+    );
+    if let Checked::Refused(number, place) = records {
+        return Written::Refused(number, place);
+    }
+    let n = write_image(
+        states,
+        state_count,
+        transitions,
+        transition_count,
+        initial,
+        initial_count,
+        image,
+    );
+    Written::Length(n)
+}
