@@ -65,7 +65,7 @@ fn wide(x: u8) -> usize
 }
 
 // The number at place i, low byte first.
-fn number_at(bytes: &[u8], i: usize) -> usize
+pub fn number_at(bytes: &[u8], i: usize) -> usize
     requires { ⌜ i + 1 < length (now bytes) ⌝ }
     ensures { λ r. ⌜ r ≡ numberAt (now (bytes .entry)) i ⌝ }
 {
@@ -313,7 +313,7 @@ fn copy(target: &mut [u8], source: &[u8], n: usize)
 }
 
 // Zero in every place.
-fn clear(bytes: &mut [u8])
+pub fn clear(bytes: &mut [u8])
     ensures { λ _. ⌜ now (bytes .exit) ≡ replicate (length (now (bytes .entry))) 0 ⌝ }
 {
     let mut i = 0;

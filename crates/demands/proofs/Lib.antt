@@ -1,0 +1,5 @@
+-- The demands as theorems.
+pub mod Rows
+pub mod ReadRecords
+pub mod ImageAccepted
+pub mod Verdict

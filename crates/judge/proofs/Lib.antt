@@ -1,0 +1,14 @@
+-- What the proofs of several functions cite, and why the search is right.
+pub mod Bits
+pub mod Rows
+pub mod Gathers
+pub mod Records
+pub mod Turns
+pub mod Letters
+pub mod Closure
+pub mod Decisions
+pub mod Runs
+pub mod Marking
+pub mod Passes
+pub mod Verdict
+pub mod Accepted

@@ -1,0 +1,375 @@
+-- The marks of a pass, put together, are exactly the runs over one or more passes: a state that is reached when a pass
+-- begins and comes back to itself through an accepting state is an accepting pass, and every accepting pass shows so.
+use Prim.Native.Nat.{ℕ, zero, suc, _+_, _-_, _*_, _%_, _<_, _≤_}
+use mathlib.Core.Path.{_≡_, refl, sym, _∙_, ap, subst}
+use mathlib.Core.List.{List}
+use mathlib.Core.Logic.{_⊎_, inl, inr}
+use native.Mathlib.Omega.{arith}
+use native.Mathlib.Nat.{mod-eq-of-lt, mul-add-mod-self-right, mul-le-mul-right}
+use native.Mathlib.Decide.{ℕ-discrete, decLt}
+use lib.ListN.{length, getD}
+use borrow.Author.Tests.{lt-ltb, le-ltb}
+use Rattle.formula.specs.Lasso.{letter}
+use Rattle.automaton.specs.Automaton.{Automaton, In, Step, Accepts, AcceptingPass}
+use Rattle.judge.specs.Marks.{Lifted, After, Linked, one, join, joinMet}
+use Rattle.judge.proofs.Runs.{Leads, Meets, leads-as, meets-as, leads-on, on-early, on-late}
+use Rattle.judge.proofs.Marking.{Marked, MarkedMet, low-runs, high-runs, run-marks, met-marks}
+
+-- ---- the letters of a lasso
+
+module _ (stem cycle : List ℕ) where
+  -- the cycle round and round
+  abbrev pub round : ℕ → ℕ
+  round i = getD cycle (i % length cycle) 0
+
+  letter-stem : (i : ℕ) → i < length stem → letter stem cycle i ≡ getD stem i 0
+  unfolding letter
+  letter-stem i lt = rw (lt-ltb i (length stem) lt)
+
+  letter-round : (i : ℕ) → letter stem cycle (length stem + i) ≡ round i
+  unfolding letter
+  letter-round i =
+      let z : length stem + i - length stem ≡ i = omega arith in
+      rw (le-ltb (length stem + i) (length stem) (omega arith)) (ap round z)
+
+  round-first : (i : ℕ) → i < length cycle → round i ≡ getD cycle i 0
+  round-first i lt = ap (λ (j : ℕ). getD cycle j 0) (mod-eq-of-lt lt)
+
+  round-later : (e i : ℕ) → round (e * length cycle + i) ≡ round i
+  round-later e i = ap (λ (j : ℕ). getD cycle j 0) (mul-add-mod-self-right e (length cycle) i)
+
+-- ---- what the rows hold, step by step
+
+module _ (a : Automaton) (n : ℕ) (stem cycle : List ℕ) where
+  abbrev pub Initial : (q k : ℕ) → Type 0
+  Initial q k = In q (a .initial) × (k ≡ 96)
+
+  -- after the stem
+  abbrev pub Stemmed : (q k : ℕ) → Type 0
+  Stemmed q k = After a (λ i. getD stem i 0) Initial (length stem) q k
+
+  -- each state marked with its own number, and the accepting ones lifted
+  abbrev pub Placed : (q k : ℕ) → Type 0
+  Placed q k = Stemmed q k ⊎ ((q < n) × (k ≡ q))
+
+  abbrev pub Begun : (q k : ℕ) → Type 0
+  Begun q k = Placed q k ⊎ (Accepts a q × Lifted Placed q k)
+
+  -- after one pass
+  abbrev pub Passed : (q k : ℕ) → Type 0
+  Passed q k = After a (λ i. getD cycle i 0) Begun (length cycle) q k
+
+  abbrev word : ℕ → ℕ
+  word = letter stem cycle
+
+  abbrev turn : ℕ → ℕ
+  turn = round stem cycle
+
+  -- a run from an initial state to q, over the stem and the letters behind it
+  record FromStart (d q : ℕ) : Type 0 where
+    pub start : ℕ
+    pub initial : In start (a .initial)
+    pub run : Leads a word (length stem + d) start q
+
+  module _ (few : n ≤ 96) where
+    -- ---- the marks of one pass are runs
+
+    stemmed-low : (q k : ℕ) → k < 96 → Stemmed q k → ⊥
+    stemmed-low q k lt h =
+        let m : Marked a (λ i. getD stem i 0) Initial (length stem) q k = low-runs a (λ i. getD stem i 0) Initial (length stem) (omega arith) h in
+        omega (arith, m .held .1)
+
+    stemmed-high : (q k p : ℕ) → p < 96 → k ≡ 128 + p → Stemmed q k → ⊥
+    stemmed-high q k p lt e h = go (high-runs a (λ i. getD stem i 0) Initial (length stem) p (omega arith) e h)
+      where
+        go : Marked a (λ i. getD stem i 0) Initial (length stem) q (128 + p) ⊎ MarkedMet a (λ i. getD stem i 0) Initial (length stem) q p → ⊥
+        go (inl m) = omega (arith, m .held .1)
+        go (inr m) = omega (arith, m .held .1)
+
+    placed-low : (q p : ℕ) → p < 96 → Placed q p → q ≡ p
+    placed-low q p lt (inl h) = absurd (stemmed-low q p lt h)
+    placed-low q p lt (inr (l, e)) = sym e
+
+    begun-low : (q p : ℕ) → p < 96 → Begun q p → q ≡ p
+    begun-low q p lt (inl h) = placed-low q p lt h
+    begun-low q p lt (inr (acc, l)) = absurd (omega (arith, l .high))
+
+    begun-high : (q p : ℕ) → p < 96 → Begun q (128 + p) → (q ≡ p) × Accepts a q
+    begun-high q p lt (inl (inl h)) = absurd (stemmed-high q (128 + p) p lt refl h)
+    begun-high q p lt (inl (inr (l, e))) = absurd (omega arith)
+    begun-high q p lt (inr (acc, l)) =
+        let e : l .low ≡ p = omega (arith, l .high) in
+        (placed-low q (l .low) (omega arith) (l .held) ∙ e, acc)
+
+    passed-low : {q p : ℕ} → p < 96 → Passed q p → Leads a (λ i. getD cycle i 0) (length cycle) p q
+    passed-low {q} {p} lt h =
+        let m : Marked a (λ i. getD cycle i 0) Begun (length cycle) q p = low-runs a (λ i. getD cycle i 0) Begun (length cycle) (omega arith) h in
+        subst (λ (s : ℕ). Leads a (λ i. getD cycle i 0) (length cycle) s q) (begun-low (m .start) p lt (m .held)) (m .run)
+
+    passed-high : {q : ℕ} (p : ℕ) → p < 96 → Passed q (128 + p) → Meets a (λ i. getD cycle i 0) 0 (length cycle) p q
+    passed-high {q} p lt h = go (high-runs a (λ i. getD cycle i 0) Begun (length cycle) p (omega arith) refl h)
+      where
+        from : {s : ℕ} → s ≡ p → Meets a (λ i. getD cycle i 0) 0 (length cycle) s q → Meets a (λ i. getD cycle i 0) 0 (length cycle) p q
+        from e m = subst (λ (s : ℕ). Meets a (λ i. getD cycle i 0) 0 (length cycle) s q) e m
+
+        go : Marked a (λ i. getD cycle i 0) Begun (length cycle) q (128 + p) ⊎ MarkedMet a (λ i. getD cycle i 0) Begun (length cycle) q p → Meets a (λ i. getD cycle i 0) 0 (length cycle) p q
+        go (inl m) =
+            let b = begun-high (m .start) p lt (m .held) in
+            from (b .0) (record { run = m .run; place = 0; after = omega arith; before = omega arith; accepts = rw (m .run .from) (b .1) })
+        go (inr m) = from (begun-low (m .start) p lt (m .held)) (record { run = m .run .run; place = m .run .place; after = omega arith; before = m .run .before; accepts = m .run .accepts })
+
+    passed-start : {q : ℕ} → Passed q 96 → FromStart (length cycle) q
+    passed-start {q} h = go (m .held)
+      where
+        m : Marked a (λ i. getD cycle i 0) Begun (length cycle) q 96
+        m = low-runs a (λ i. getD cycle i 0) Begun (length cycle) (omega arith) h
+
+        made : Marked a (λ i. getD stem i 0) Initial (length stem) (m .start) 96 → FromStart (length cycle) q
+        made b = record {
+          start = b .start;
+          initial = b .held .0;
+          run = leads-on a (λ i lt. sym (letter-round stem cycle i ∙ round-first stem cycle i lt)) (leads-as a (λ i lt. sym (letter-stem stem cycle i lt)) (b .run)) (m .run);
+        }
+
+        go : Begun (m .start) 96 → FromStart (length cycle) q
+        go (inl (inl b)) = made (low-runs a (λ i. getD stem i 0) Initial (length stem) (omega arith) b)
+        go (inl (inr (l, e))) = absurd (omega arith)
+        go (inr (acc, l)) = absurd (omega (arith, l .high))
+
+    -- ---- and so are those of several
+
+    -- what bit k of row q says once passes are put together
+    record Means (q k : ℕ) : Type 0 where
+      pub runs : k < 96 → (e : ℕ) × Leads a turn (suc e * length cycle) k q
+      pub starts : k ≡ 96 → (e : ℕ) × FromStart (suc e * length cycle) q
+      pub mets : (p : ℕ) → p < 96 → k ≡ 128 + p → (e : ℕ) × Meets a turn 0 (suc e * length cycle) p q
+
+    once : (P : ℕ → Type 0) → P (length cycle) → (e : ℕ) × P (suc e * length cycle)
+    once P h =
+        let z : length cycle ≡ 1 * length cycle = omega arith in
+        (0, subst P z h)
+
+    more : (P : ℕ → Type 0) (d e : ℕ) → P (suc d * length cycle + suc e * length cycle) → (e : ℕ) × P (suc e * length cycle)
+    more P d e h =
+        let z : suc d * length cycle + suc e * length cycle ≡ suc (d + suc e) * length cycle = omega arith in
+        (d + suc e, subst P z h)
+
+    in-turn : (i : ℕ) → i < length cycle → getD cycle i 0 ≡ turn i
+    in-turn i lt = sym (round-first stem cycle i lt)
+
+    means-one : (q k : ℕ) → Passed q k → Means q k
+    means-one q k h = record {
+      runs = λ lt. once (λ d. Leads a turn d k q) (leads-as a in-turn (passed-low lt h));
+      starts = λ e. once (λ d. FromStart d q) (passed-start (subst (λ (j : ℕ). Passed q j) e h));
+      mets = λ p lt e. once (λ d. Meets a turn 0 d p q) (meets-as a in-turn (passed-high p lt (subst (λ (j : ℕ). Passed q j) e h)));
+    }
+
+    -- a run on through further passes
+    later : (d i : ℕ) → turn i ≡ turn (suc d * length cycle + i)
+    later d i = sym (round-later stem cycle (suc d) i)
+
+    later-word : (d i : ℕ) → turn i ≡ word (length stem + suc d * length cycle + i)
+    later-word d i =
+        let z : length stem + (suc d * length cycle + i) ≡ length stem + suc d * length cycle + i = omega arith in
+        later d i ∙ sym (letter-round stem cycle (suc d * length cycle + i)) ∙ ap word z
+
+    runs-on : {p m q : ℕ} → (d : ℕ) × Leads a turn (suc d * length cycle) p m → (e : ℕ) × Leads a turn (suc e * length cycle) m q → (e : ℕ) × Leads a turn (suc e * length cycle) p q
+    runs-on {p} {m} {q} (d, f) (e, g) = more (λ c. Leads a turn c p q) d e (leads-on a (λ i lt. later d i) f g)
+
+    start-on : {m q : ℕ} → (d : ℕ) × FromStart (suc d * length cycle) m → (e : ℕ) × Leads a turn (suc e * length cycle) m q → (e : ℕ) × FromStart (suc e * length cycle) q
+    start-on {m} {q} (d, f) (e, g) =
+        let z : length stem + suc d * length cycle + suc e * length cycle ≡ length stem + (suc d * length cycle + suc e * length cycle) = omega arith in
+        more (λ c. FromStart c q) d e (record {
+          start = f .start;
+          initial = f .initial;
+          run = subst (λ (c : ℕ). Leads a word c (f .start) q) z (leads-on a (λ i lt. later-word d i) (f .run) g);
+        })
+
+    met-on : {p m q : ℕ} → (d : ℕ) × Meets a turn 0 (suc d * length cycle) p m → (e : ℕ) × Leads a turn (suc e * length cycle) m q → (e : ℕ) × Meets a turn 0 (suc e * length cycle) p q
+    met-on {p} {m} {q} (d, f) (e, g) = more (λ c. Meets a turn 0 c p q) d e (record {
+      run = leads-on a (λ i lt. later d i) (f .run) g;
+      place = f .place;
+      after = omega arith;
+      before = omega (arith, f .before);
+      accepts = rw (on-early a (λ i lt. later d i) (f .run) g (f .place) (f .before)) (f .accepts);
+    })
+
+    on-met : {p m q : ℕ} → (d : ℕ) × Leads a turn (suc d * length cycle) p m → (e : ℕ) × Meets a turn 0 (suc e * length cycle) m q → (e : ℕ) × Meets a turn 0 (suc e * length cycle) p q
+    on-met {p} {m} {q} (d, f) (e, g) = more (λ c. Meets a turn 0 c p q) d e (record {
+      run = leads-on a (λ i lt. later d i) f (g .run);
+      place = suc d * length cycle + g .place;
+      after = omega arith;
+      before = omega (arith, g .before);
+      accepts = rw (on-late a (λ i lt. later d i) f (g .run) (g .place)) (g .accepts);
+    })
+
+    means : {q k : ℕ} → Linked n Passed q k → Means q k
+    means (one q k h) = means-one q k h
+    means (join m q k lm lq b h) = put (means b) (means h)
+      where
+        put : Means q m → Means m k → Means q k
+        put f g =
+            let on = f .runs (omega arith) in
+            record {
+              runs = λ lt. runs-on (g .runs lt) on;
+              starts = λ e. start-on (g .starts e) on;
+              mets = λ p lt e. met-on (g .mets p lt e) on;
+            }
+    means (joinMet m q k lm lq lk b h) = put (means b) (means h)
+      where
+        put : Means q (128 + m) → Means m k → Means q (128 + k)
+        put f g = record {
+          runs = λ lt. absurd (omega arith);
+          starts = λ e. absurd (omega arith);
+          mets = λ p lt e.
+              let z : k ≡ p = omega arith in
+              on-met (subst (λ (j : ℕ). (e : ℕ) × Leads a turn (suc e * length cycle) j m) z (g .runs (omega arith))) (f .mets m (omega arith) refl);
+        }
+
+    pub found-pass : (q : ℕ) → q < n → Linked n Passed q 96 → Linked n Passed q (128 + q) → AcceptingPass a stem cycle
+    found-pass q lt b h = made (means b .starts refl) (means h .mets q (omega arith) refl)
+      where
+        made : (d : ℕ) × FromStart (suc d * length cycle) q → (e : ℕ) × Meets a turn 0 (suc e * length cycle) q q → AcceptingPass a stem cycle
+        made (d, f) (e, g) = record {
+          at = whole .at;
+          first = suc d;
+          second = suc d + suc e;
+          later = omega arith;
+          begins = rw (whole .from) (f .initial);
+          steps = λ i lt. whole .steps i (omega arith);
+          same = on-early a (λ i lt. later-word d i) (f .run) (g .run) (length stem + suc d * length cycle) (omega arith) ∙ f .run .to ∙ sym (ap (whole .at) z ∙ whole .to);
+          accepts = (
+            length stem + suc d * length cycle + g .place,
+            omega arith,
+            omega (arith, g .before),
+            rw (on-late a (λ i lt. later-word d i) (f .run) (g .run) (g .place)) (g .accepts),
+          );
+        }
+          where
+            z : length stem + (suc d + suc e) * length cycle ≡ length stem + suc d * length cycle + suc e * length cycle
+            z = omega arith
+
+            whole : Leads a word (length stem + suc d * length cycle + suc e * length cycle) (f .start) q
+            whole = leads-on a (λ i lt. later-word d i) (f .run) (g .run)
+
+    -- ---- runs are marks
+
+    run-passed : {q : ℕ} (p : ℕ) → p < n → Leads a (λ i. getD cycle i 0) (length cycle) p q → Passed q p
+    run-passed p lt r = run-marks a (λ i. getD cycle i 0) Begun (length cycle) (inl (inr (lt, refl))) r
+
+    met-passed : {q : ℕ} (p : ℕ) → p < n → Meets a (λ i. getD cycle i 0) 0 (length cycle) p q → Passed q (128 + p)
+    met-passed {q} p lt m = go (ℕ-discrete (m .place) 0)
+      where
+        go : Dec (m .place ≡ 0) → Passed q (128 + p)
+        go (yes e) =
+            let acc : Accepts a p = subst (λ (t : ℕ). Accepts a t) (ap (m .run .at) e ∙ m .run .from) (m .accepts) in
+            run-marks a (λ i. getD cycle i 0) Begun (length cycle) {p = p} (inr (acc, record { low = p; half = omega arith; high = refl; held = inr (lt, refl) })) (m .run)
+        go (no e) =
+            met-marks a (λ i. getD cycle i 0) Begun (length cycle) {p = p} (omega arith) (inl (inr (lt, refl))) (record { run = m .run; place = m .place; after = omega arith; before = m .before; accepts = m .accepts })
+
+    start-passed : {m q : ℕ} (p : ℕ) → In p (a .initial) → Leads a (λ i. getD stem i 0) (length stem) p m → Leads a (λ i. getD cycle i 0) (length cycle) m q → Passed q 96
+    start-passed p h r t =
+        run-marks a (λ i. getD cycle i 0) Begun (length cycle) (inl (inl (run-marks a (λ i. getD stem i 0) Initial (length stem) (h, refl) r))) t
+
+    -- ---- an accepting pass shows in the marks
+
+    module _ (inside : (q x t : ℕ) → Step a q x t → t < n) (initial : (q : ℕ) → In q (a .initial) → q < n) (pass : AcceptingPass a stem cycle) where
+      -- where pass e begins, and the state there
+      abbrev place : ℕ → ℕ
+      place e = length stem + e * length cycle
+
+      abbrev state : ℕ → ℕ
+      state e = pass .at (place e)
+
+      next : (e : ℕ) → e < pass .second → place (suc e) ≤ place (pass .second)
+      next e lt = omega (arith, mul-le-mul-right (length cycle) lt)
+
+      at-inside : (i : ℕ) → i ≤ place (pass .second) → pass .at i < n
+      at-inside zero le = initial (pass .at 0) (pass .begins)
+      at-inside (suc i) le = inside _ _ _ (pass .steps i le)
+
+      state-inside : (e : ℕ) → e ≤ pass .second → state e < n
+      state-inside e le = at-inside (place e) (omega (arith, mul-le-mul-right (length cycle) le))
+
+      stem-run : Leads a (λ i. getD stem i 0) (length stem) (pass .at 0) (state 0)
+      stem-run = record {
+        at = pass .at;
+        from = refl;
+        to = ap (pass .at) (omega arith);
+        steps = λ i lt. subst (λ (x : ℕ). Step a (pass .at i) x (pass .at (suc i))) (letter-stem stem cycle i lt) (pass .steps i (omega arith));
+      }
+
+      pass-letter : (e i : ℕ) → i < length cycle → word (place e + i) ≡ getD cycle i 0
+      pass-letter e i lt =
+          let z : place e + i ≡ length stem + (e * length cycle + i) = omega arith in
+          ap word z ∙ letter-round stem cycle (e * length cycle + i) ∙ round-later stem cycle e i ∙ round-first stem cycle i lt
+
+      pass-run : (e : ℕ) → e < pass .second → Leads a (λ i. getD cycle i 0) (length cycle) (state e) (state (suc e))
+      pass-run e lt = record {
+        at = λ i. pass .at (place e + i);
+        from = ap (pass .at) (omega arith);
+        to = ap (pass .at) (omega arith);
+        steps = λ i l.
+            let z : suc (place e + i) ≡ place e + suc i = omega arith in
+            subst (λ (t : ℕ). Step a (pass .at (place e + i)) (getD cycle i 0) t) (ap (pass .at) z)
+            (subst (λ (x : ℕ). Step a (pass .at (place e + i)) x (pass .at (suc (place e + i)))) (pass-letter e i l) (pass .steps (place e + i) (omega (arith, next e lt))));
+      }
+
+      pass-met : (e i : ℕ) → e < pass .second → place e ≤ i → i ≤ place (suc e) → Accepts a (pass .at i) → Meets a (λ i. getD cycle i 0) 0 (length cycle) (state e) (state (suc e))
+      unfolding pass-run
+      pass-met e i lt lo hi acc =
+          let z : i ≡ place e + (i - place e) = omega arith in
+          record { run = pass-run e lt; place = i - place e; after = omega arith; before = omega arith; accepts = subst (λ (j : ℕ). Accepts a (pass .at j)) z acc }
+
+      link : (e : ℕ) → e < pass .second → Linked n Passed (state (suc e)) (state e)
+      link e lt = one _ _ (run-passed (state e) (state-inside e (omega arith)) (pass-run e lt))
+
+      through : (e k : ℕ) → e < pass .second → Linked n Passed (state e) k → Linked n Passed (state (suc e)) k
+      through e k lt h = join (state e) (state (suc e)) k (state-inside e (omega arith)) (state-inside (suc e) lt) (link e lt) h
+
+      reached : (e : ℕ) → e < pass .second → Linked n Passed (state (suc e)) 96
+      reached zero lt = one _ _ (start-passed (pass .at 0) (pass .begins) stem-run (pass-run 0 lt))
+      reached (suc e) lt = through (suc e) 96 lt (reached e (omega arith))
+
+      back : (d : ℕ) → pass .first + d < pass .second → Linked n Passed (state (suc (pass .first + d))) (state (pass .first))
+      back zero lt =
+          let z : pass .first ≡ pass .first + 0 = omega arith in
+          subst (λ (e : ℕ). Linked n Passed (state (suc e)) (state (pass .first))) z (link (pass .first) (omega arith))
+      back (suc d) lt =
+          let z : suc (pass .first + d) ≡ pass .first + suc d = omega arith in
+          subst (λ (e : ℕ). Linked n Passed (state (suc e)) (state (pass .first))) z (through (suc (pass .first + d)) (state (pass .first)) (omega arith) (back d (omega arith)))
+
+      met : (d i : ℕ) → pass .first + d < pass .second → place (pass .first) ≤ i → i ≤ place (suc (pass .first + d)) → Accepts a (pass .at i)
+          → Linked n Passed (state (suc (pass .first + d))) (128 + state (pass .first))
+      met zero i lt lo hi acc =
+          let z : pass .first ≡ pass .first + 0 = omega arith in
+          subst (λ (e : ℕ). Linked n Passed (state (suc e)) (128 + state (pass .first))) z
+          (one _ _ (met-passed (state (pass .first)) (state-inside (pass .first) (omega arith)) (pass-met (pass .first) i (omega arith) lo (subst (λ (e : ℕ). i ≤ place (suc e)) (sym z) hi) acc)))
+      met (suc d) i lt lo hi acc = go (decLt (place (suc (pass .first + d))) i) (λ le. met d i (omega arith) lo le acc)
+        where
+          z : suc (pass .first + d) ≡ pass .first + suc d
+          z = omega arith
+
+          go : Dec (place (suc (pass .first + d)) < i) → (i ≤ place (suc (pass .first + d)) → Linked n Passed (state (suc (pass .first + d))) (128 + state (pass .first)))
+              → Linked n Passed (state (suc (pass .first + suc d))) (128 + state (pass .first))
+          go (yes l) below = subst (λ (e : ℕ). Linked n Passed (state (suc e)) (128 + state (pass .first))) z
+              (joinMet (state (suc (pass .first + d))) (state (suc (suc (pass .first + d)))) (state (pass .first)) (state-inside (suc (pass .first + d)) (omega arith)) (state-inside (suc (suc (pass .first + d))) (omega arith)) (omega (arith, state-inside (pass .first) (omega arith)))
+              (one _ _ (met-passed (state (suc (pass .first + d))) (state-inside (suc (pass .first + d)) (omega arith)) (pass-met (suc (pass .first + d)) i (omega arith) (omega arith) (subst (λ (e : ℕ). i ≤ place (suc e)) (sym z) hi) acc))) (back d (omega arith)))
+          go (no l) below = subst (λ (e : ℕ). Linked n Passed (state (suc e)) (128 + state (pass .first))) z (through (suc (pass .first + d)) (128 + state (pass .first)) (omega arith) (below (omega arith)))
+
+      pub pass-found : (q : ℕ) × (q < n) × (Linked n Passed q 96 × Linked n Passed q (128 + q))
+      pass-found = made (pass .accepts)
+        where
+          z : suc (pass .first + (pass .second - suc (pass .first))) ≡ pass .second
+          z = omega (arith, pass .later)
+
+          made : (i : ℕ) × (place (pass .first) ≤ i) × (i ≤ place (pass .second)) × Accepts a (pass .at i) → (q : ℕ) × (q < n) × (Linked n Passed q 96 × Linked n Passed q (128 + q))
+          made (i, lo, hi, acc) = (
+            state (pass .second),
+            state-inside (pass .second) (omega arith),
+            (
+              subst (λ (e : ℕ). Linked n Passed (state e) 96) z (reached (pass .first + (pass .second - suc (pass .first))) (omega (arith, pass .later))),
+              subst (λ (q : ℕ). Linked n Passed (state (pass .second)) (128 + q)) (pass .same)
+                  (subst (λ (e : ℕ). Linked n Passed (state e) (128 + state (pass .first))) z (met (pass .second - suc (pass .first)) i (omega (arith, pass .later)) lo (subst (λ (e : ℕ). i ≤ place e) (sym z) hi) acc)),
+            ),
+          )

@@ -1,0 +1,124 @@
+-- What each turn of the loops over records and states adds, and what the loops add together.
+use Prim.Native.Nat.{ℕ, _+_, _*_, _<_, _≤_}
+use mathlib.Core.Path.{_≡_, refl, sym, _∙_}
+use mathlib.Core.List.{List, _++_, append-nil}
+use mathlib.Core.Bool.{Bool, true, false, not}
+use native.Mathlib.Omega.{arith}
+use native.Mathlib.Numerals.{add-one}
+use lib.ListN.{length, getD, take, drop}
+use lib.Seq.{drop-length, take-all}
+use borrow.Author.Tests.{not-true, not-false}
+use Rattle.automaton.specs.Automaton.{In, reads, Step, Accepts}
+use Rattle.image.specs.Image.{initialAt}
+use Rattle.image.specs.Reader.{numberAt, countsAt, countSum}
+use Rattle.judge.specs.Marks.{Token, Lifted, Adds, machine, recordAt, recordsAt, Readable}
+use Rattle.judge.proofs.Decisions.{false-true}
+use Rattle.judge.proofs.Gathers.{adds-none, adds-as, Gathering}
+use Rattle.judge.proofs.Records.{step-taken, taken-step, accepts-inside, accepts-byte, byte-accepts, initial-number, number-initial, number-drop, records-end, target-inside, initial-inside}
+
+-- ---- a turn that a test guards
+
+-- more that holds anyway
+pub adds-if : {x y : List ℕ} {New : (q k : ℕ) → Type 0} {P : Type 0} → P → Adds x y New → Adds x y (λ q k. P × New q k)
+adds-if p adds = adds-as adds (λ q k h. (p, h)) (λ q k h. h .1)
+
+pub adds-not : {x : List ℕ} {New : (q k : ℕ) → Type 0} {P : Type 0} → (P → ⊥) → Adds x x (λ q k. P × New q k)
+adds-not np = adds-none (λ q k h. np (h .0))
+
+pub reads-not : {r t : Bool} → r ≡ t → not r ≡ true → t ≡ true → ⊥
+reads-not {r} e f g = false-true (sym (not-true r f) ∙ e ∙ g)
+
+pub reads-so : {r t : Bool} → r ≡ t → not r ≡ false → t ≡ true
+reads-so {r} e f = sym e ∙ not-false r f
+
+-- ---- all records of a state
+
+module _ (image : List ℕ) (rows : List ℕ) (q x : ℕ) where
+  abbrev pub ByRecord : (at i t k : ℕ) → Type 0
+  ByRecord at i t k = (reads (recordAt image (at + 4 * i)) x ≡ true) × ((t ≡ numberAt image (at + 4 * i + 2)) × Token rows q k)
+
+  pub all-records : (before after : List ℕ) (at n : ℕ) → q < numberAt image 2 → at ≡ recordsAt image q → n ≡ numberAt image (18 + 4 * q)
+      → Adds before after (λ t k. (i : ℕ) × (i < n) × ByRecord at i t k) → Adds before after (λ t k. Step (machine image) q x t × Token rows q k)
+  all-records before after at n lq ea en adds = adds-as adds to from
+    where
+      to : (t k : ℕ) → ((i : ℕ) × (i < n) × ByRecord at i t k) → Step (machine image) q x t × Token rows q k
+      to t k (i, lt, (r, (e, h))) = (
+        taken-step image q x t lq (record { index = i; below = rw en at lt; takes = rw ea at r; reaches = rw ea at e }),
+        h,
+      )
+
+      from : (t k : ℕ) → Step (machine image) q x t × Token rows q k → (i : ℕ) × (i < n) × ByRecord at i t k
+      from t k (s, h) =
+          let d = step-taken image q x t s in
+          (d .index, rw en (d .below), (rw ea (d .takes), (rw ea (d .reaches), h)))
+
+  pub records-next : (at n : ℕ) → at ≡ recordsAt image q → n ≡ numberAt image (18 + 4 * q) → at + 4 * n ≡ recordsAt image (q + 1)
+  unfolding countSum
+  records-next at n ea en =
+      let e : n ≡ numberAt (drop 18 image) (4 * q) = en ∙ sym (number-drop 18 image (4 * q)) in
+      rw (add-one q) (omega arith)
+
+  -- where record i of state q lies, and where it leads
+  pub transition-fits : Readable image → (at n i : ℕ) → q < numberAt image 2 → at ≡ recordsAt image q → n ≡ numberAt image (18 + 4 * q) → i < n
+      → (at + 4 * i + 3 < length image) × (4 * numberAt image (at + 4 * i + 2) + 4 ≤ 384)
+  transition-fits fine at n i lq ea en lt =
+      let e = records-end image fine q lq in
+      let t = target-inside image fine q i lq (rw en at lt) in
+      (omega arith, rw ea (omega (arith, fine .few)))
+
+  pub records-fit : Readable image → (at n : ℕ) → q < numberAt image 2 → at ≡ recordsAt image q → n ≡ numberAt image (18 + 4 * q) → at + 4 * n ≤ length image
+  records-fit fine at n lq ea en = rw (ea, en) (records-end image fine q lq)
+
+-- ---- all states
+
+-- the loop over the states that stands at q, with the records of state q at byte `at`
+pub record Stepping (image rows : List ℕ) (n x : ℕ) (before after : List ℕ) (at q : ℕ) : Type 0 where
+  pub place : at ≡ recordsAt image q
+  pub turns : Gathering before (λ p t k. Step (machine image) p x t × Token rows p k) n after q
+
+pub records-begin : (image : List ℕ) (n : ℕ) → n ≡ numberAt image 2 → 18 + 4 * n ≡ recordsAt image 0
+unfolding countSum
+records-begin image n e = omega arith
+
+pub all-lifted : (image : List ℕ) {before after held : List ℕ} (n : ℕ) → n ≡ numberAt image 2
+    → Adds before after (λ q k. (p : ℕ) × (p < n) × ((getD image (20 + 4 * p) 0 ≡ 1) × ((q ≡ p) × Lifted (Token held) p k))) → Adds before after (λ q k. Accepts (machine image) q × Lifted (Token held) q k)
+all-lifted image {before} {after} {held} n en adds = adds-as adds to from
+  where
+    to : (q k : ℕ) → ((p : ℕ) × (p < n) × ((getD image (20 + 4 * p) 0 ≡ 1) × ((q ≡ p) × Lifted (Token held) p k))) → Accepts (machine image) q × Lifted (Token held) q k
+    to q k (p, lt, (b, (e, l))) = rw e (byte-accepts image p (rw en at lt) b, l)
+
+    from : (q k : ℕ) → Accepts (machine image) q × Lifted (Token held) q k → (p : ℕ) × (p < n) × ((getD image (20 + 4 * p) 0 ≡ 1) × ((q ≡ p) × Lifted (Token held) p k))
+    from q k (a, l) = (q, rw en (accepts-inside image q a), (accepts-byte image q a, (refl, l)))
+
+pub initial-place : (image : List ℕ) {a b : ℕ} → a ≡ numberAt image 2 → b ≡ numberAt image 8 → 18 + 4 * a + 4 * b ≡ initialAt (countsAt image)
+initial-place image ea eb = rw (ea, eb)
+
+pub initial-fits : (image : List ℕ) → Readable image → (at n i : ℕ) {q : ℕ} → at ≡ initialAt (countsAt image) → n ≡ numberAt image 14 → i < n → q ≡ numberAt image (at + 2 * i) → 4 * q + 4 ≤ 384
+initial-fits image fine at n i ea en lt eq = rw (eq, ea) (omega (arith, fine .few, initial-inside image fine i (rw en at lt)))
+
+pub all-initial : (image : List ℕ) {before after : List ℕ} (n at : ℕ) → n ≡ numberAt image 14 → at ≡ initialAt (countsAt image)
+    → Adds before after (λ q k. (i : ℕ) × (i < n) × ((q ≡ numberAt image (at + 2 * i)) × (k ≡ 96))) → Adds before after (λ q k. In q (machine image .initial) × (k ≡ 96))
+all-initial image n at en ea adds = adds-as adds to from
+  where
+    to : (q k : ℕ) → ((i : ℕ) × (i < n) × ((q ≡ numberAt image (at + 2 * i)) × (k ≡ 96))) → In q (machine image .initial) × (k ≡ 96)
+    to q k (i, lt, (e, f)) = (rw (e, ea) (number-initial image i (rw en at lt)), f)
+
+    put : (q k : ℕ) → k ≡ 96 → (i : ℕ) × (i < numberAt image 14) × (q ≡ numberAt image (initialAt (countsAt image) + 2 * i)) → (i : ℕ) × (i < n) × ((q ≡ numberAt image (at + 2 * i)) × (k ≡ 96))
+    put q k f (i, lt, e) = (i, rw en lt, (rw ea e, f))
+
+    from : (q k : ℕ) → In q (machine image .initial) × (k ≡ 96) → (i : ℕ) × (i < n) × ((q ≡ numberAt image (at + 2 * i)) × (k ≡ 96))
+    from q k (h, f) = put q k f (initial-number image q h)
+
+pub all-states : {before after : List ℕ} (n : ℕ) → Adds before after (λ q k. (p : ℕ) × (p < n) × ((q ≡ p) × (k ≡ p))) → Adds before after (λ q k. (q < n) × (k ≡ q))
+all-states n adds = adds-as adds to from
+  where
+    to : (q k : ℕ) → ((p : ℕ) × (p < n) × ((q ≡ p) × (k ≡ p))) → (q < n) × (k ≡ q)
+    to q k (p, lt, (e, f)) = (omega arith, omega arith)
+
+    from : (q k : ℕ) → (q < n) × (k ≡ q) → (p : ℕ) × (p < n) × ((q ≡ p) × (k ≡ p))
+    from q k (lt, e) = (q, lt, (refl, e))
+
+-- ---- words copied
+
+pub all-copied : (x from : List ℕ) {y : List ℕ} → length x ≡ length from → y ≡ take (length x) from ++ drop (length x) x → y ≡ from
+all-copied x from e copied = copied ∙ rw (drop-length, append-nil, take-all (length x) from (omega arith))

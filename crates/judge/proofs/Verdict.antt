@@ -1,0 +1,76 @@
+-- From the rows that the search makes, one after another, to its verdict.
+use Prim.Native.Nat.{ℕ, zero, suc, _+_, _<_, _≤_}
+use mathlib.Core.Path.{_≡_}
+use mathlib.Core.List.{List}
+use mathlib.Core.Bool.{Bool}
+use mathlib.Core.Logic.{_⊎_, inl, inr}
+use lib.ListN.{length, getD, replicate}
+use Rattle.automaton.specs.Automaton.{Automaton, In, Step, Accepts, AcceptingPass}
+use Rattle.judge.specs.Marks.{Token, Lifted, Is, Adds, Decides, After, Linked, one, join, joinMet, Found}
+use Rattle.judge.proofs.Rows.{none-set}
+use Rattle.judge.proofs.Letters.{moved-map}
+use Rattle.judge.proofs.Passes.{Passed, found-pass, pass-found}
+
+-- what follows from less follows from more
+after-map : (a : Automaton) (w : ℕ → ℕ) {P Q : (q k : ℕ) → Type 0} → ((q k : ℕ) → P q k → Q q k) → (i q k : ℕ) → After a w P i q k → After a w Q i q k
+after-map a w f zero q k h = f q k h
+after-map a w f (suc i) q k h = moved-map a (w i) (after-map a w f i) h
+
+linked-map : (n : ℕ) {P Q : (q k : ℕ) → Type 0} → ((q k : ℕ) → P q k → Q q k) → {q k : ℕ} → Linked n P q k → Linked n Q q k
+linked-map n f (one q k h) = one q k (f q k h)
+linked-map n f (join m q k lm lq b h) = join m q k lm lq (linked-map n f b) (linked-map n f h)
+linked-map n f (joinMet m q k lm lq lk b h) = joinMet m q k lm lq lk (linked-map n f b) (linked-map n f h)
+
+lifted-map : {P Q : (q k : ℕ) → Type 0} → ((q k : ℕ) → P q k → Q q k) → (q k : ℕ) → Lifted P q k → Lifted Q q k
+lifted-map f q k l = record { low = l .low; half = l .half; high = l .high; held = f q (l .low) (l .held) }
+
+⊎-map : {A B C D : Type 0} → (A → B) → (C → D) → A ⊎ C → B ⊎ D
+⊎-map f g (inl h) = inl (f h)
+⊎-map f g (inr h) = inr (g h)
+
+-- rows by what the rows before them hold
+is-initial : {rows : List ℕ} {New : (q k : ℕ) → Type 0} (m : ℕ) → Adds (replicate m 0) rows New → Is rows New
+is-initial {rows} {New} m adds = record { only = λ q k h. go q k (adds .only q k h); all = λ q k h. adds .all q k (inr h) }
+  where
+    go : (q k : ℕ) → Token (replicate m 0) q k ⊎ New q k → New q k
+    go q k (inl h) = absurd (none-set m q k h)
+    go q k (inr h) = h
+
+is-after : (a : Automaton) (w : ℕ → ℕ) (d : ℕ) {x y : List ℕ} {P : (q k : ℕ) → Type 0} → Is x P → Is y (After a w (Token x) d) → Is y (After a w P d)
+is-after a w d p is = record {
+  only = λ q k h. after-map a w (p .only) d q k (is .only q k h);
+  all = λ q k h. is .all q k (after-map a w (p .all) d q k h);
+}
+
+is-more : {x y : List ℕ} {P New : (q k : ℕ) → Type 0} → Is x P → Adds x y New → Is y (λ q k. P q k ⊎ New q k)
+is-more p adds = record {
+  only = λ q k h. ⊎-map (p .only q k) (λ n. n) (adds .only q k h);
+  all = λ q k h. adds .all q k (⊎-map (p .all q k) (λ n. n) h);
+}
+
+is-lifted : (a : Automaton) {x y : List ℕ} {P : (q k : ℕ) → Type 0} → Is x P → Adds x y (λ q k. Accepts a q × Lifted (Token x) q k) → Is y (λ q k. P q k ⊎ (Accepts a q × Lifted P q k))
+is-lifted a p adds = record {
+  only = λ q k h. ⊎-map (p .only q k) (λ n. (n .0, lifted-map (p .only) q k (n .1))) (adds .only q k h);
+  all = λ q k h. adds .all q k (⊎-map (p .all q k) (λ n. (n .0, lifted-map (p .all) q k (n .1))) h);
+}
+
+is-linked : (n : ℕ) {x y : List ℕ} {P : (q k : ℕ) → Type 0} → Is x P → Is y (Linked n (Token x)) → Is y (Linked n P)
+is-linked n p is = record { only = λ q k h. linked-map n (p .only) (is .only q k h); all = λ q k h. is .all q k (linked-map n (p .all) h) }
+
+module _ (a : Automaton) (n : ℕ) (stem cycle : List ℕ) (few : n ≤ 96) (inside : (q x t : ℕ) → Step a q x t → t < n) (initial : (q : ℕ) → In q (a .initial) → q < n) where
+  pub verdict : {r : Bool} {r1 r2 r3 r4 r5 r6 : List ℕ} → Adds (replicate 384 0) r1 (λ q k. In q (a .initial) × (k ≡ 96)) → Is r2 (After a (λ i. getD stem i 0) (Token r1) (length stem))
+      → Adds r2 r3 (λ q k. (q < n) × (k ≡ q)) → Adds r3 r4 (λ q k. Accepts a q × Lifted (Token r3) q k) → Is r5 (After a (λ i. getD cycle i 0) (Token r4) (length cycle))
+      → Is r6 (Linked n (Token r5)) → Decides r (Found n r6) → Decides r (AcceptingPass a stem cycle)
+  verdict {r} {r1} {r2} {r3} {r4} {r5} {r6} starts stemmed placed begun passed closed found = record {
+    yes = λ e. kept (found .yes e);
+    no = λ e pass. found .no e (shown (pass-found a n stem cycle few inside initial pass));
+  }
+    where
+      rows : Is r6 (Linked n (Passed a n stem cycle))
+      rows = is-linked n (is-after a (λ i. getD cycle i 0) (length cycle) (is-lifted a (is-more (is-after a (λ i. getD stem i 0) (length stem) (is-initial 384 starts) stemmed) placed) begun) passed) closed
+
+      kept : Found n r6 → AcceptingPass a stem cycle
+      kept (q, lt, (b, h)) = found-pass a n stem cycle few q lt (rows .only q 96 b) (rows .only q (128 + q) h)
+
+      shown : (q : ℕ) × (q < n) × (Linked n (Passed a n stem cycle) q 96 × Linked n (Passed a n stem cycle) q (128 + q)) → Found n r6
+      shown (q, lt, (b, h)) = (q, lt, (rows .all q 96 b, rows .all q (128 + q) h))

@@ -1,0 +1,52 @@
+-- `judge::close` meets its contract: runs are closed through the states before m (`Closing`).
+-- Assumes nothing.
+use borrow.Author.Needs.{needs}
+use native.Mathlib.Omega.{arith}
+use Prim.Native.Nat.{_-_}
+use Rattle.judge.proofs.Closure.{Closing, closing-begins, closing-steps, closing-ends}
+use Rattle.judge.proofs.close.Statement.{statement}
+use Rattle.judge.proofs.close.Tie as tie
+
+abbrev Inv-loop : tie.InvT-loop
+Inv-loop rows₀ n m₀ rows m = Closing n rows₀ rows m
+
+abbrev μ-loop : tie.MeasureT-loop
+μ-loop rows₀ n m₀ rows m = n - m
+
+loop-holds : tie.Need-loop-holds Inv-loop μ-loop
+loop-holds c = closing-begins _ _
+
+join-through-requires : tie.Need-join-through-requires Inv-loop μ-loop
+join-through-requires c κs = search needs
+
+add-m : tie.Need-add-m Inv-loop μ-loop
+add-m c = search needs
+
+loop-less : tie.Need-loop-less Inv-loop μ-loop
+loop-less c = search needs
+
+loop-again : tie.Need-loop-again Inv-loop μ-loop
+loop-again c =
+    let at = c .before .before .before .before .before in
+    let s = at .before .before in
+    closing-steps (s .args .n) (at .loop .m) (s .pre .0) (omega arith) (c .before .before .join-through .ensures) (at .loop .inv) (c .before .before .join-through .kept .0)
+
+same-length : tie.Need-same-length Inv-loop μ-loop
+same-length c = c .before .loop .inv .size
+
+returns : tie.Need-returns Inv-loop μ-loop
+returns c = closing-ends _ (c .before .loop .m) (omega arith) (c .before .loop .inv)
+
+pub close-spec : {M : Type 1} → statement M
+close-spec =
+    tie.close
+    (tie.spec
+    Inv-loop
+    μ-loop
+    loop-holds
+    join-through-requires
+    add-m
+    loop-less
+    loop-again
+    same-length
+    returns)

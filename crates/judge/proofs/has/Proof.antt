@@ -1,0 +1,30 @@
+-- `judge::has` meets its contract: the bit shifted down to the lowest place.
+-- Assumes nothing.
+use native.Mathlib.Omega.{arith}
+use Rattle.judge.proofs.Rows.{looked}
+use borrow.Author.Needs.{needs}
+use Rattle.judge.proofs.has.Statement.{statement}
+use Rattle.judge.proofs.has.Tie as tie
+
+mul-result : tie.Need-mul-result
+mul-result c = search needs
+
+add-result : tie.Need-add-result
+add-result c = search needs
+
+mul-result-2 : tie.Need-mul-result-2
+mul-result-2 c = search needs
+
+shared-slice-read-result : tie.Need-shared-slice-read-result
+shared-slice-read-result c = search needs
+
+shr-result : tie.Need-shr-result
+shr-result c = search needs
+
+returns : tie.Need-returns
+returns c = looked _ _ _ (omega arith)
+
+pub has-spec : {M : Type 1} → statement M
+has-spec =
+    tie.close
+    (tie.spec mul-result add-result mul-result-2 shared-slice-read-result shr-result returns)

@@ -1,0 +1,57 @@
+-- `judge::lift` meets its contract: each turn lifts one row if its state accepts (`Gathers`).
+-- Assumes nothing.
+use borrow.Author.Needs.{needs}
+use native.Mathlib.Omega.{arith}
+use Prim.Native.Nat.{_-_, _+_, _*_}
+use mathlib.Core.Path.{_≡_}
+use lib.ListN.{getD}
+use Rattle.judge.specs.Marks.{Token, Lifted}
+use Rattle.judge.proofs.Gathers.{Gathering, gather-begins, gather-steps, gather-ends}
+use Rattle.judge.proofs.Turns.{all-lifted}
+use Rattle.judge.proofs.lift.Statement.{statement}
+use Rattle.judge.proofs.lift.Tie as tie
+
+abbrev Inv-loop : tie.InvT-loop
+Inv-loop image n rows₀ from q₀ rows q = Gathering rows₀ (λ p r k. (getD image (20 + 4 * p) 0 ≡ 1) × ((r ≡ p) × Lifted (Token from) p k)) n rows q
+
+abbrev μ-loop : tie.MeasureT-loop
+μ-loop image n rows₀ from q₀ rows q = n - q
+
+loop-holds : tie.Need-loop-holds Inv-loop μ-loop
+loop-holds c = gather-begins _ _ _
+
+lift-state-requires : tie.Need-lift-state-requires Inv-loop μ-loop
+lift-state-requires c κs = search needs
+
+add-q : tie.Need-add-q Inv-loop μ-loop
+add-q c = search needs
+
+loop-less : tie.Need-loop-less Inv-loop μ-loop
+loop-less c = search needs
+
+loop-again : tie.Need-loop-again Inv-loop μ-loop
+loop-again c =
+    let at = c .before .before .before .before .before in
+    gather-steps _ _ _ _ _ (at .loop .q) (omega arith) (at .loop .inv) (c .before .before .lift-state .kept .1 .1 .0) (c .before .before .lift-state .ensures)
+
+same-length : tie.Need-same-length Inv-loop μ-loop
+same-length c = c .before .loop .inv .size
+
+returns : tie.Need-returns Inv-loop μ-loop
+returns c =
+    let s = c .before .before .before .before .before in
+    all-lifted (s .args .image .now) _ (s .pre .1) (gather-ends _ _ _ _ (c .before .loop .q) (omega arith) (c .before .loop .inv))
+
+pub lift-spec : {M : Type 1} → statement M
+lift-spec =
+    tie.close
+    (tie.spec
+    Inv-loop
+    μ-loop
+    loop-holds
+    lift-state-requires
+    add-q
+    loop-less
+    loop-again
+    same-length
+    returns)

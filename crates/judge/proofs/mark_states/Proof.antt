@@ -1,0 +1,53 @@
+-- `judge::mark_states` meets its contract: each turn marks one state (`Gathers`).
+-- Assumes nothing.
+use borrow.Author.Needs.{needs}
+use native.Mathlib.Omega.{arith}
+use Prim.Native.Nat.{_-_}
+use mathlib.Core.Path.{_≡_}
+use Rattle.judge.proofs.Gathers.{Gathering, gather-begins, gather-steps, gather-ends}
+use Rattle.judge.proofs.Turns.{all-states}
+use Rattle.judge.proofs.mark_states.Statement.{statement}
+use Rattle.judge.proofs.mark_states.Tie as tie
+
+abbrev Inv-loop : tie.InvT-loop
+Inv-loop n rows₀ q₀ rows q = Gathering rows₀ (λ p r k. (r ≡ p) × (k ≡ p)) n rows q
+
+abbrev μ-loop : tie.MeasureT-loop
+μ-loop n rows₀ q₀ rows q = n - q
+
+loop-holds : tie.Need-loop-holds Inv-loop μ-loop
+loop-holds c = gather-begins _ _ _
+
+mark-requires : tie.Need-mark-requires Inv-loop μ-loop
+mark-requires c κs = search needs
+
+add-q : tie.Need-add-q Inv-loop μ-loop
+add-q c = search needs
+
+loop-less : tie.Need-loop-less Inv-loop μ-loop
+loop-less c = search needs
+
+loop-again : tie.Need-loop-again Inv-loop μ-loop
+loop-again c =
+    let at = c .before .before .before .before .before in
+    gather-steps _ _ _ _ _ (at .loop .q) (omega arith) (at .loop .inv) (c .before .before .mark .kept .0) (c .before .before .mark .ensures)
+
+same-length : tie.Need-same-length Inv-loop μ-loop
+same-length c = c .before .loop .inv .size
+
+returns : tie.Need-returns Inv-loop μ-loop
+returns c = all-states _ (gather-ends _ _ _ _ (c .before .loop .q) (omega arith) (c .before .loop .inv))
+
+pub mark-states-spec : {M : Type 1} → statement M
+mark-states-spec =
+    tie.close
+    (tie.spec
+    Inv-loop
+    μ-loop
+    loop-holds
+    mark-requires
+    add-q
+    loop-less
+    loop-again
+    same-length
+    returns)

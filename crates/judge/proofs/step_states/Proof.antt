@@ -1,0 +1,68 @@
+-- `judge::step_states` meets its contract: each turn adds what one state adds (`Gathers`), and the records of the next
+-- state follow. Assumes nothing.
+use borrow.Author.Needs.{needs}
+use native.Mathlib.Omega.{arith}
+use Prim.Native.Nat.{_-_}
+use Rattle.judge.proofs.Gathers.{gather-begins, gather-steps, gather-ends}
+use Rattle.judge.proofs.Turns.{Stepping, records-begin}
+use Rattle.judge.proofs.step_states.Statement.{statement}
+use Rattle.judge.proofs.step_states.Tie as tie
+
+abbrev Inv-loop : tie.InvT-loop
+Inv-loop image n letter rows next₀ at₀ q₀ next at q = Stepping image rows n letter next₀ next at q
+
+abbrev μ-loop : tie.MeasureT-loop
+μ-loop image n letter rows next₀ at₀ q₀ next at q = n - q
+
+mul-at : tie.Need-mul-at Inv-loop μ-loop
+mul-at c = search needs
+
+add-at : tie.Need-add-at Inv-loop μ-loop
+add-at c = search needs
+
+loop-holds : tie.Need-loop-holds Inv-loop μ-loop
+loop-holds c =
+    let s = c .before .before .before in
+    record { place = records-begin (s .args .image .now) _ (s .pre .1); turns = gather-begins _ _ _ }
+
+step-state-requires : tie.Need-step-state-requires Inv-loop μ-loop
+step-state-requires c κs =
+    let at = c .before .before in
+    let s = at .before .before .before .before in
+    (s .pre .0, omega arith, at .loop .inv .place, omega arith, omega (arith, at .loop .inv .turns .size))
+
+add-q : tie.Need-add-q Inv-loop μ-loop
+add-q c = search needs
+
+loop-less : tie.Need-loop-less Inv-loop μ-loop
+loop-less c = search needs
+
+loop-again : tie.Need-loop-again Inv-loop μ-loop
+loop-again c =
+    let at = c .before .before .before .before .before in
+    record {
+      place = c .before .before .step-state .ensures .0;
+      turns = gather-steps _ _ _ _ _ (at .loop .q) (omega arith) (at .loop .inv .turns) (c .before .before .step-state .kept .1 .1 .1 .1 .1 .0) (c .before .before .step-state .ensures .1);
+    }
+
+same-length : tie.Need-same-length Inv-loop μ-loop
+same-length c = c .before .loop .inv .turns .size
+
+returns : tie.Need-returns Inv-loop μ-loop
+returns c = gather-ends _ _ _ _ (c .before .loop .q) (omega arith) (c .before .loop .inv .turns)
+
+pub step-states-spec : {M : Type 1} → statement M
+step-states-spec =
+    tie.close
+    (tie.spec
+    Inv-loop
+    μ-loop
+    mul-at
+    add-at
+    loop-holds
+    step-state-requires
+    add-q
+    loop-less
+    loop-again
+    same-length
+    returns)
