@@ -1,0 +1,78 @@
+// Judges the plan on standard input: an image's length in two bytes, the image, the stem's length in two bytes, the
+// stem, and the rest is the cycle. Lengths have the low byte first.
+use judge::Judged;
+use judge::WORK_BYTES;
+use libc::STDIN_FILENO;
+use libc::STDOUT_FILENO;
+ghost use Prim.Native.Nat.{_≤_};
+
+// The longest image and stem that two bytes can say, with their lengths, and one letter more than a lasso may have:
+// what comes after that changes no answer.
+const ENOUGH: usize = 131203;
+
+fn print(text: &[u8]) {
+    io::write_all(STDOUT_FILENO, text);
+}
+
+// A length in two bytes, low byte first.
+fn length_of(low: u8, high: u8) -> usize
+    ensures { λ r. ⌜ r ≤ 65535 ⌝ }
+{
+    let high = high as usize;
+    (low as usize) + high * 256
+}
+
+fn print_judged(answer: Judged) {
+    match answer {
+        Judged::Kept => {
+            print(b"kept\n");
+        }
+        Judged::Broken => {
+            print(b"broken\n");
+        }
+        Judged::Refused(number, place) => {
+            show::print_refusal(number, place);
+        }
+    }
+}
+
+fn judge_lasso(image: &[u8], stem: &[u8], cycle: &[u8]) {
+    let mut work = [0u8; WORK_BYTES];
+    print_judged(judge::judge(image, stem, cycle, &mut work));
+}
+
+// The input whose image ends at `end`.
+fn judge_after(input: &[u8], end: usize)
+    requires { ⌜ (2 ≤ end) × (end ≤ 65537) ⌝ }
+{
+    if input.len() < end + 2 {
+        print(b"short\n");
+        return;
+    }
+    let from = end + 2;
+    let n = length_of(input[end], input[end + 1]);
+    if input.len() - from < n {
+        print(b"short\n");
+        return;
+    }
+    let to = from + n;
+    judge_lasso(&input[2..end], &input[from..to], &input[to..]);
+}
+
+fn judge_input(input: &[u8]) {
+    if input.len() < 2 {
+        print(b"short\n");
+        return;
+    }
+    judge_after(input, 2 + length_of(input[0], input[1]));
+}
+
+fn read_and_judge(buffer: &mut [u8]) {
+    let n = io::read_full(STDIN_FILENO, buffer);
+    judge_input(&buffer[..n]);
+}
+
+fn main() {
+    let mut buffer = [0u8; ENOUGH];
+    read_and_judge(&mut buffer);
+}

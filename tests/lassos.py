@@ -1,0 +1,76 @@
+"""Lassos and images for the comparisons: of random rules, made by hand, damaged."""
+import rules
+from rules import second
+
+
+def letters(rng, count):
+    """Random letters, most of them with few propositions, so that rules are kept and broken about as often."""
+    wide = rng.random() < .5
+    return bytes(rng.randrange(256) if wide else rng.choice((0, 1, 2, 3, 4, 8)) for _ in range(count))
+
+
+def lasso(rng):
+    """A stem and a cycle: short ones, and some at the limits of 0, 128 and 129 letters."""
+    pick = rng.random()
+    if pick < .75:
+        return letters(rng, rng.randrange(5)), letters(rng, rng.randrange(1, 6))
+    if pick < .85:
+        n = rng.randrange(1, 129)
+        return letters(rng, 128 - n), letters(rng, n)
+    if pick < .92:
+        n = rng.randrange(1, 130)
+        return letters(rng, 129 - n), letters(rng, n)
+    return letters(rng, rng.randrange(130)), letters(rng, rng.choice((0, 1, 64)))
+
+
+def hand_made(rng):
+    """An automaton that no translation gives: any states, any targets, any initial numbers."""
+    n = rng.choice((0, 1, 2, 3, 5, 8, 20, 96))
+    states = []
+    for _ in range(n):
+        row = []
+        for _ in range(rng.choice((0, 1, 1, 2, 2, 3, 6))):
+            must = rng.choice((0, 0, 1, 2, 3, rng.randrange(256)))
+            row.append((must, rng.choice((0, 0, 1, 2, 4, rng.randrange(256))) & ~must, rng.randrange(n)))
+        states.append((rng.random() < .2, row))
+    return second.Watcher(states, sorted(rng.sample(range(n), rng.randrange(min(n, 3) + 1))))
+
+
+def image_of_rule(rng):
+    """The image of a random rule that is accepted, with the rule."""
+    while True:
+        rule = rules.well_formed(rng)
+        try:
+            return rule, second.write(second.translate(rule))
+        except second.Refused:
+            continue
+
+
+def damaged(rng, image):
+    """The image with a byte changed, cut, grown, or a count or an offset moved."""
+    out = bytearray(image)
+    way = rng.randrange(5)
+    if way == 0 and out:
+        out[rng.randrange(len(out))] = rng.randrange(256)
+    elif way == 1:
+        out[2 * rng.randrange(9)] = rng.randrange(256)
+    elif way == 2:
+        del out[rng.randrange(len(out)):]
+    elif way == 3:
+        out += bytes(rng.randrange(1, 4))
+    else:
+        at = 18 + rng.randrange(max(1, len(out) - 18))
+        if at < len(out):
+            out[at] = (out[at] + rng.choice((1, 255, 97, 128))) % 256
+    return bytes(out)
+
+
+def plan_input(image, stem, cycle):
+    """What the program judgeplan reads."""
+    return second.u16(len(image)) + image + second.u16(len(stem)) + stem + cycle
+
+
+def any_image(rng):
+    """An image of a rule or by hand, whole or damaged."""
+    image = image_of_rule(rng)[1] if rng.random() < .6 else second.write(hand_made(rng))
+    return damaged(rng, image) if rng.random() < .4 else image
