@@ -12,3 +12,4 @@ pub mod Marking
 pub mod Passes
 pub mod Verdict
 pub mod Accepted
+pub mod Answers

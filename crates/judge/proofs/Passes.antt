@@ -41,12 +41,19 @@ module _ (stem cycle : List ℕ) where
 -- ---- what the rows hold, step by step
 
 module _ (a : Automaton) (n : ℕ) (stem cycle : List ℕ) where
+  -- the letters of the stem, and of the cycle once
+  abbrev inStem : ℕ → ℕ
+  inStem i = getD stem i 0
+
+  abbrev inCycle : ℕ → ℕ
+  inCycle i = getD cycle i 0
+
   abbrev pub Initial : (q k : ℕ) → Type 0
   Initial q k = In q (a .initial) × (k ≡ 96)
 
   -- after the stem
   abbrev pub Stemmed : (q k : ℕ) → Type 0
-  Stemmed q k = After a (λ i. getD stem i 0) Initial (length stem) q k
+  Stemmed q k = After a inStem Initial (length stem) q k
 
   -- each state marked with its own number, and the accepting ones lifted
   abbrev pub Placed : (q k : ℕ) → Type 0
@@ -57,7 +64,7 @@ module _ (a : Automaton) (n : ℕ) (stem cycle : List ℕ) where
 
   -- after one pass
   abbrev pub Passed : (q k : ℕ) → Type 0
-  Passed q k = After a (λ i. getD cycle i 0) Begun (length cycle) q k
+  Passed q k = After a inCycle Begun (length cycle) q k
 
   abbrev word : ℕ → ℕ
   word = letter stem cycle
@@ -76,13 +83,13 @@ module _ (a : Automaton) (n : ℕ) (stem cycle : List ℕ) where
 
     stemmed-low : (q k : ℕ) → k < 96 → Stemmed q k → ⊥
     stemmed-low q k lt h =
-        let m : Marked a (λ i. getD stem i 0) Initial (length stem) q k = low-runs a (λ i. getD stem i 0) Initial (length stem) (omega arith) h in
+        let m : Marked a inStem Initial (length stem) q k = low-runs a inStem Initial (length stem) (omega arith) h in
         omega (arith, m .held .1)
 
     stemmed-high : (q k p : ℕ) → p < 96 → k ≡ 128 + p → Stemmed q k → ⊥
-    stemmed-high q k p lt e h = go (high-runs a (λ i. getD stem i 0) Initial (length stem) p (omega arith) e h)
+    stemmed-high q k p lt e h = go (high-runs a inStem Initial (length stem) p (omega arith) e h)
       where
-        go : Marked a (λ i. getD stem i 0) Initial (length stem) q (128 + p) ⊎ MarkedMet a (λ i. getD stem i 0) Initial (length stem) q p → ⊥
+        go : Marked a inStem Initial (length stem) q (128 + p) ⊎ MarkedMet a inStem Initial (length stem) q p → ⊥
         go (inl m) = omega (arith, m .held .1)
         go (inr m) = omega (arith, m .held .1)
 
@@ -101,18 +108,18 @@ module _ (a : Automaton) (n : ℕ) (stem cycle : List ℕ) where
         let e : l .low ≡ p = omega (arith, l .high) in
         (placed-low q (l .low) (omega arith) (l .held) ∙ e, acc)
 
-    passed-low : {q p : ℕ} → p < 96 → Passed q p → Leads a (λ i. getD cycle i 0) (length cycle) p q
+    passed-low : {q p : ℕ} → p < 96 → Passed q p → Leads a inCycle (length cycle) p q
     passed-low {q} {p} lt h =
-        let m : Marked a (λ i. getD cycle i 0) Begun (length cycle) q p = low-runs a (λ i. getD cycle i 0) Begun (length cycle) (omega arith) h in
-        subst (λ (s : ℕ). Leads a (λ i. getD cycle i 0) (length cycle) s q) (begun-low (m .start) p lt (m .held)) (m .run)
+        let m : Marked a inCycle Begun (length cycle) q p = low-runs a inCycle Begun (length cycle) (omega arith) h in
+        subst (λ (s : ℕ). Leads a inCycle (length cycle) s q) (begun-low (m .start) p lt (m .held)) (m .run)
 
-    passed-high : {q : ℕ} (p : ℕ) → p < 96 → Passed q (128 + p) → Meets a (λ i. getD cycle i 0) 0 (length cycle) p q
-    passed-high {q} p lt h = go (high-runs a (λ i. getD cycle i 0) Begun (length cycle) p (omega arith) refl h)
+    passed-high : {q : ℕ} (p : ℕ) → p < 96 → Passed q (128 + p) → Meets a inCycle 0 (length cycle) p q
+    passed-high {q} p lt h = go (high-runs a inCycle Begun (length cycle) p (omega arith) refl h)
       where
-        from : {s : ℕ} → s ≡ p → Meets a (λ i. getD cycle i 0) 0 (length cycle) s q → Meets a (λ i. getD cycle i 0) 0 (length cycle) p q
-        from e m = subst (λ (s : ℕ). Meets a (λ i. getD cycle i 0) 0 (length cycle) s q) e m
+        from : {s : ℕ} → s ≡ p → Meets a inCycle 0 (length cycle) s q → Meets a inCycle 0 (length cycle) p q
+        from e m = subst (λ (s : ℕ). Meets a inCycle 0 (length cycle) s q) e m
 
-        go : Marked a (λ i. getD cycle i 0) Begun (length cycle) q (128 + p) ⊎ MarkedMet a (λ i. getD cycle i 0) Begun (length cycle) q p → Meets a (λ i. getD cycle i 0) 0 (length cycle) p q
+        go : Marked a inCycle Begun (length cycle) q (128 + p) ⊎ MarkedMet a inCycle Begun (length cycle) q p → Meets a inCycle 0 (length cycle) p q
         go (inl m) =
             let b = begun-high (m .start) p lt (m .held) in
             from (b .0) (record { run = m .run; place = 0; after = omega arith; before = omega arith; accepts = rw (m .run .from) (b .1) })
@@ -121,10 +128,10 @@ module _ (a : Automaton) (n : ℕ) (stem cycle : List ℕ) where
     passed-start : {q : ℕ} → Passed q 96 → FromStart (length cycle) q
     passed-start {q} h = go (m .held)
       where
-        m : Marked a (λ i. getD cycle i 0) Begun (length cycle) q 96
-        m = low-runs a (λ i. getD cycle i 0) Begun (length cycle) (omega arith) h
+        m : Marked a inCycle Begun (length cycle) q 96
+        m = low-runs a inCycle Begun (length cycle) (omega arith) h
 
-        made : Marked a (λ i. getD stem i 0) Initial (length stem) (m .start) 96 → FromStart (length cycle) q
+        made : Marked a inStem Initial (length stem) (m .start) 96 → FromStart (length cycle) q
         made b = record {
           start = b .start;
           initial = b .held .0;
@@ -132,7 +139,7 @@ module _ (a : Automaton) (n : ℕ) (stem cycle : List ℕ) where
         }
 
         go : Begun (m .start) 96 → FromStart (length cycle) q
-        go (inl (inl b)) = made (low-runs a (λ i. getD stem i 0) Initial (length stem) (omega arith) b)
+        go (inl (inl b)) = made (low-runs a inStem Initial (length stem) (omega arith) b)
         go (inl (inr (l, e))) = absurd (omega arith)
         go (inr (acc, l)) = absurd (omega (arith, l .high))
 
@@ -254,22 +261,22 @@ module _ (a : Automaton) (n : ℕ) (stem cycle : List ℕ) where
 
     -- ---- runs are marks
 
-    run-passed : {q : ℕ} (p : ℕ) → p < n → Leads a (λ i. getD cycle i 0) (length cycle) p q → Passed q p
-    run-passed p lt r = run-marks a (λ i. getD cycle i 0) Begun (length cycle) (inl (inr (lt, refl))) r
+    run-passed : {q : ℕ} (p : ℕ) → p < n → Leads a inCycle (length cycle) p q → Passed q p
+    run-passed p lt r = run-marks a inCycle Begun (length cycle) (inl (inr (lt, refl))) r
 
-    met-passed : {q : ℕ} (p : ℕ) → p < n → Meets a (λ i. getD cycle i 0) 0 (length cycle) p q → Passed q (128 + p)
+    met-passed : {q : ℕ} (p : ℕ) → p < n → Meets a inCycle 0 (length cycle) p q → Passed q (128 + p)
     met-passed {q} p lt m = go (ℕ-discrete (m .place) 0)
       where
         go : Dec (m .place ≡ 0) → Passed q (128 + p)
         go (yes e) =
             let acc : Accepts a p = subst (λ (t : ℕ). Accepts a t) (ap (m .run .at) e ∙ m .run .from) (m .accepts) in
-            run-marks a (λ i. getD cycle i 0) Begun (length cycle) {p = p} (inr (acc, record { low = p; half = omega arith; high = refl; held = inr (lt, refl) })) (m .run)
+            run-marks a inCycle Begun (length cycle) {p = p} (inr (acc, record { low = p; half = omega arith; high = refl; held = inr (lt, refl) })) (m .run)
         go (no e) =
-            met-marks a (λ i. getD cycle i 0) Begun (length cycle) {p = p} (omega arith) (inl (inr (lt, refl))) (record { run = m .run; place = m .place; after = omega arith; before = m .before; accepts = m .accepts })
+            met-marks a inCycle Begun (length cycle) {p = p} (omega arith) (inl (inr (lt, refl))) (record { run = m .run; place = m .place; after = omega arith; before = m .before; accepts = m .accepts })
 
-    start-passed : {m q : ℕ} (p : ℕ) → In p (a .initial) → Leads a (λ i. getD stem i 0) (length stem) p m → Leads a (λ i. getD cycle i 0) (length cycle) m q → Passed q 96
+    start-passed : {m q : ℕ} (p : ℕ) → In p (a .initial) → Leads a inStem (length stem) p m → Leads a inCycle (length cycle) m q → Passed q 96
     start-passed p h r t =
-        run-marks a (λ i. getD cycle i 0) Begun (length cycle) (inl (inl (run-marks a (λ i. getD stem i 0) Initial (length stem) (h, refl) r))) t
+        run-marks a inCycle Begun (length cycle) (inl (inl (run-marks a inStem Initial (length stem) (h, refl) r))) t
 
     -- ---- an accepting pass shows in the marks
 
@@ -291,7 +298,7 @@ module _ (a : Automaton) (n : ℕ) (stem cycle : List ℕ) where
       state-inside : (e : ℕ) → e ≤ pass .second → state e < n
       state-inside e le = at-inside (place e) (omega (arith, mul-le-mul-right (length cycle) le))
 
-      stem-run : Leads a (λ i. getD stem i 0) (length stem) (pass .at 0) (state 0)
+      stem-run : Leads a inStem (length stem) (pass .at 0) (state 0)
       stem-run = record {
         at = pass .at;
         from = refl;
@@ -304,7 +311,7 @@ module _ (a : Automaton) (n : ℕ) (stem cycle : List ℕ) where
           let z : place e + i ≡ length stem + (e * length cycle + i) = omega arith in
           ap word z ∙ letter-round stem cycle (e * length cycle + i) ∙ round-later stem cycle e i ∙ round-first stem cycle i lt
 
-      pass-run : (e : ℕ) → e < pass .second → Leads a (λ i. getD cycle i 0) (length cycle) (state e) (state (suc e))
+      pass-run : (e : ℕ) → e < pass .second → Leads a inCycle (length cycle) (state e) (state (suc e))
       pass-run e lt = record {
         at = λ i. pass .at (place e + i);
         from = ap (pass .at) (omega arith);
@@ -315,7 +322,7 @@ module _ (a : Automaton) (n : ℕ) (stem cycle : List ℕ) where
             (subst (λ (x : ℕ). Step a (pass .at (place e + i)) x (pass .at (suc (place e + i)))) (pass-letter e i l) (pass .steps (place e + i) (omega (arith, next e lt))));
       }
 
-      pass-met : (e i : ℕ) → e < pass .second → place e ≤ i → i ≤ place (suc e) → Accepts a (pass .at i) → Meets a (λ i. getD cycle i 0) 0 (length cycle) (state e) (state (suc e))
+      pass-met : (e i : ℕ) → e < pass .second → place e ≤ i → i ≤ place (suc e) → Accepts a (pass .at i) → Meets a inCycle 0 (length cycle) (state e) (state (suc e))
       unfolding pass-run
       pass-met e i lt lo hi acc =
           let z : i ≡ place e + (i - place e) = omega arith in

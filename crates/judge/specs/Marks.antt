@@ -1,7 +1,7 @@
 -- What the rows of marks hold while a lasso is judged, and what each step of judging makes of them. For every state
 -- there is a row of 256 bits in four words of 64. Bit p below 96 of row q: a run that stood in state p when the pass
 -- began stands in q now. Bit 96: a run from an initial state at letter 0 stands in q now. Bit 128 + p: the same as
--- bit p, of a run that has met an accepting state since the pass began.
+-- bit p, of a run that has stood in an accepting state since the pass began, then and now included.
 use Prim.Native.Nat.{ℕ, zero, suc, _+_, _*_, _/_, _%_, _^_, _<_, _≤_}
 use mathlib.Core.Path.{_≡_}
 use mathlib.Core.List.{List}
@@ -62,10 +62,6 @@ machine image =
 abbrev pub recordAt : List ℕ → ℕ → Transition
 recordAt image at = record { must = getD image at 0; mustNot = getD image (at + 1) 0; target = numberAt image (at + 2) }
 
--- the automaton, if the lasso is not refused by 8 or 9
-abbrev pub lassoJudgeable : Automaton → (stem cycle : List ℕ) → Result Automaton
-lassoJudgeable a stem cycle = andThen (lassoCheck stem cycle) (λ _. accepted a)
-
 -- where the transition records of state q begin
 abbrev pub recordsAt : List ℕ → ℕ → ℕ
 recordsAt image q = transitionsAt (countsAt image) + 4 * countSum (drop 18 image) q
@@ -78,9 +74,9 @@ pub record Readable (image : List ℕ) : Type 0 where
   pub targets : (i : ℕ) → i < numberAt image 8 → numberAt (drop (transitionsAt (countsAt image)) image) (4 * i + 2) < numberAt image 2
   pub starts : (i : ℕ) → i < numberAt image 14 → numberAt (drop (initialAt (countsAt image)) image) (2 * i) < numberAt image 2
 
--- a row whose state was reached when a pass began, and which comes back to itself through an accepting state
-abbrev pub Found : (n : ℕ) (rows : List ℕ) → Type 0
-Found n rows = (q : ℕ) × (q < n) × (Token rows q 96 × Token rows q (128 + q))
+-- the automaton, if the lasso is not refused by 8 or 9
+abbrev pub lassoJudgeable : Automaton → (stem cycle : List ℕ) → Result Automaton
+lassoJudgeable a stem cycle = andThen (lassoCheck stem cycle) (λ _. accepted a)
 
 -- ---- one letter, several letters, several passes
 
@@ -105,3 +101,7 @@ pub data Linked (n : ℕ) (Held : (q k : ℕ) → Type 0) : (q k : ℕ) → Type
   one : (q k : ℕ) → Held q k → Linked n Held q k
   join : (m q k : ℕ) → m < n → q < n → Linked n Held q m → Linked n Held m k → Linked n Held q k
   joinMet : (m q k : ℕ) → m < n → q < n → k < 128 → Linked n Held q (128 + m) → Linked n Held m k → Linked n Held q (128 + k)
+
+-- a row whose state was reached when a pass began, and which comes back to itself through an accepting state
+abbrev pub Found : (n : ℕ) (rows : List ℕ) → Type 0
+Found n rows = (q : ℕ) × (q < n) × (Token rows q 96 × Token rows q (128 + q))

@@ -259,7 +259,8 @@ fn join_state(rows: &mut [u64], q: usize, m: usize, via: &[u64])
     join_runs(rows, q, m, via, 0);
 }
 
-// All runs that pass through state m when a pass begins, put together.
+// All runs that pass through state m when a pass begins, put together. In `via` are the runs to m; if one of them
+// goes from m to m and meets an accepting state, all that go round with it meet one too.
 fn join_through(rows: &mut [u64], n: usize, m: usize)
     requires { ⌜ (n ≤ 96) × (m < n) × (length (now rows) ≡ 384) ⌝ }
     ensures { λ _. ⌜ Adds (now (rows .entry)) (now (rows .exit)) (λ q k. (q < n) × Joined (Token (now (rows .entry))) m q k) ⌝ }

@@ -1,7 +1,7 @@
 -- `judge::judge_lasso` meets its contract: the tests of `lassoCheck` in their order, then the verdict of the search.
 -- Assumes nothing.
 use native.Mathlib.Omega.{arith}
-use Rattle.judge.proofs.Accepted.{cycle-empty, letters-over, lasso-kept, lasso-broken}
+use Rattle.judge.proofs.Answers.{cycle-empty, letters-over, lasso-kept, lasso-broken}
 use borrow.Author.Needs.{needs}
 use Rattle.judge.proofs.judge_lasso.Statement.{statement}
 use Rattle.judge.proofs.judge_lasso.Tie as tie

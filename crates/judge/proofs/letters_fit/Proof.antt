@@ -4,7 +4,7 @@ use native.Mathlib.Omega.{arith}
 use Prim.Native.Nat.{_+_}
 use mathlib.Core.Path.{sym}
 use borrow.Author.Tests.{lt-leb}
-use Rattle.judge.proofs.Accepted.{letters-left}
+use Rattle.judge.proofs.Answers.{letters-left}
 use Rattle.judge.proofs.letters_fit.Statement.{statement}
 use Rattle.judge.proofs.letters_fit.Tie as tie
 
