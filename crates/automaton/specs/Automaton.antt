@@ -1,6 +1,6 @@
 -- A Büchi automaton (document 01's watcher) with labels on its transitions, and its runs. A rule's automaton and an
 -- image's records are both such a value.
-use Prim.Native.Nat.{ℕ, zero, suc, _+_, _*_, _<_, _≤_}
+use Prim.Native.Nat.{ℕ, suc, _+_, _*_, _<_, _≤_}
 use mathlib.Core.Path.{_≡_}
 use mathlib.Core.List.{List, [], _∷_}
 use mathlib.Core.Bool.{Bool, true, false, _&&_}

@@ -11,7 +11,7 @@ use Rattle.term.specs.Size.{checked}
 use Rattle.generalized.specs.Explore.{find, explore}
 use Rattle.generalized.specs.Generalized.{transitions, generalized}
 use Rattle.acceptance.specs.Acceptance.{untilCount, fulfilsNext}
-use Rattle.automaton.specs.Automaton.{Transition, State, Automaton}
+use Rattle.automaton.specs.Automaton.{State, Automaton}
 
 -- "the largest i ≥ j such that the transition is good for untils j+1 to i", where left are the untils after j
 unfoldable pub climb : List ℕ → (left j : ℕ) → Term → ℕ

@@ -15,10 +15,10 @@ use Rattle.sets.specs.Sets.{union}
 use Rattle.formula.specs.Rule.{root, nodeCount}
 use Rattle.formula.specs.Formula.{Formula, bottom, top, proposition, negation, conjunction, disjunction, next, until, release, tree, formula}
 use Rattle.formula.specs.Lasso.{Holds}
-use Rattle.term.specs.Term.{has, Term, term, less, joined, consistent, product, cover, terms}
+use Rattle.term.specs.Term.{has, Term, term, less, joined, consistent, product, cover, terms, Has}
 use Rattle.generalized.specs.Generalized.{times, partialProduct}
 use Rattle.automaton.specs.Automaton.{In}
-use Rattle.correctness.proofs.Bits.{Has, has-dec, has-true, has-false, not-has, or-has, zero-has, has-pow, and-disjoint}
+use Rattle.term.proofs.Bits.{has-dec, has-true, has-false, not-has, or-has, zero-has, has-pow, and-disjoint}
 use Rattle.correctness.proofs.Members.{in-map, in-union, in-product, ltb-equal, less-equal}
 use Rattle.correctness.proofs.Runs.{Reads, Within, within-trans, within-l, within-r, Fulfilling, Known, Fits, Run, Fair, Dominates, TermOf}
 use Rattle.correctness.proofs.Trees.{tree-fits}

@@ -1,6 +1,5 @@
 -- What the automaton of a rule accepts, exactly the lassos that satisfy the rule, and the limits that it keeps.
 pub mod Positions
-pub mod Bits
 pub mod Members
 pub mod Runs
 pub mod Trees

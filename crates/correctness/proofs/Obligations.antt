@@ -10,9 +10,9 @@ use lib.Bits.{bitOr}
 use lib.Dec.{ltb}
 use Rattle.sets.specs.Sets.{union}
 use Rattle.formula.specs.Formula.{Formula, bottom, top, proposition, negation, conjunction, disjunction, next, until, release}
-use Rattle.term.specs.Term.{Term, term, less, joined, consistent, product, cover, terms}
+use Rattle.term.specs.Term.{Term, term, less, joined, consistent, product, cover, terms, Has}
 use Rattle.automaton.specs.Automaton.{In}
-use Rattle.correctness.proofs.Bits.{Has, or-has, zero-has, has-pow}
+use Rattle.term.proofs.Bits.{or-has, zero-has, has-pow}
 use Rattle.correctness.proofs.Members.{All, all-one, all-union, all-product, map-in}
 use Rattle.correctness.proofs.Runs.{Below}
 

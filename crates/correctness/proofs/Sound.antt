@@ -13,9 +13,9 @@ use Rattle.sets.specs.Sets.{union}
 use Rattle.formula.specs.Rule.{root, nodeCount}
 use Rattle.formula.specs.Formula.{Formula, bottom, top, proposition, negation, conjunction, disjunction, next, until, release, formula}
 use Rattle.formula.specs.Lasso.{Holds}
-use Rattle.term.specs.Term.{Term, term, less, joined, consistent, product, cover, terms}
+use Rattle.term.specs.Term.{Term, term, less, joined, consistent, product, cover, terms, Has}
 use Rattle.automaton.specs.Automaton.{In}
-use Rattle.correctness.proofs.Bits.{Has, Sub, has-zero, has-or-l, has-or-r, pow-has}
+use Rattle.term.proofs.Bits.{Sub, has-zero, has-or-l, has-or-r, pow-has}
 use Rattle.correctness.proofs.Members.{map-in, union-in, product-in}
 use Rattle.correctness.proofs.Runs.{Reads, Within, within-reads, within-l, within-r, Fulfilling, Known, Fits, Run, Fair, TermOf, product-has}
 use Rattle.correctness.proofs.Trees.{tree-fits}

@@ -9,10 +9,10 @@ use lib.Dec.{eqb}
 use lib.Bits.{bitOr}
 use borrow.Author.Tests.{eqb-true, eq-eqb, ne-eqb, not-true}
 use Rattle.formula.specs.Formula.{tree}
-use Rattle.term.specs.Term.{has, Term, terms}
+use Rattle.term.specs.Term.{has, Term, terms, Has}
 use Rattle.generalized.specs.Generalized.{within, any, shows, fulfils}
 use Rattle.automaton.specs.Automaton.{In, reads}
-use Rattle.correctness.proofs.Bits.{Has, Sub, has-false, and-disjoint, disjoint-and, or-sub, sub-or}
+use Rattle.term.proofs.Bits.{Sub, has-false, and-disjoint, disjoint-and, or-sub, sub-or}
 use Rattle.correctness.proofs.Runs.{Reads, Within, Fulfilling}
 
 or-iff : (a b : Bool) → (a || b) ≡ true ↔ ((a ≡ true) ⊎ (b ≡ true))

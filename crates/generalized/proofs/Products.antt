@@ -41,7 +41,7 @@ partial-packed rule state (suc n) ranges =
 abbrev partialCheck : List ℕ → (state place : ℕ) → ℕ → Check
 partialCheck rule state place n = require (leb (length (partialProduct rule state (suc n))) 128) 21 place
 
--- a loop over n nodes that stands at k: p is the product over the duties below k, and none before was over 128
+-- a loop over n nodes that stands at k: p is the product over the obligations below k, and none before was over 128
 pub record Multiplying (rule : List ℕ) (state n : ℕ) (p : Many) (k : ℕ) : Type 0 where
   pub small : n ≤ 32
   pub within : k ≤ n

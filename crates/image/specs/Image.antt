@@ -1,7 +1,6 @@
 -- The image of an automaton: one fixed byte string (document 01, "The image").
 use Prim.Native.Nat.{ℕ, _+_, _*_}
 use mathlib.Core.List.{List, _++_}
-use lib.ListN.{length}
 use Rattle.automaton.specs.Automaton.{Automaton}
 use Rattle.automaton.specs.Records.{twoBytes, stateRecords, transitionRecords, initialRecords}
 use Rattle.automaton.specs.Translate.{Counts, counts}

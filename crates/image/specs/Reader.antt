@@ -1,7 +1,7 @@
 -- What a reader says of any bytes: refusals 10 to 13, or the automaton.
 use Prim.Native.Nat.{ℕ, zero, suc, _+_, _*_}
 use mathlib.Core.List.{List, [], _∷_}
-use mathlib.Core.Bool.{Bool, not, _&&_, _||_}
+use mathlib.Core.Bool.{Bool, _&&_}
 use lib.ListN.{getD, length, drop}
 use lib.Dec.{eqb, leb, ltb}
 use lib.Bits.{bitAnd}

@@ -1,5 +1,4 @@
 -- What the proofs of several functions cite, and why the search is right.
-pub mod Bits
 pub mod Rows
 pub mod Gathers
 pub mod Records

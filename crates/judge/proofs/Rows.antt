@@ -12,8 +12,9 @@ use lib.Dec.{eqb}
 use lib.Pow.{pow-lt}
 use native.Mathlib.Nat.{one-mul, mod-eq-of-lt}
 use borrow.Author.Tests.{eqb-true, eqb-false}
-use Rattle.judge.specs.Marks.{Has, Token, Lifted, Adds, Ored, Decides}
-use Rattle.judge.proofs.Bits.{or-has, has-or-l, has-or-r, zero-has, pow-has, has-pow}
+use Rattle.judge.specs.Marks.{Token, Lifted, Adds, Ored, Decides}
+use Rattle.term.specs.Term.{Has}
+use Rattle.term.proofs.Bits.{or-has, has-or-l, has-or-r, zero-has, pow-has, has-pow}
 
 -- ---- words joined
 

@@ -2,7 +2,7 @@
 -- there is a row of 256 bits in four words of 64. Bit p below 96 of row q: a run that stood in state p when the pass
 -- began stands in q now. Bit 96: a run from an initial state at letter 0 stands in q now. Bit 128 + p: the same as
 -- bit p, of a run that has stood in an accepting state since the pass began, then and now included.
-use Prim.Native.Nat.{ℕ, zero, suc, _+_, _*_, _/_, _%_, _^_, _<_, _≤_}
+use Prim.Native.Nat.{ℕ, zero, suc, _+_, _*_, _/_, _%_, _<_, _≤_}
 use mathlib.Core.Path.{_≡_}
 use mathlib.Core.List.{List}
 use mathlib.Core.Bool.{Bool, true, false}
@@ -10,16 +10,13 @@ use mathlib.Core.Logic.{_⊎_}
 use lib.ListN.{getD, length, drop}
 use lib.Bits.{bitOr}
 use Rattle.formula.specs.Result.{Result, accepted, andThen}
+use Rattle.term.specs.Term.{Has}
 use Rattle.judge.specs.Judge.{lassoCheck}
 use Rattle.automaton.specs.Automaton.{Transition, Automaton, Step, Accepts}
 use Rattle.image.specs.Image.{transitionsAt, initialAt, imageLength}
 use Rattle.image.specs.Reader.{numberAt, countsAt, countSum, automatonFrom}
 
 -- ---- rows
-
--- bit n of d is set
-pub record Has (d n : ℕ) : Type 0 where
-  pub set : d / 2 ^ n % 2 ≡ 1
 
 -- row q has bit k
 pub record Token (rows : List ℕ) (q k : ℕ) : Type 0 where

@@ -1,4 +1,5 @@
 -- What the proofs of several functions, and of the crates above, cite.
+pub mod Bits
 pub mod Carries
 pub mod Packing
 pub mod ByKind

@@ -1,6 +1,7 @@
 -- Obligations, covers and terms (document 01, "Duties, covers and terms"). A list of them is a set: it rises and has
 -- no repeats. An obligation is document 01's duty.
 use Prim.Native.Nat.{ℕ, _/_, _%_, _^_}
+use mathlib.Core.Path.{_≡_}
 use mathlib.Core.List.{List, [], _∷_, map}
 use mathlib.Core.Bool.{Bool, true, false, cond}
 use lib.Dec.{eqb, ltb}
@@ -11,6 +12,10 @@ use Rattle.formula.specs.Formula.{Formula, bottom, top, proposition, negation, 
 -- "A duty set is a 32-bit number with bit n for node n."
 abbrev pub has : (obligations n : ℕ) → Bool
 has obligations n = eqb (obligations / 2 ^ n % 2) 1
+
+-- the same as a type: bit n of d is set
+pub record Has (d n : ℕ) : Type 0 where
+  pub set : d / 2 ^ n % 2 ≡ 1
 
 -- "A term is (must, not, duties): two mark bytes and a duty set."
 pub record Term : Type 0 where

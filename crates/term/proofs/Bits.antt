@@ -11,11 +11,7 @@ use lib.Arith.{bin-ind}
 use lib.Bits.{bitAnd, bitOr, or-shr, and-shr, or-step, and-step, or-zero-l}
 use lib.Pow.{pow-pos, pow-lt, pow-add}
 use borrow.Author.Tests.{eqb-true, eqb-false}
-use Rattle.term.specs.Term.{has}
-
--- bit n of d is set
-pub record Has (d n : ℕ) : Type 0 where
-  pub set : d / 2 ^ n % 2 ≡ 1
+use Rattle.term.specs.Term.{has, Has}
 
 -- every bit of x is one of y
 abbrev pub Sub : ℕ → ℕ → Type 0
