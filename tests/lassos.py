@@ -74,3 +74,19 @@ def any_image(rng):
     """An image of a rule or by hand, whole or damaged."""
     image = image_of_rule(rng)[1] if rng.random() < .6 else second.write(hand_made(rng))
     return damaged(rng, image) if rng.random() < .4 else image
+
+
+def any_tables(rng):
+    """Counts and three tables for the writer: those of an image, whole or with a byte or a count changed."""
+    image = image_of_rule(rng)[1] if rng.random() < .5 else second.write(hand_made(rng))
+    a, b, c = (image[i] + 256 * image[i + 1] for i in (2, 8, 14))
+    parts = (image[18:18 + 4 * a], image[18 + 4 * a:18 + 4 * a + 4 * b], image[18 + 4 * a + 4 * b:])
+    tables = [bytearray(part + bytes(size - len(part))) for part, size in zip(parts, (384, 49152, 192))]
+    counts = [a, b, c]
+    way = rng.random()
+    if way < .4:
+        table = rng.choice([t for t, part in zip(tables, parts) if part] or tables)
+        table[rng.randrange(min(len(table), 64))] = rng.choice((0, 1, 2, 129, rng.randrange(256)))
+    elif way < .6:
+        counts[rng.randrange(3)] = rng.choice((0, 1, 96, 97, 12288, 12289, rng.randrange(70000)))
+    return tuple(counts), [bytes(t) for t in tables]

@@ -139,7 +139,7 @@ module _ (a : Automaton) where
 
 -- an automaton that keeps the limits
 module _ (a : Automaton) (formed : WellFormed a) where
-  counts-fit : countsFit (counts a) ≡ true
+  pub counts-fit : countsFit (counts a) ≡ true
   unfolding countsFit
   counts-fit =
       let few : transitionCount (a .states) ≤ 12288 = omega (arith, formed .states, few-together (length (a .states)) (a .states) (formed .each)) in

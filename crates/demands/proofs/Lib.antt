@@ -3,3 +3,4 @@ pub mod Rows
 pub mod ReadRecords
 pub mod ImageAccepted
 pub mod Verdict
+pub mod Deciding

@@ -1,0 +1,67 @@
+// From a rule and a lasso to the verdict: the calls translate, write and judge in a row.
+use automaton::INITIAL_BYTES;
+use automaton::STATES_BYTES;
+use automaton::TABLE_TOO_SHORT;
+use automaton::TRANSITIONS_BYTES;
+use automaton::Translated;
+use automaton::translate;
+use image::IMAGE_BYTES;
+use image::Written;
+use image::write;
+use judge::Judged;
+use judge::WORK_BYTES;
+use judge::judge;
+ghost use mathlib.Core.Path.{_≡_};
+ghost use mathlib.Core.Bool.{_&&_};
+ghost use lib.Dec.{leb};
+ghost use Rattle.demands.specs.Demand.{Decides};
+
+// Whether lent tables, an image's buffer and working bytes of these lengths are long enough.
+fn room_fits(states: usize, transitions: usize, initial: usize, image: usize, work: usize) -> bool
+    ensures { λ r. ⌜ r ≡ (leb 384 states && (leb 49152 transitions && (leb 192 initial && (leb 49746 image && leb 12288 work)))) ⌝ }
+{
+    if states < STATES_BYTES {
+        return false;
+    }
+    if transitions < TRANSITIONS_BYTES {
+        return false;
+    }
+    if initial < INITIAL_BYTES {
+        return false;
+    }
+    if image < IMAGE_BYTES {
+        return false;
+    }
+    WORK_BYTES <= work
+}
+
+// Whether the lasso satisfies the rule: the rule's automaton, its image, and the verdict of judging that image.
+pub fn decide(
+    rule: &[u8],
+    stem: &[u8],
+    cycle: &[u8],
+    states: &mut [u8],
+    transitions: &mut [u8],
+    initial: &mut [u8],
+    image: &mut [u8],
+    work: &mut [u8],
+) -> Judged
+    ensures { λ r. ⌜ Decides r (now (rule .entry)) (now (stem .entry)) (now (cycle .entry)) (now (states .entry)) (now (transitions .entry)) (now (initial .entry)) (now (image .entry)) (now (work .entry)) ⌝ }
+{
+    if !room_fits(
+        states.len(),
+        transitions.len(),
+        initial.len(),
+        image.len(),
+        work.len(),
+    ) {
+        return Judged::Refused(TABLE_TOO_SHORT, 0);
+    }
+    match translate(rule, states, transitions, initial) {
+        Translated::Refused(number, place) => Judged::Refused(number, place),
+        Translated::Accepted(n, m, k) => match write(states, n, transitions, m, initial, k, image) {
+            Written::Refused(number, place) => Judged::Refused(number, place),
+            Written::Length(length) => judge(&image[..length], stem, cycle, work),
+        },
+    }
+}

@@ -1,0 +1,2 @@
+-- What translating a rule, writing its image and judging a lasso by it promises.
+pub mod Demand

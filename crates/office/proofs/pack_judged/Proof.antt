@@ -1,0 +1,43 @@
+-- `office::pack_judged` meets its contract: each arm returns what `packJudged` gives of the variant that the match found.
+-- Assumes nothing.
+use mathlib.Core.Path.{sym, ap, _∙_}
+use Rattle.office.specs.Packing.{packJudged}
+use borrow.Author.Needs.{needs}
+use Rattle.office.proofs.pack_judged.Statement.{statement}
+use Rattle.office.proofs.pack_judged.Tie as tie
+
+enum-told : tie.Need-enum-told
+enum-told c = search needs
+
+enum-told-2 : tie.Need-enum-told-2
+enum-told-2 c = search needs
+
+enum-known-judged : tie.Need-enum-known-judged
+enum-known-judged c = search needs
+
+pack-refusal-requires : tie.Need-pack-refusal-requires
+pack-refusal-requires c κs = search needs
+
+returns : tie.Need-returns
+unfolding packJudged
+returns c = sym (ap packJudged (c .enum-told .given .1))
+
+returns-2 : tie.Need-returns-2
+unfolding packJudged
+returns-2 c = sym (ap packJudged (c .enum-told2 .given .1))
+
+returns-3 : tie.Need-returns-3
+unfolding packJudged
+returns-3 c = c .pack-refusal .ensures ∙ sym (ap packJudged (c .before .before .judged .given .1))
+
+pub pack-judged-spec : {M : Type 1} → statement M
+pack-judged-spec =
+    tie.close
+    (tie.spec
+    enum-told
+    enum-told-2
+    enum-known-judged
+    pack-refusal-requires
+    returns
+    returns-2
+    returns-3)

@@ -1,0 +1,39 @@
+-- `office::pack_loaded` meets its contract: each arm returns what `packCounts` gives of the variant that the match found.
+-- Assumes nothing.
+use mathlib.Core.Path.{sym, ap, _∙_}
+use Rattle.image.specs.Calls.{readAnswer}
+use Rattle.office.specs.Packing.{packCounts}
+use borrow.Author.Needs.{needs}
+use Rattle.office.proofs.pack_loaded.Statement.{statement}
+use Rattle.office.proofs.pack_loaded.Tie as tie
+
+enum-known-loaded : tie.Need-enum-known-loaded
+enum-known-loaded c = search needs
+
+pack-three-requires : tie.Need-pack-three-requires
+pack-three-requires c κs = search needs
+
+enum-known-loaded-2 : tie.Need-enum-known-loaded-2
+enum-known-loaded-2 c = search needs
+
+pack-refusal-requires : tie.Need-pack-refusal-requires
+pack-refusal-requires c κs = search needs
+
+returns : tie.Need-returns
+unfolding packCounts
+returns c = c .pack-three .ensures ∙ sym (ap packCounts (ap readAnswer (c .before .before .loaded .given .1)))
+
+returns-2 : tie.Need-returns-2
+unfolding packCounts
+returns-2 c = c .pack-refusal .ensures ∙ sym (ap packCounts (ap readAnswer (c .before .before .loaded2 .given .1)))
+
+pub pack-loaded-spec : {M : Type 1} → statement M
+pack-loaded-spec =
+    tie.close
+    (tie.spec
+    enum-known-loaded
+    pack-three-requires
+    enum-known-loaded-2
+    pack-refusal-requires
+    returns
+    returns-2)

@@ -1,0 +1,139 @@
+// The calls for C: numbers and byte slices, each slice a pointer and a length. An answer is packed into one number.
+use automaton::Translated;
+use automaton::translate;
+use image::Loaded;
+use image::Written;
+use image::read;
+use image::write;
+use judge::Judged;
+use judge::judge;
+ghost use mathlib.Core.Path.{_≡_};
+ghost use Rattle.automaton.specs.Translate.{answer, translated};
+ghost use Rattle.image.specs.Calls.{readAnswer, reads, writeAnswer, writes, countsOf};
+ghost use Rattle.judge.specs.Judge.{judgeable, workAfter};
+ghost use Rattle.office.specs.Packing.{packRefusal, packCounts, packLength, packJudged, packThree, packSize, packedTables, packOutcome, packedBuffer, packBuffer, SaysPacked};
+
+// A refusal's number and place.
+fn pack_refusal(number: u8, place: usize) -> u64
+    ensures { λ r. ⌜ r ≡ packRefusal number place ⌝ }
+{
+    (number as u64) + 256 * ((place % 4294967296) as u64)
+}
+
+// The three counts.
+fn pack_three(states: usize, transitions: usize, initial: usize) -> u64
+    ensures { λ r. ⌜ r ≡ packThree states transitions initial ⌝ }
+{
+    256 * ((states % 256) as u64)
+        + 65536 * ((transitions % 65536) as u64)
+        + 4294967296 * ((initial % 256) as u64)
+}
+
+// An image's length.
+fn pack_size(length: usize) -> u64
+    ensures { λ r. ⌜ r ≡ packSize length ⌝ }
+{
+    256 * ((length % 4294967296) as u64)
+}
+
+// The answer of translate: the counts, or the refusal.
+fn pack_translated(made: Translated) -> u64
+    ensures { λ r. ⌜ r ≡ packCounts (answer made) ⌝ }
+{
+    match made {
+        Translated::Accepted(states, transitions, initial) => {
+            pack_three(states, transitions, initial)
+        }
+        Translated::Refused(number, place) => pack_refusal(number, place),
+    }
+}
+
+// The answer of read: the counts, or the refusal.
+fn pack_loaded(loaded: Loaded) -> u64
+    ensures { λ r. ⌜ r ≡ packCounts (readAnswer loaded) ⌝ }
+{
+    match loaded {
+        Loaded::Counted(states, transitions, initial) => pack_three(states, transitions, initial),
+        Loaded::Rejected(number, place) => pack_refusal(number, place),
+    }
+}
+
+// The answer of write: the length, or the refusal.
+fn pack_written(written: Written) -> u64
+    ensures { λ r. ⌜ r ≡ packLength (writeAnswer written) ⌝ }
+{
+    match written {
+        Written::Length(length) => pack_size(length),
+        Written::Refused(number, place) => pack_refusal(number, place),
+    }
+}
+
+// The answer of judge: 1 above the lowest byte for kept, 0 for broken, or the refusal.
+fn pack_judged(judged: Judged) -> u64
+    ensures { λ r. ⌜ r ≡ packJudged judged ⌝ }
+{
+    match judged {
+        Judged::Kept => 256,
+        Judged::Broken => 0,
+        Judged::Refused(number, place) => pack_refusal(number, place),
+    }
+}
+
+// The automaton of a rule, as records in the three tables. Its counts, or a refusal.
+#[no_mangle]
+pub extern "C" fn zimboralo_translate(
+    rule: &[u8],
+    states: &mut [u8],
+    transitions: &mut [u8],
+    initial: &mut [u8],
+) -> u64
+    ensures { λ r. ⌜ packedTables r (now (states .exit)) (now (transitions .exit)) (now (initial .exit)) ≡ packOutcome (translated (now (rule .entry)) (now (states .entry)) (now (transitions .entry)) (now (initial .entry))) ⌝ }
+{
+    pack_translated(translate(rule, states, transitions, initial))
+}
+
+// Tables with their counts as an image at the buffer's start. The image's length, or a refusal.
+#[no_mangle]
+pub extern "C" fn zimboralo_write(
+    states: &[u8],
+    state_count: usize,
+    transitions: &[u8],
+    transition_count: usize,
+    initial: &[u8],
+    initial_count: usize,
+    image: &mut [u8],
+) -> u64
+    ensures { λ r. ⌜ packedBuffer r (now (image .exit)) ≡ packBuffer (writes (countsOf «state_count» «transition_count» «initial_count») (now (states .entry)) (now (transitions .entry)) (now (initial .entry)) (now (image .entry))) ⌝ }
+{
+    pack_written(write(
+        states,
+        state_count,
+        transitions,
+        transition_count,
+        initial,
+        initial_count,
+        image,
+    ))
+}
+
+// An image into three tables. Its counts, or a refusal.
+#[no_mangle]
+pub extern "C" fn zimboralo_read(
+    image: &[u8],
+    states: &mut [u8],
+    transitions: &mut [u8],
+    initial: &mut [u8],
+) -> u64
+    ensures { λ r. ⌜ packedTables r (now (states .exit)) (now (transitions .exit)) (now (initial .exit)) ≡ packOutcome (reads (now (image .entry)) (now (states .entry)) (now (transitions .entry)) (now (initial .entry))) ⌝ }
+{
+    pack_loaded(read(image, states, transitions, initial))
+}
+
+// A lasso, stem and cycle, against an image. The verdict, or a refusal.
+#[no_mangle]
+pub extern "C" fn zimboralo_judge(image: &[u8], stem: &[u8], cycle: &[u8], work: &mut [u8]) -> u64
+    ensures { λ r. ⌜ SaysPacked r (judgeable (now (image .entry)) (now (stem .entry)) (now (cycle .entry)) (now (work .entry))) (now (stem .entry)) (now (cycle .entry)) ⌝ }
+    ensures { λ _. ⌜ now (work .exit) ≡ workAfter (judgeable (now (image .entry)) (now (stem .entry)) (now (cycle .entry)) (now (work .entry))) (now (work .entry)) ⌝ }
+{
+    pack_judged(judge(image, stem, cycle, work))
+}

@@ -1,0 +1,138 @@
+/* Every lent buffer at its exact smallest size between guard bytes that must stay as they were; and one byte shorter,
+ * which is refused by 25 with every byte as it was. Prints one line and exits 1 where something is wrong. */
+#include <stdio.h>
+#include <stdlib.h>
+#include <string.h>
+
+#include "zimboralo.h"
+
+enum { GUARD = 64, BUFFERS = 5 };
+
+static const size_t SIZES[BUFFERS] = {ZIMBORALO_STATES_BYTES, ZIMBORALO_TRANSITIONS_BYTES, ZIMBORALO_INITIAL_BYTES,
+                                      ZIMBORALO_IMAGE_BYTES, ZIMBORALO_WORK_BYTES};
+static const char *const NAMES[BUFFERS] = {"states", "transitions", "initial", "image", "work"};
+enum buffer { STATES, TRANSITIONS, INITIAL, IMAGE, WORK };
+
+static uint8_t *blocks[BUFFERS];
+static int wrong, looked;
+
+static uint8_t pattern(size_t i) { return (uint8_t)(i * 151 + 17); }
+
+static uint8_t *lent(enum buffer b) { return blocks[b] + GUARD; }
+
+static void refill(void)
+{
+    for (int b = 0; b < BUFFERS; b++)
+        for (size_t i = 0; i < SIZES[b] + 2 * GUARD; i++)
+            blocks[b][i] = pattern(i);
+}
+
+static void expect(int ok, const char *what, const char *name)
+{
+    looked++;
+    if (!ok) {
+        printf("guards: %s: %s\n", what, name);
+        wrong++;
+    }
+}
+
+/* The guards of every buffer, and everything from `from` on in the buffers that a refusal must not touch. */
+static void expect_guards(const char *what)
+{
+    for (int b = 0; b < BUFFERS; b++) {
+        int ok = 1;
+        for (size_t i = 0; i < GUARD; i++) {
+            size_t behind = GUARD + SIZES[b] + i;
+            ok = ok && blocks[b][i] == pattern(i) && blocks[b][behind] == pattern(behind);
+        }
+        expect(ok, what, NAMES[b]);
+    }
+}
+
+static void expect_untouched(const char *what)
+{
+    for (int b = 0; b < BUFFERS; b++) {
+        int ok = 1;
+        for (size_t i = 0; i < SIZES[b] + 2 * GUARD; i++)
+            ok = ok && blocks[b][i] == pattern(i);
+        expect(ok, what, NAMES[b]);
+    }
+}
+
+static size_t size_of(enum buffer b, enum buffer shorter) { return b == shorter ? SIZES[b] - 1 : SIZES[b]; }
+
+static uint64_t translate(const uint8_t *rule, size_t length, int shorter)
+{
+    return zimboralo_translate(rule, length, lent(STATES), size_of(STATES, shorter), lent(TRANSITIONS),
+                               size_of(TRANSITIONS, shorter), lent(INITIAL), size_of(INITIAL, shorter));
+}
+
+static uint64_t write_image(uint64_t made, int shorter)
+{
+    return zimboralo_write(lent(STATES), size_of(STATES, shorter), zimboralo_states(made), lent(TRANSITIONS),
+                           size_of(TRANSITIONS, shorter), zimboralo_transitions(made), lent(INITIAL),
+                           size_of(INITIAL, shorter), zimboralo_initial(made), lent(IMAGE), size_of(IMAGE, shorter));
+}
+
+static uint64_t read_image(const uint8_t *image, size_t length, int shorter)
+{
+    return zimboralo_read(image, length, lent(STATES), size_of(STATES, shorter), lent(TRANSITIONS),
+                          size_of(TRANSITIONS, shorter), lent(INITIAL), size_of(INITIAL, shorter));
+}
+
+static void whole(const uint8_t *rule, size_t length)
+{
+    static uint8_t copy[ZIMBORALO_IMAGE_BYTES];
+    const uint8_t cycle[] = {1, 0, 255};
+    refill();
+    uint64_t made = translate(rule, length, BUFFERS);
+    expect(zimboralo_number(made) == 0, "translate refused", "a rule");
+    expect_guards("translate touched a guard");
+    uint64_t written = write_image(made, BUFFERS);
+    expect(zimboralo_number(written) == 0, "write refused", "its own tables");
+    expect_guards("write touched a guard");
+    int behind = 1;
+    for (size_t i = zimboralo_length(written); i < SIZES[IMAGE]; i++)
+        behind = behind && lent(IMAGE)[i] == pattern(GUARD + i);
+    expect(behind, "write touched a byte behind the image", "image");
+    memcpy(copy, lent(IMAGE), zimboralo_length(written));
+    expect(zimboralo_number(zimboralo_judge(copy, zimboralo_length(written), cycle, 1, cycle, sizeof cycle, lent(WORK),
+                                            SIZES[WORK])) == 0,
+           "judge refused", "a plan");
+    expect_guards("judge touched a guard");
+    expect(read_image(copy, zimboralo_length(written), BUFFERS) == made, "read and translate differ", "counts");
+    expect_guards("read touched a guard");
+
+    for (int shorter = STATES; shorter <= INITIAL; shorter++) {
+        refill();
+        expect(translate(rule, length, shorter) == ZIMBORALO_TOO_SHORT, "translate took a short", NAMES[shorter]);
+        expect(read_image(copy, zimboralo_length(written), shorter) == ZIMBORALO_TOO_SHORT, "read took a short",
+               NAMES[shorter]);
+        expect_untouched("a short table was touched");
+    }
+    for (int shorter = STATES; shorter <= IMAGE; shorter++) {
+        refill();
+        expect(write_image(made, shorter) == ZIMBORALO_TOO_SHORT, "write took a short", NAMES[shorter]);
+        expect_untouched("write touched a buffer");
+    }
+    refill();
+    expect(zimboralo_judge(copy, zimboralo_length(written), cycle, 0, cycle, 1, lent(WORK), SIZES[WORK] - 1)
+               == ZIMBORALO_TOO_SHORT,
+           "judge took a short", NAMES[WORK]);
+    expect_untouched("judge touched a buffer");
+}
+
+int main(void)
+{
+    static const uint8_t always_eventually[] = {1, 0, 0, 2, 0, 0, 7, 0, 1, 0, 0, 0, 8, 3, 2};
+    static const uint8_t never[] = {0, 0, 0};
+    for (int b = 0; b < BUFFERS; b++)
+        if (!(blocks[b] = malloc(SIZES[b] + 2 * GUARD)))
+            return 1;
+    whole(always_eventually, sizeof always_eventually);
+    whole(never, sizeof never);
+    printf("guards: %d looked at, %d wrong\n", looked, wrong);
+    for (int b = 0; b < BUFFERS; b++)
+        free(blocks[b]);
+    return wrong != 0;
+}

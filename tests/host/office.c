@@ -1,0 +1,117 @@
+/* The office program: a rule and a plan, from bytes to the verdict in words.
+ *
+ *     office RULE STEM CYCLE       each in hexadecimal, or @FILE for a file's bytes; - for none
+ *
+ * Exits 0 for a kept plan, 1 for a broken one, 2 for a refusal or bad words. */
+#include <ctype.h>
+#include <stdio.h>
+#include <stdlib.h>
+#include <string.h>
+
+#include "zimboralo.h"
+
+struct bytes {
+    uint8_t *at;
+    size_t length;
+};
+
+static void stop(const char *what, const char *word)
+{
+    fprintf(stderr, "office: %s: %s\n", what, word);
+    exit(2);
+}
+
+static int digit(char c)
+{
+    return isdigit((unsigned char)c) ? c - '0' : isxdigit((unsigned char)c) ? tolower((unsigned char)c) - 'a' + 10 : -1;
+}
+
+static struct bytes from_file(const char *name)
+{
+    FILE *f = fopen(name, "rb");
+    if (!f)
+        stop("cannot open", name);
+    struct bytes b = {malloc(65536), 0};
+    if (!b.at)
+        stop("no memory for", name);
+    b.length = fread(b.at, 1, 65536, f);
+    fclose(f);
+    return b;
+}
+
+static struct bytes from_word(const char *word)
+{
+    if (word[0] == '@')
+        return from_file(word + 1);
+    size_t n = strcmp(word, "-") == 0 ? 0 : strlen(word);
+    struct bytes b = {malloc(n / 2 + 1), 0};
+    if (!b.at || n % 2)
+        stop("not hexadecimal", word);
+    for (size_t i = 0; i < n; i += 2) {
+        int high = digit(word[i]), low = digit(word[i + 1]);
+        if (high < 0 || low < 0)
+            stop("not hexadecimal", word);
+        b.at[b.length++] = (uint8_t)(high * 16 + low);
+    }
+    return b;
+}
+
+static const char *words_of(unsigned number)
+{
+    static const char *const words[] = {
+        [1] = "the rule has over 96 bytes",
+        [2] = "the rule is empty or its length is no multiple of 3",
+        [3] = "a node of the rule has an unknown kind",
+        [4] = "a node of the rule has a mark above 7 or an unused byte that is not 0",
+        [5] = "a child in the rule is not below its parent",
+        [6] = "a node of the rule has no parent, or is a child at two places",
+        [7] = "the rule has over 8 untils",
+        [8] = "the plan's loop is empty",
+        [9] = "the plan has over 128 slots",
+        [10] = "the image's contents are wrong",
+        [11] = "a state of the image is wrong",
+        [12] = "a transition of the image is wrong",
+        [13] = "an initial state of the image is wrong",
+        [20] = "a node of the rule has too many terms",
+        [21] = "the rule has too large a product",
+        [22] = "the rule has too many transitions",
+        [23] = "the rule has too many states",
+        [24] = "the rule has too many pairs",
+        [25] = "a buffer is too short",
+    };
+    return number < sizeof words / sizeof *words && words[number] ? words[number] : "unknown refusal";
+}
+
+static uint64_t checked(uint64_t answer)
+{
+    if (zimboralo_number(answer) != ZIMBORALO_ACCEPTED) {
+        printf("refused %u place %u: %s\n", zimboralo_number(answer), zimboralo_place(answer),
+               words_of(zimboralo_number(answer)));
+        exit(2);
+    }
+    return answer;
+}
+
+int main(int count, char **words)
+{
+    static uint8_t states[ZIMBORALO_STATES_BYTES], transitions[ZIMBORALO_TRANSITIONS_BYTES],
+        initial[ZIMBORALO_INITIAL_BYTES], image[ZIMBORALO_IMAGE_BYTES], work[ZIMBORALO_WORK_BYTES];
+    if (count != 4)
+        stop("usage", "office RULE STEM CYCLE");
+    struct bytes rule = from_word(words[1]), stem = from_word(words[2]), cycle = from_word(words[3]);
+    uint64_t made = checked(zimboralo_translate(rule.at, rule.length, states, sizeof states, transitions,
+                                                sizeof transitions, initial, sizeof initial));
+    printf("automaton: %u states, %u transitions, %u initial\n", zimboralo_states(made), zimboralo_transitions(made),
+           zimboralo_initial(made));
+    uint64_t written = checked(zimboralo_write(states, sizeof states, zimboralo_states(made), transitions,
+                                               sizeof transitions, zimboralo_transitions(made), initial,
+                                               sizeof initial, zimboralo_initial(made), image, sizeof image));
+    printf("image: %zu bytes\n", zimboralo_length(written));
+    uint64_t verdict = checked(zimboralo_judge(image, zimboralo_length(written), stem.at, stem.length, cycle.at,
+                                               cycle.length, work, sizeof work));
+    puts(zimboralo_kept(verdict) ? "kept" : "broken");
+    free(rule.at);
+    free(stem.at);
+    free(cycle.at);
+    return zimboralo_kept(verdict) ? 0 : 1;
+}
