@@ -56,8 +56,8 @@ enum Paired {
     Full(usize),
 }
 
-// All of a table set to 0.
-fn zero(table: &mut [u8])
+// All of a slice set to 0.
+pub fn zero(table: &mut [u8])
     ensures { λ _. ⌜ now (table .exit) ≡ replicate (length (now (table .entry))) 0 ⌝ }
 {
     let mut i = 0;

@@ -6,8 +6,7 @@ use native.Mathlib.Nat.{zero-add}
 use native.Mathlib.Numerals.{add-one}
 use native.Mathlib.Omega.{arith}
 use lib.ListN.{length, getD, take, drop, set, replicate, length-append, length-drop, length-set, drop-of-length-le}
-use lib.Seq.{sets-eq, paste-suc, take-all, take-at, drop-at, drop-drop, drop-length, length-take-le}
-use borrow.Author.Fill.{fill-more}
+use lib.Seq.{sets-eq, paste-suc, take-all, take-at, drop-at, drop-drop, length-take-le}
 use borrow.Rule.Slice.PartMut.{midOf, putMid}
 use Rattle.automaton.specs.Records.{twoBytes}
 use Rattle.automaton.specs.Translate.{Counts, filled}
@@ -38,28 +37,6 @@ module _ (xs vs : List ℕ) (n : ℕ) where
       let e : n ≡ i = omega (arith, inv .within) in
       rw e (inv .stored)
 
--- a loop that stores zeros and stands at i
-pub record Clearing (xs ys : List ℕ) (i : ℕ) : Type 0 where
-  pub within : i ≤ length xs
-  pub size : length ys ≡ length xs
-  pub stored : ys ≡ replicate i 0 ++ drop i xs
-
-module _ (xs : List ℕ) where
-  pub clear-begins : Clearing xs xs 0
-  clear-begins = record { within = omega arith; size = refl; stored = refl }
-
-  pub clear-steps : (ys : List ℕ) (i : ℕ) → i < length ys → Clearing xs ys i → Clearing xs (set ys i 0) (i + 1)
-  clear-steps ys i lt inv = record {
-    within = omega (arith, inv .size);
-    size = simp length-set (inv .size);
-    stored = rw (inv .stored) (fill-more i 0 xs (omega (arith, inv .size)));
-  }
-
-  pub clear-ends : (ys : List ℕ) (i : ℕ) → length ys ≤ i → Clearing xs ys i → ys ≡ replicate (length xs) 0
-  clear-ends ys i le inv =
-      let e : i ≡ length xs = omega (arith, inv .size, inv .within) in
-      inv .stored ∙ rw (e, drop-length, append-nil)
-
 -- six stores are an entry of the contents
 pub entry-stored : (xs : List ℕ) (kind count offset : ℕ) → 6 ≤ length xs → kind < 256
     → set (set (set (set (set (set xs 0 kind) 1 0) 2 (count % 256)) 3 (count / 256)) 4 (offset % 256)) 5 (offset / 256) ≡ entry kind count offset ++ drop 6 xs
@@ -86,9 +63,9 @@ lent-more p bs image xs ys a n size whole e =
     lent-back p (drop a image) xs a size whole ys ∙ rw (e, lent-part p (drop a image) xs a size whole, drop-drop n a image, append-assoc)
 
 -- a copy, and zeros in the part behind it
-pub copied-cleared : (table source xs ys : List ℕ) (n : ℕ) → n ≤ length table → n ≤ length source → xs ≡ take n source ++ drop n table
+pub copied-zeroed : (table source xs ys : List ℕ) (n : ℕ) → n ≤ length table → n ≤ length source → xs ≡ take n source ++ drop n table
     → ys ≡ replicate (length (midOf n (length xs - n) xs)) 0 → putMid n (length xs - n) xs ys ≡ filled table (take n source)
-copied-cleared table source xs ys n room le whole e =
+copied-zeroed table source xs ys n room le whole e =
     let size : length (take n source) ≡ n = length-take-le n source le in
     lent-back (take n source) (drop n table) xs n size whole ys ∙ rw (e, lent-part (take n source) (drop n table) xs n size whole, length-drop n table, size)
 

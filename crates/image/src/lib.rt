@@ -313,23 +313,13 @@ fn copy(target: &mut [u8], source: &[u8], n: usize)
 }
 
 // Zero in every place.
-pub fn clear(bytes: &mut [u8])
-    ensures { λ _. ⌜ now (bytes .exit) ≡ replicate (length (now (bytes .entry))) 0 ⌝ }
-{
-    let mut i = 0;
-    while i < bytes.len() {
-        bytes[i] = 0;
-        i += 1;
-    }
-}
-
 // The first n bytes of source in a table, and zero behind them.
 fn load(table: &mut [u8], source: &[u8], n: usize)
     requires { ⌜ (n ≤ length (now table)) × (n ≤ length (now source)) ⌝ }
     ensures { λ _. ⌜ now (table .exit) ≡ filled (now (table .entry)) (take n (now (source .entry))) ⌝ }
 {
     copy(table, source, n);
-    clear(&mut table[n..]);
+    automaton::zero(&mut table[n..]);
 }
 
 // The bodies of an image in three tables.

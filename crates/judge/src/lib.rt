@@ -2,7 +2,6 @@
 use image::CONTENTS_BYTES;
 use image::Loaded;
 use image::check;
-use image::clear;
 use image::number_at;
 ghost use mathlib.Core.Path.{_≡_};
 ghost use mathlib.Core.Bool.{true, _&&_};
@@ -352,7 +351,7 @@ fn judge_lasso(image: &[u8], n: usize, stem: &[u8], cycle: &[u8], work: &mut [u8
         return Judged::Refused(TOO_MANY_LETTERS, 0);
     }
     let kept = search(image, n, stem, cycle);
-    clear(work);
+    automaton::zero(work);
     if kept {
         return Judged::Kept;
     }

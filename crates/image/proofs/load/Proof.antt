@@ -1,24 +1,24 @@
 -- `image::load` meets its contract: a copy, and zeros in the lent part behind it.
 -- Assumes nothing.
 use borrow.Author.Needs.{needs}
-use Rattle.image.proofs.Stores.{copied-cleared}
+use Rattle.image.proofs.Stores.{copied-zeroed}
 use Rattle.image.proofs.load.Statement.{statement}
 use Rattle.image.proofs.load.Tie as tie
 
 copy-requires : tie.Need-copy-requires
 copy-requires c κs = search needs
 
-sub-clear : tie.Need-sub-clear
-sub-clear c = search needs
+sub-zero : tie.Need-sub-zero
+sub-zero c = search needs
 
-part-clear-start : tie.Need-part-clear-start
-part-clear-start c = search needs
+part-zero-start : tie.Need-part-zero-start
+part-zero-start c = search needs
 
-part-clear-end : tie.Need-part-clear-end
-part-clear-end c = search needs
+part-zero-end : tie.Need-part-zero-end
+part-zero-end c = search needs
 
-clear-requires : tie.Need-clear-requires
-clear-requires c κs = search needs
+zero-requires : tie.Need-zero-requires
+zero-requires c κs = search needs
 
 same-length : tie.Need-same-length
 same-length c = search needs
@@ -26,16 +26,16 @@ same-length c = search needs
 returns : tie.Need-returns
 returns c =
     let s = c .before .before .before .before .before .before .before .before .before .before in
-    copied-cleared _ _ _ _ _ (s .pre .0) (s .pre .1) (c .before .before .before .before .before .before .copy .ensures) (c .before .before .clear .ensures)
+    copied-zeroed _ _ _ _ _ (s .pre .0) (s .pre .1) (c .before .before .before .before .before .before .copy .ensures) (c .before .before .zero .ensures)
 
 pub load-spec : {M : Type 1} → statement M
 load-spec =
     tie.close
     (tie.spec
     copy-requires
-    sub-clear
-    part-clear-start
-    part-clear-end
-    clear-requires
+    sub-zero
+    part-zero-start
+    part-zero-end
+    zero-requires
     same-length
     returns)

@@ -18,20 +18,20 @@ returns-2 c = letters-over _ _ _ _ (c .before .before .if1 .left) (c .before .le
 search-requires : tie.Need-search-requires
 search-requires c κs = search needs
 
-clear-requires : tie.Need-clear-requires
-clear-requires c κs = search needs
+zero-requires : tie.Need-zero-requires
+zero-requires c κs = search needs
 
 same-length : tie.Need-same-length
 same-length c = search needs
 
 returns-3 : tie.Need-returns-3
-returns-3 c = lasso-kept _ _ _ _ (c .before .before .before .before .before .before .before .before .if1 .left) (c .before .before .before .before .before .before .before .letters-fit .ensures) (c .before .before .before .before .before .before .if2 .left) (c .before .before .before .before .before .search .ensures) (c .before .before .before .clear .ensures) (c .if3 .taken)
+returns-3 c = lasso-kept _ _ _ _ (c .before .before .before .before .before .before .before .before .if1 .left) (c .before .before .before .before .before .before .before .letters-fit .ensures) (c .before .before .before .before .before .before .if2 .left) (c .before .before .before .before .before .search .ensures) (c .before .before .before .zero .ensures) (c .if3 .taken)
 
 same-length-2 : tie.Need-same-length-2
 same-length-2 c = search needs
 
 returns-4 : tie.Need-returns-4
-returns-4 c = lasso-broken _ _ _ _ (c .before .before .before .before .before .before .before .before .if1 .left) (c .before .before .before .before .before .before .before .letters-fit .ensures) (c .before .before .before .before .before .before .if2 .left) (c .before .before .before .before .before .search .ensures) (c .before .before .before .clear .ensures) (c .if3 .left)
+returns-4 c = lasso-broken _ _ _ _ (c .before .before .before .before .before .before .before .before .if1 .left) (c .before .before .before .before .before .before .before .letters-fit .ensures) (c .before .before .before .before .before .before .if2 .left) (c .before .before .before .before .before .search .ensures) (c .before .before .before .zero .ensures) (c .if3 .left)
 
 pub judge-lasso-spec : {M : Type 1} → statement M
 judge-lasso-spec =
@@ -41,7 +41,7 @@ judge-lasso-spec =
     letters-fit-requires
     returns-2
     search-requires
-    clear-requires
+    zero-requires
     same-length
     returns-3
     same-length-2

@@ -1,0 +1,75 @@
+/* bench FILE REPEAT: the sum of the answers and the nanoseconds of one round over the cases of FILE, the best of REPEAT.
+ * The cases are those of tests/host/serve.c, T and J alone. */
+#include <stdio.h>
+#include <stdlib.h>
+#include <time.h>
+
+#include "zimboralo.h"
+
+struct slice {
+    const uint8_t *at;
+    size_t length;
+};
+
+struct one {
+    int kind;
+    struct slice slices[3];
+};
+
+static uint8_t states[ZIMBORALO_STATES_BYTES], transitions[ZIMBORALO_TRANSITIONS_BYTES],
+    initial[ZIMBORALO_INITIAL_BYTES], work[ZIMBORALO_WORK_BYTES];
+
+static uint64_t answer(const struct one *c)
+{
+    const struct slice *s = c->slices;
+    if (c->kind == 'T')
+        return zimboralo_translate(s[0].at, s[0].length, states, sizeof states, transitions, sizeof transitions,
+                                   initial, sizeof initial);
+    return zimboralo_judge(s[0].at, s[0].length, s[1].at, s[1].length, s[2].at, s[2].length, work, sizeof work);
+}
+
+static long long now(void)
+{
+    struct timespec t;
+    clock_gettime(CLOCK_MONOTONIC, &t);
+    return t.tv_sec * 1000000000LL + t.tv_nsec;
+}
+
+int main(int count, char **words)
+{
+    FILE *f = count == 3 ? fopen(words[1], "rb") : NULL;
+    if (!f)
+        return 2;
+    fseek(f, 0, SEEK_END);
+    long size = ftell(f);
+    rewind(f);
+    uint8_t *bytes = malloc((size_t)size + 1);
+    struct one *cases = malloc(sizeof *cases * ((size_t)size + 1));
+    if (!bytes || !cases || fread(bytes, 1, (size_t)size, f) != (size_t)size)
+        return 2;
+    fclose(f);
+    size_t n = 0;
+    for (long at = 0; at < size; n++) {
+        cases[n].kind = bytes[at++];
+        for (int k = 0; k < (cases[n].kind == 'T' ? 1 : 3); k++) {
+            size_t length = bytes[at] | (size_t)bytes[at + 1] << 8 | (size_t)bytes[at + 2] << 16 | (size_t)bytes[at + 3] << 24;
+            cases[n].slices[k] = (struct slice){bytes + at + 4, length};
+            at += 4 + (long)length;
+        }
+    }
+    long long best = -1;
+    uint64_t sum = 0;
+    for (int r = atoi(words[2]); r > 0; r--) {
+        long long start = now();
+        sum = 0;
+        for (size_t i = 0; i < n; i++)
+            sum += answer(&cases[i]);
+        long long took = now() - start;
+        if (best < 0 || took < best)
+            best = took;
+    }
+    printf("%llu %lld\n", (unsigned long long)sum, best);
+    free(cases);
+    free(bytes);
+    return 0;
+}

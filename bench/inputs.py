@@ -1,0 +1,105 @@
+"""The benchmark's inputs, a file of cases for each group, in the form that tests/host/serve.c reads (T and J)."""
+import os
+import random
+import struct
+import sys
+
+sys.path.insert(0, os.path.join(os.path.dirname(os.path.abspath(__file__)), "..", "tests"))
+import lassos  # noqa: E402
+import rules  # noqa: E402
+from rules import AND, FALSE, NEGATION, PROPOSITION, RELEASE, TRUE, UNTIL, Builder, second  # noqa: E402
+
+
+def theta(n):
+    """not ((always eventually p1 and .. and always eventually pn) implies always (q implies eventually r)), of source
+    document 001, in negation normal form; its formula for Spin with it."""
+    b = Builder()
+    true, false = b.add(TRUE), b.add(FALSE)
+    parts = [b.add(RELEASE, false, b.add(UNTIL, true, b.add(PROPOSITION, i))) for i in range(n)]
+    never = b.add(RELEASE, false, b.add(NEGATION, n + 1))
+    parts.append(b.add(UNTIL, true, b.add(AND, b.add(PROPOSITION, n), never)))
+    b.joined(AND, parts)
+    fair = " && ".join(f"[]<>p{i}" for i in range(n))
+    return b.bytes(), f"!(({fair}) -> [](q -> <>r))"
+
+
+def phi(n):
+    """not (p1 until (p2 until (.. until pn))), in negation normal form, with its formula for Spin."""
+    b = Builder()
+    leaves = [b.add(NEGATION, i) for i in range(n)]
+    node = leaves[-1]
+    for leaf in reversed(leaves[:-1]):
+        node = b.add(RELEASE, leaf, node)
+    text = f"p{n - 1}"
+    for i in reversed(range(n - 1)):
+        text = f"(p{i} U {text})"
+    return b.bytes(), f"!{text}"
+
+
+FORMULAS = [(f"theta_{n}", *theta(n)) for n in (1, 2, 3)] + [(f"phi_{n}", *phi(n)) for n in (2, 3, 4, 5)]
+
+
+def full_image(states=96, row=128):
+    """An automaton with as many transitions as fit, of which most letters take about half; never accepting, so that
+    nothing is decided early."""
+    rng = random.Random(states * 1000 + row)
+    rows = [(False, [(rng.choice((0, 0, 1, 2)), rng.choice((0, 4)), rng.randrange(states)) for _ in range(row)])
+            for _ in range(states)]
+    return second.write(second.Watcher(rows, [0]))
+
+
+def framed(kind, *slices):
+    return kind + b"".join(struct.pack("<I", len(s)) + s for s in slices)
+
+
+def translations(cases):
+    return b"".join(framed(b"T", rule) for rule in cases)
+
+
+def plans(cases):
+    return b"".join(framed(b"J", *case) for case in cases)
+
+
+def accepted_rules(seed, count):
+    """Random rules that are accepted, and not only small ones."""
+    rng, out = random.Random(seed), []
+    while len(out) < count:
+        rule = rules.well_formed(rng)
+        try:
+            second.translate(rule)
+            out.append(rule)
+        except second.Refused:
+            pass
+    return out
+
+
+def groups():
+    """Name and cases of each group: first those to translate, then those to judge."""
+    random_rules = accepted_rules(7, 200)
+    letters = random.Random(3)
+    images = [second.write(second.translate(rule)) for rule in random_rules]
+    full = full_image()
+    return [
+        ("translate: rows P1 to P9", translations(bytes.fromhex(r.replace(" ", "")) for _, r, _ in second.ROWS)),
+        ("translate: limits", translations(rule for _, rule, _ in rules.LIMITS)),
+        ("translate: theta_1 to theta_3", translations(rule for name, rule, _ in FORMULAS if name.startswith("theta"))),
+        ("translate: phi_2 to phi_5", translations(rule for name, rule, _ in FORMULAS if name.startswith("phi"))),
+        ("translate: 200 random rules", translations(random_rules)),
+        ("judge: 200 random images, 12 slots",
+         plans((image, lassos.letters(letters, 4), lassos.letters(letters, 8)) for image in images)),
+        ("judge: 200 random images, 128 slots",
+         plans((image, lassos.letters(letters, 64), lassos.letters(letters, 64)) for image in images)),
+        ("judge: a full image, 128 slots", plans([(full, b"", lassos.letters(letters, 128))])),
+    ]
+
+
+def by_letters():
+    """A full image on plans of more and more slots."""
+    full, letters = full_image(), random.Random(5)
+    return [(n, plans([(full, b"", lassos.letters(letters, n))])) for n in (1, 8, 16, 32, 64, 96, 128)]
+
+
+def by_transitions():
+    """128 slots on images with more and more transitions."""
+    letters = random.Random(6)
+    return [(96 * row, plans([(full_image(96, row), b"", lassos.letters(letters, 128))])) for row in (1, 8, 16, 32, 64, 96, 128)]

@@ -1,0 +1,411 @@
+//! The peer of the benchmark: the same translation and the same judging in idiomatic Rust, with the standard library
+//! alone. It is compared with the second translator by `bench/run` before it is timed.
+use std::collections::{BTreeSet, HashMap};
+
+#[derive(Clone, Copy, PartialEq, Eq)]
+pub struct Refusal {
+    pub number: u8,
+    pub place: usize,
+}
+
+type Answer<T> = Result<T, Refusal>;
+
+fn refuse<T>(number: u8, place: usize) -> Answer<T> {
+    Err(Refusal { number, place })
+}
+
+#[derive(Clone, Copy)]
+struct Node {
+    kind: u8,
+    left: usize,
+    right: usize,
+}
+
+impl Node {
+    fn children(&self) -> impl Iterator<Item = usize> {
+        let (left, right) = match self.kind {
+            4 | 5 | 7 | 8 => (Some(self.left), Some(self.right)),
+            6 => (Some(self.left), None),
+            _ => (None, None),
+        };
+        left.into_iter().chain(right)
+    }
+}
+
+/// Ordered by obligations, then must, then must_not.
+#[derive(Clone, Copy, PartialEq, Eq, PartialOrd, Ord)]
+struct Term {
+    obligations: u32,
+    must: u8,
+    must_not: u8,
+}
+
+const NOTHING: Term = Term { obligations: 0, must: 0, must_not: 0 };
+
+fn join(x: Term, y: Term) -> Option<Term> {
+    let t = Term {
+        obligations: x.obligations | y.obligations,
+        must: x.must | y.must,
+        must_not: x.must_not | y.must_not,
+    };
+    (t.must & t.must_not == 0).then_some(t)
+}
+
+fn product(xs: &BTreeSet<Term>, ys: &BTreeSet<Term>) -> BTreeSet<Term> {
+    xs.iter().flat_map(|x| ys.iter().filter_map(move |y| join(*x, *y))).collect()
+}
+
+fn parse(rule: &[u8]) -> Answer<Vec<Node>> {
+    if rule.len() > 96 {
+        return refuse(1, 0);
+    }
+    if rule.is_empty() || rule.len() % 3 != 0 {
+        return refuse(2, 0);
+    }
+    let nodes: Vec<Node> = rule
+        .chunks(3)
+        .map(|c| Node { kind: c[0], left: c[1] as usize, right: c[2] as usize })
+        .collect();
+    for (n, node) in nodes.iter().enumerate() {
+        if node.kind > 8 {
+            return refuse(3, n);
+        }
+        let fits = match node.kind {
+            0 | 1 => node.left == 0 && node.right == 0,
+            2 | 3 => node.left <= 7 && node.right == 0,
+            6 => node.right == 0,
+            _ => true,
+        };
+        if !fits {
+            return refuse(4, n);
+        }
+        if node.children().any(|c| c >= n) {
+            return refuse(5, n);
+        }
+    }
+    let mut places = vec![0; nodes.len()];
+    for node in &nodes {
+        for c in node.children() {
+            places[c] += 1;
+        }
+    }
+    for (n, node) in nodes.iter().enumerate() {
+        if (n + 1 < nodes.len() && places[n] == 0) || (node.kind > 3 && places[n] > 1) {
+            return refuse(6, n);
+        }
+    }
+    if nodes.iter().filter(|n| n.kind == 7).count() > 8 {
+        return refuse(7, 0);
+    }
+    Ok(nodes)
+}
+
+/// Covers and terms of every node, from those of its children.
+fn expand(nodes: &[Node]) -> Answer<(Vec<BTreeSet<u32>>, Vec<BTreeSet<Term>>)> {
+    let mut covers: Vec<BTreeSet<u32>> = Vec::new();
+    let mut terms: Vec<BTreeSet<Term>> = Vec::new();
+    for (n, node) in nodes.iter().enumerate() {
+        let own = Term { obligations: 1 << n, ..NOTHING };
+        let (l, r) = (node.left, node.right);
+        let cover: BTreeSet<u32> = match node.kind {
+            0 => BTreeSet::new(),
+            1 => BTreeSet::from([0]),
+            4 => covers[l].iter().flat_map(|c| covers[r].iter().map(move |d| c | d)).collect(),
+            5 => covers[l].union(&covers[r]).copied().collect(),
+            _ => BTreeSet::from([1 << n]),
+        };
+        let term: BTreeSet<Term> = match node.kind {
+            0 => BTreeSet::new(),
+            1 => BTreeSet::from([NOTHING]),
+            2 => BTreeSet::from([Term { must: 1 << l, ..NOTHING }]),
+            3 => BTreeSet::from([Term { must_not: 1 << l, ..NOTHING }]),
+            4 => product(&terms[l], &terms[r]),
+            5 => terms[l].union(&terms[r]).copied().collect(),
+            6 => covers[l].iter().map(|c| Term { obligations: *c, ..NOTHING }).collect(),
+            7 => {
+                let mut out = product(&terms[l], &BTreeSet::from([own]));
+                out.extend(&terms[r]);
+                out
+            }
+            _ => {
+                let mut either = terms[l].clone();
+                either.insert(own);
+                product(&terms[r], &either)
+            }
+        };
+        if term.len() > 64 || cover.len() > 64 {
+            return refuse(20, n);
+        }
+        covers.push(cover);
+        terms.push(term);
+    }
+    Ok((covers, terms))
+}
+
+pub struct State {
+    pub accepting: bool,
+    pub transitions: Vec<(u8, u8, u16)>,
+}
+
+pub struct Automaton {
+    pub states: Vec<State>,
+    pub initial: Vec<u16>,
+}
+
+fn fulfils(f: usize, terms: &BTreeSet<Term>, t: Term) -> bool {
+    t.obligations >> f & 1 == 0
+        || terms.iter().any(|u| {
+            u.must & !t.must == 0
+                && u.must_not & !t.must_not == 0
+                && u.obligations & !t.obligations == 0
+                && u.obligations >> f & 1 == 0
+        })
+}
+
+/// The number of x, the next one if it is new; None if that is one too many.
+fn number<T: std::hash::Hash + Eq + Copy>(seen: &mut HashMap<T, usize>, order: &mut Vec<T>, x: T, limit: usize) -> Option<usize> {
+    if let Some(&k) = seen.get(&x) {
+        return Some(k);
+    }
+    if order.len() == limit {
+        return None;
+    }
+    seen.insert(x, order.len());
+    order.push(x);
+    Some(order.len() - 1)
+}
+
+pub fn translate(rule: &[u8]) -> Answer<Automaton> {
+    let nodes = parse(rule)?;
+    let (covers, terms) = expand(&nodes)?;
+    let untils: Vec<usize> = (0..nodes.len()).filter(|&n| nodes[n].kind == 7).collect();
+    let mut sets: Vec<u32> = covers[nodes.len() - 1].iter().copied().collect();
+    let initial = sets.len();
+    let mut seen: HashMap<u32, usize> = sets.iter().copied().zip(0..).collect();
+    let mut rows: Vec<Vec<(Term, usize, u8)>> = Vec::new();
+    let mut total = 0;
+    while rows.len() < sets.len() {
+        let place = rows.len();
+        let mut ts = BTreeSet::from([NOTHING]);
+        for n in (0..nodes.len()).filter(|n| sets[place] >> n & 1 == 1) {
+            ts = product(&ts, &terms[n]);
+            if ts.len() > 128 {
+                return refuse(21, place);
+            }
+        }
+        let mut row = Vec::with_capacity(ts.len());
+        for t in ts {
+            total += 1;
+            if total > 1024 {
+                return refuse(22, place);
+            }
+            let Some(target) = number(&mut seen, &mut sets, t.obligations, 128) else {
+                return refuse(23, place);
+            };
+            let marks = untils
+                .iter()
+                .enumerate()
+                .fold(0u8, |m, (k, &f)| m | (fulfils(f, &terms[f], t) as u8) << k);
+            row.push((t, target, marks));
+        }
+        rows.push(row);
+    }
+    let r = untils.len();
+    let mut pairs: Vec<(usize, usize)> = (0..initial).map(|i| (i, 0)).collect();
+    let mut known: HashMap<(usize, usize), usize> = pairs.iter().copied().zip(0..).collect();
+    let mut states = Vec::new();
+    while states.len() < pairs.len() {
+        let place = states.len();
+        let (state, level) = pairs[place];
+        let mut transitions = Vec::with_capacity(rows[state].len());
+        for &(t, target, marks) in &rows[state] {
+            let mut next = if level == r { 0 } else { level };
+            while next < r && marks >> next & 1 == 1 {
+                next += 1;
+            }
+            let Some(k) = number(&mut known, &mut pairs, (target, next), 96) else {
+                return refuse(24, place);
+            };
+            transitions.push((t.must, t.must_not, k as u16));
+        }
+        states.push(State { accepting: level == r, transitions });
+    }
+    Ok(Automaton { states, initial: (0..initial as u16).collect() })
+}
+
+/// Some state at the beginning of a pass comes back to itself through an accepting state.
+pub fn judge(a: &Automaton, stem: &[u8], cycle: &[u8]) -> bool {
+    let step = |here: &[bool], letter: u8| {
+        let mut next = vec![false; a.states.len()];
+        for (q, _) in here.iter().enumerate().filter(|(_, h)| **h) {
+            for &(must, must_not, t) in &a.states[q].transitions {
+                if letter & must == must && letter & must_not == 0 {
+                    next[t as usize] = true;
+                }
+            }
+        }
+        next
+    };
+    let n = a.states.len();
+    let mut here = vec![false; n];
+    for &i in &a.initial {
+        here[i as usize] = true;
+    }
+    for &letter in stem {
+        here = step(&here, letter);
+    }
+    // one pass from every state: 0 no run, 1 a run, 2 a run that meets an accepting state
+    let mut pass = vec![vec![0u8; n]; n];
+    for (p, row) in pass.iter_mut().enumerate() {
+        let mut now = vec![0u8; n];
+        now[p] = 1 + a.states[p].accepting as u8;
+        for &letter in cycle {
+            let mut next = vec![0u8; n];
+            for q in 0..n {
+                if now[q] == 0 {
+                    continue;
+                }
+                for &(must, must_not, t) in &a.states[q].transitions {
+                    if letter & must == must && letter & must_not == 0 {
+                        let t = t as usize;
+                        let value = if a.states[t].accepting { 2 } else { now[q] };
+                        next[t] = next[t].max(value);
+                    }
+                }
+            }
+            now = next;
+        }
+        *row = now;
+    }
+    let mut todo: Vec<usize> = (0..n).filter(|&q| here[q]).collect();
+    while let Some(p) = todo.pop() {
+        for q in 0..n {
+            if pass[p][q] > 0 && !here[q] {
+                here[q] = true;
+                todo.push(q);
+            }
+        }
+    }
+    for k in 0..n {
+        for i in 0..n {
+            if pass[i][k] == 0 {
+                continue;
+            }
+            for j in 0..n {
+                if pass[k][j] > 0 {
+                    pass[i][j] = pass[i][j].max(pass[i][k].max(pass[k][j]));
+                }
+            }
+        }
+    }
+    (0..n).any(|q| here[q] && pass[q][q] == 2)
+}
+
+fn number_at(bytes: &[u8], i: usize) -> usize {
+    u16::from_le_bytes([bytes[i], bytes[i + 1]]) as usize
+}
+
+/// The automaton of an image, or its refusal by 10 to 13.
+pub fn read(image: &[u8]) -> Answer<Automaton> {
+    if image.len() < 18 {
+        return refuse(10, 0);
+    }
+    let entry = |k: usize| [number_at(image, 6 * k), number_at(image, 6 * k + 2), number_at(image, 6 * k + 4)];
+    let [[k1, a, o1], [k2, b, o2], [k3, c, o3]] = [entry(0), entry(1), entry(2)];
+    if [k1, k2, k3] != [1, 2, 3]
+        || a > 96
+        || b > 12288
+        || c > 96
+        || [o1, o2, o3] != [18, 18 + 4 * a, 18 + 4 * a + 4 * b]
+        || image.len() != o3 + 2 * c
+    {
+        return refuse(10, 0);
+    }
+    let mut sizes = Vec::with_capacity(a);
+    for (i, r) in image[o1..o2].chunks(4).enumerate() {
+        let size = number_at(r, 0);
+        if size > 128 || r[2] > 1 || r[3] != 0 {
+            return refuse(11, i);
+        }
+        sizes.push((size, r[2] == 1));
+    }
+    if sizes.iter().map(|s| s.0).sum::<usize>() != b {
+        return refuse(11, a);
+    }
+    let mut records = Vec::with_capacity(b);
+    for (i, r) in image[o2..o3].chunks(4).enumerate() {
+        let target = number_at(r, 2);
+        if target >= a || r[0] & r[1] != 0 {
+            return refuse(12, i);
+        }
+        records.push((r[0], r[1], target as u16));
+    }
+    let mut initial: Vec<u16> = Vec::with_capacity(c);
+    for (i, r) in image[o3..].chunks(2).enumerate() {
+        let x = number_at(r, 0);
+        if x >= a || initial.last().is_some_and(|&last| x <= last as usize) {
+            return refuse(13, i);
+        }
+        initial.push(x as u16);
+    }
+    let mut rest = records.into_iter();
+    let states = sizes
+        .into_iter()
+        .map(|(size, accepting)| State { accepting, transitions: rest.by_ref().take(size).collect() })
+        .collect();
+    Ok(Automaton { states, initial })
+}
+
+/// Cases as `tests/host/serve.c` reads them, T and J alone.
+fn cases(bytes: &[u8]) -> Vec<(u8, Vec<&[u8]>)> {
+    let mut out = Vec::new();
+    let mut at = 0;
+    while at < bytes.len() {
+        let kind = bytes[at];
+        at += 1;
+        let mut slices = Vec::new();
+        for _ in 0..if kind == b'T' { 1 } else { 3 } {
+            let n = u32::from_le_bytes(bytes[at..at + 4].try_into().unwrap()) as usize;
+            slices.push(&bytes[at + 4..at + 4 + n]);
+            at += 4 + n;
+        }
+        out.push((kind, slices));
+    }
+    out
+}
+
+/// What a case comes to, as one number, so that both sides can be held against each other.
+fn answer(kind: u8, slices: &[&[u8]]) -> u64 {
+    let refused = |r: Refusal| r.number as u64 + 256 * r.place as u64;
+    if kind == b'T' {
+        return match translate(slices[0]) {
+            Ok(a) => {
+                let total: usize = a.states.iter().map(|s| s.transitions.len()).sum();
+                256 * a.states.len() as u64 + 65536 * total as u64 + (1 << 32) * a.initial.len() as u64
+            }
+            Err(r) => refused(r),
+        };
+    }
+    match read(slices[0]) {
+        Err(r) => refused(r),
+        Ok(_) if slices[2].is_empty() => 8,
+        Ok(_) if slices[1].len() + slices[2].len() > 128 => 9,
+        Ok(a) => 256 * judge(&a, slices[1], slices[2]) as u64,
+    }
+}
+
+/// peer FILE REPEAT: the sum of the answers and the nanoseconds of one round, the best of REPEAT.
+fn main() {
+    let words: Vec<String> = std::env::args().collect();
+    let bytes = std::fs::read(&words[1]).unwrap();
+    let repeat: usize = words[2].parse().unwrap();
+    let cases = cases(&bytes);
+    let mut best = u128::MAX;
+    let mut sum = 0u64;
+    for _ in 0..repeat {
+        let start = std::time::Instant::now();
+        sum = cases.iter().map(|(kind, slices)| std::hint::black_box(answer(*kind, slices))).fold(0, u64::wrapping_add);
+        best = best.min(start.elapsed().as_nanos());
+    }
+    println!("{sum} {best}");
+}
