@@ -14,14 +14,6 @@ fn print(text: &[u8]) {
     io::write_all(STDOUT_FILENO, text);
 }
 
-// A length in two bytes, low byte first.
-fn length_of(low: u8, high: u8) -> usize
-    ensures { λ r. ⌜ r ≤ 65535 ⌝ }
-{
-    let high = high as usize;
-    (low as usize) + high * 256
-}
-
 fn print_judged(answer: Judged) {
     match answer {
         Judged::Kept => {
@@ -50,7 +42,7 @@ fn judge_after(input: &[u8], end: usize)
         return;
     }
     let from = end + 2;
-    let n = length_of(input[end], input[end + 1]);
+    let n = show::number_of(input[end], input[end + 1]);
     if input.len() - from < n {
         print(b"short\n");
         return;
@@ -64,7 +56,7 @@ fn judge_input(input: &[u8]) {
         print(b"short\n");
         return;
     }
-    judge_after(input, 2 + length_of(input[0], input[1]));
+    judge_after(input, 2 + show::number_of(input[0], input[1]));
 }
 
 fn read_and_judge(buffer: &mut [u8]) {

@@ -36,7 +36,7 @@ fn digit(n: u8) -> u8
 }
 
 // A number in two bytes, low byte first.
-fn number_of(low: u8, high: u8) -> usize
+pub fn number_of(low: u8, high: u8) -> usize
     ensures { λ r. ⌜ r ≤ 65535 ⌝ }
 {
     let high = high as usize;

@@ -5,12 +5,6 @@ use libc::STDIN_FILENO;
 // The longest input taken for a rule: enough for any that is not refused by its length, and for many that are.
 const LONGEST: usize = 1024;
 
-// A length in two bytes, low byte first.
-fn length_of(low: u8, high: u8) -> usize {
-    let high = high as usize;
-    (low as usize) + high * 256
-}
-
 // Reads a rule of n bytes into the buffer and answers it; whether there was one.
 fn answer_rule(buffer: &mut [u8], n: usize) -> bool {
     if buffer.len() < n {
@@ -32,7 +26,7 @@ fn answer_next() -> bool {
         return false;
     }
     let mut buffer = [0u8; LONGEST];
-    answer_rule(&mut buffer, length_of(prefix[0], prefix[1]))
+    answer_rule(&mut buffer, show::number_of(prefix[0], prefix[1]))
 }
 
 // A loop has to end, and nothing says that the input does: it counts its turns down.
