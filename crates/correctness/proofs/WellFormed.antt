@@ -1,7 +1,8 @@
 -- What the limits of document 01 make of the automaton of an accepted rule. Assumes nothing.
-use Prim.Native.Nat.{ℕ, suc, _≤_, _<_}
-use mathlib.Core.Path.{_≡_, sym, _∙_, ap, subst}
-use mathlib.Core.List.{List, map}
+use Prim.Native.Nat.{ℕ, suc, _*_, _≤_, _<_}
+use mathlib.Core.Path.{_≡_, refl, sym, _∙_, ap, subst}
+use mathlib.Core.Logic.{inl, inr}
+use mathlib.Core.List.{List, [], _∷_, map}
 use native.Mathlib.Omega.{arith}
 use lib.ListN.{getD, length, length-map}
 use borrow.Author.Tests.{leb-true}
@@ -15,6 +16,7 @@ use Rattle.term.specs.Term.{Term, cover}
 use Rattle.term.specs.Size.{checked}
 use Rattle.generalized.specs.Generalized.{partialProduct, transitions, productCheck, generalized}
 use Rattle.automaton.specs.Automaton.{Transition, State, Automaton, In}
+use Rattle.automaton.specs.Translate.{transitionCount}
 use Rattle.automaton.specs.Degeneralized.{Pair, pair, initialNumbers, pairTransitions, degeneralized, stateOf, translation}
 use Rattle.correctness.proofs.Members.{in-at, at-in, map-in}
 use Rattle.correctness.proofs.Results.{then-accepted, required, lowest-fine}
@@ -35,6 +37,12 @@ pub record WellFormed (a : Automaton) : Type 0 where
   pub initial : length (a .initial) ≤ 96
   pub inside : (i : ℕ) → i < length (a .initial) → getD (a .initial) i 0 < length (a .states)
   pub rising : (i : ℕ) → suc i < length (a .initial) → getD (a .initial) i 0 < getD (a .initial) (suc i) 0
+
+-- so at most 128 transitions for each state
+pub few-together : (n : ℕ) (ss : List State) → ((s : State) → In s ss → WellFormedState n s) → transitionCount ss ≤ 128 * length ss
+unfolding transitionCount
+few-together n [] each = omega arith
+few-together n (s ∷ ss) each = omega (arith, each s (inl refl) .few, few-together n ss (λ u m. each u (inr m)))
 
 -- a state that 21 lets pass has at most 128 transitions
 few-transitions : (rule : List ℕ) (place state : ℕ) → 0 < nodeCount rule → productCheck rule place state ≡ fine → length (transitions rule state) ≤ 128

@@ -19,7 +19,7 @@ use Rattle.automaton.specs.Degeneralized.{translation}
 use Rattle.image.specs.Image.{entry, transitionsAt, initialAt, imageLength, contents, imageBytes}
 use Rattle.image.specs.Reader.{numberAt, countsAt, countsFit, contentsCheck, stateCheck, sumCheck, transitionCheck, initialCheck, recordsCheck, automatonFrom, readTables, readImage}
 use Rattle.correctness.proofs.Members.{at-in, append-in}
-use Rattle.correctness.proofs.WellFormed.{WellFormedState, WellFormed, translation-well-formed}
+use Rattle.correctness.proofs.WellFormed.{WellFormed, few-together, translation-well-formed}
 use Rattle.demands.proofs.ReadRecords.{records-length, byte-at, number-at, records-append, number-length, state-length, transition-length, number-read, numbers-read, states-read, counts-add}
 
 -- checks that are fine each are fine together
@@ -51,12 +51,6 @@ together-in t (s ∷ ss) m = go (append-in t (s .transitions) (together ss) m) (
     go : In t (s .transitions) ⊎ In t (together ss) → (In t (together ss) → (u : State) × In u ss × In t (u .transitions)) → (u : State) × In u (s ∷ ss) × In t (u .transitions)
     go (inl h) ih = (s, inl refl, h)
     go (inr h) ih = let (u, n, k) = ih h in (u, inr n, k)
-
--- at most 128 of each state
-few-together : (n : ℕ) (ss : List State) → ((s : State) → In s ss → WellFormedState n s) → transitionCount ss ≤ 128 * length ss
-unfolding transitionCount
-few-together n [] each = omega arith
-few-together n (s ∷ ss) each = omega (arith, each s (inl refl) .few, few-together n ss (λ u m. each u (inr m)))
 
 -- the numbers in the contents of an image with these counts, and its length
 record Contents (c : Counts) (image : List ℕ) : Type 0 where

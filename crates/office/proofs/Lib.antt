@@ -1,2 +1,3 @@
 -- Lemmas for the calls for C.
 pub mod Packed
+pub mod Unpacking
