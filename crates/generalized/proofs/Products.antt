@@ -37,7 +37,7 @@ partial-packed rule state zero ranges = owing-numbers (0 ∷ [])
 partial-packed rule state (suc n) ranges =
     times-packed (has state n) (partial-packed rule state n (λ k lt. ranges k (omega arith))) (terms-numbers (tree rule n) (ranges n (omega arith)))
 
--- "21 partial product over 128" for the duties up to n
+-- "21 partial product over 128" for the obligations up to n
 abbrev partialCheck : List ℕ → (state place : ℕ) → ℕ → Check
 partialCheck rule state place n = require (leb (length (partialProduct rule state (suc n))) 128) 21 place
 
@@ -90,6 +90,11 @@ module _ (rule : List ℕ) (state n : ℕ) where
       terms = λ le. absurd (omega arith);
       over = λ _ place. rw (← e) (sym (pass-fails (partialCheck rule state place) n k lt (inv .passed place) (rw (lt-leb (length (partialProduct rule state (suc k))) 128 (omega (arith, next-count))))));
     }
+
+  -- a node that is no obligation changes nothing
+  pub multiply-skips : (ranges : (j : ℕ) → j < n → InRange (tree rule j)) (items counts : List ℕ) (p : Many) (k : ℕ) → k < n → Row rule items counts k → Multiplying rule state n p k
+      → has state k ≡ false → Multiplying rule state n p (k + 1)
+  multiply-skips ranges items counts p k lt row inv e = multiply-steps ranges items counts p p k lt row inv (λ us is. rw e is) (inv .fits)
 
   pub multiply-ends : (p : Many) (k : ℕ) → n ≡ nodeCount rule → n ≤ k → Multiplying rule state n p k → Product rule state p
   unfolding productCheck transitions

@@ -147,6 +147,11 @@ fn state_terms(rule: &[u8], n: usize, items: &[u64], counts: &[usize; 32], state
     };
     let mut k = 0;
     while k < n {
+        // the product is large and goes by value: nodes that are no obligations are passed over
+        if !has(state, k) {
+            k += 1;
+            continue;
+        }
         p = times_node(items, counts[k], state, k, p);
         if MAX_PRODUCT < p.count {
             return p;
