@@ -1,10 +1,10 @@
 -- The table of the marks: a row is written, and the rows below it stay.
-use mathlib.Core.Path.{_≡_, refl, sym, _∙_}
+use mathlib.Core.Path.{_≡_, refl, sym, _∙_, ap}
 use mathlib.Core.Bool.{cond}
 use mathlib.Core.List.{List, [], _∷_, _++_, map}
 use Prim.Native.Nat.{ℕ, zero, suc, _+_, _*_, _≤_, _<_}
 use native.Mathlib.Omega.{arith}
-use lib.ListN.{length, getD, take, drop, length-map, List·getD-append, List·getD-map}
+use lib.ListN.{length, getD, take, drop, length-map, length-take, List·getD-append, List·getD-map}
 use lib.Seq.{paste, length-paste, length-paste-head, length-take-le, getD-take, getD-append-add}
 use borrow.Author.Count.{below-more}
 use Rattle.formula.specs.Result.{fine}
@@ -80,8 +80,13 @@ module _ (rule ts : List ℕ) (m : ℕ) (nodes : List ℕ) (r : ℕ) (marks : Li
     node-small = omega (arith, node-inside, most-nodes rule passed)
 
     module _ (us : Terms) (is : IsTerms us (terms (tree rule (getD nodes k 0)))) where
-      pub terms-few : us .count ≤ 64
+      terms-few : us .count ≤ 64
       terms-few = omega (arith, is .count, few rule passed (getD nodes k 0) node-inside .terms, length-map (terms (tree rule (getD nodes k 0))) pack)
+
+      pub terms-fit : us .count ≤ length (us .items)
+      terms-fit =
+          let e : length (take (us .count) (us .items)) ≡ length (map pack (terms (tree rule (getD nodes k 0)))) = ap length (carried is terms-few) in
+          omega (arith, e, is .count, terms-few, length-take (us .count) (us .items))
 
       module _ (some : m ≤ length ts) (most : m ≤ 1024) where
         abbrev flag : ℕ → ℕ

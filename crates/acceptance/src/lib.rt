@@ -1,5 +1,4 @@
 // Which transitions of the first walk fulfil which until. It is found once for each until, over all transitions.
-use term::Terms;
 ghost use mathlib.Core.Path.{_≡_};
 ghost use mathlib.Core.Bool.{cond};
 ghost use mathlib.Core.List.{List, _++_, map};
@@ -60,18 +59,17 @@ fn shows(f: usize, t: u64, u: u64) -> bool
     (u | t) == t && !owes(u, f)
 }
 
-// Whether t fulfils f, which has these terms.
-fn fulfils(f: usize, terms: Terms, t: u64) -> bool
-    requires { ⌜ (f < 32) × (terms .count ≤ 64) ⌝ }
-    ensures { λ r. ⌜ r ≡ fulfilsN f (take (terms .count) (terms .items)) t ⌝ }
+// Whether t fulfils f, which has the first count of us as terms.
+fn fulfils(f: usize, us: &[u64], count: usize, t: u64) -> bool
+    requires { ⌜ (f < 32) × (count ≤ length (now us)) ⌝ }
+    ensures { λ r. ⌜ r ≡ fulfilsN f (take count (now (us .entry))) t ⌝ }
 {
     if !owes(t, f) {
         return true;
     }
-    let count = terms.count;
     let mut i = 0;
     while i < count {
-        if shows(f, t, terms.items[i]) {
+        if shows(f, t, us[i]) {
             return true;
         }
         i += 1;
@@ -86,14 +84,15 @@ pub fn flag(b: bool) -> u8
     if b { 1 } else { 0 }
 }
 
-// Marks each of the first m transitions for the until f: a row of bytes from place `at` on.
-fn mark_until(f: usize, terms: Terms, ts: &[u64], m: usize, marks: &mut [u8], at: usize)
-    requires { ⌜ (f < 32) × (terms .count ≤ 64) × (m ≤ length (now ts)) × (at + m ≤ length (now marks)) ⌝ }
-    ensures { λ _. ⌜ now (marks .exit) ≡ paste (now (marks .entry)) at (map (flagN f (take (terms .count) (terms .items))) (now (ts .entry))) m ⌝ }
+// Marks each of the first m transitions for the until f, which has the first count of us as terms: a row of bytes from
+// place `at` on.
+fn mark_until(f: usize, us: &[u64], count: usize, ts: &[u64], m: usize, marks: &mut [u8], at: usize)
+    requires { ⌜ (f < 32) × (count ≤ length (now us)) × (m ≤ length (now ts)) × (at + m ≤ length (now marks)) ⌝ }
+    ensures { λ _. ⌜ now (marks .exit) ≡ paste (now (marks .entry)) at (map (flagN f (take count (now (us .entry)))) (now (ts .entry))) m ⌝ }
 {
     let mut i = 0;
     while i < m {
-        marks[at + i] = flag(fulfils(f, terms, ts[i]));
+        marks[at + i] = flag(fulfils(f, us, count, ts[i]));
         i += 1;
     }
 }
@@ -110,7 +109,16 @@ pub fn mark(rule: &[u8], ts: &[u64], m: usize, marks: &mut [u8]) -> usize
     while k < r {
         let f = nodes[k];
         let terms = term::terms_of(rule, f);
-        mark_until(f, terms, ts, m, marks, k * generalized::MAX_TRANSITIONS);
+        let count = terms.count;
+        mark_until(
+            f,
+            &terms.items,
+            count,
+            ts,
+            m,
+            marks,
+            k * generalized::MAX_TRANSITIONS,
+        );
         k += 1;
     }
     r

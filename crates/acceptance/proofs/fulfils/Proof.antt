@@ -18,9 +18,9 @@ record Seeking (test : ℕ → Bool) (items : List ℕ) (count i : ℕ) : Type 0
   within : i ≤ count
   rest : anyN test (take count items) ≡ anyN test (drop i (take count items))
 
-module _ (test : ℕ → Bool) (items : List ℕ) (count i : ℕ) (size : length items ≡ 64) (few : count ≤ 64) (inv : Seeking test items count i) where
+module _ (test : ℕ → Bool) (items : List ℕ) (count i : ℕ) (fits : count ≤ length items) (inv : Seeking test items count i) where
   part : length (take count items) ≡ count
-  part = length-take-le count items (omega arith)
+  part = length-take-le count items fits
 
   next : i < count → anyN test (take count items) ≡ (test (getD items i 0) || anyN test (drop (suc i) (take count items)))
   unfolding anyN
@@ -38,10 +38,10 @@ module _ (test : ℕ → Bool) (items : List ℕ) (count i : ℕ) (size : length
   seek-ends ge = sym (inv .rest ∙ rw (drop-of-length-le (take count items) {i = i} (rw part ge)))
 
 abbrev Inv-loop : tie.InvT-loop
-Inv-loop f t terms count i₀ i = Seeking (showsN f t) (terms .items) count i
+Inv-loop f us count t i₀ i = Seeking (showsN f t) us count i
 
 abbrev μ-loop : tie.MeasureT-loop
-μ-loop f t terms count i₀ i = count - i
+μ-loop f us count t i₀ i = count - i
 
 owes-requires : tie.Need-owes-requires Inv-loop μ-loop
 owes-requires c κs = search needs
@@ -55,8 +55,8 @@ loop-holds c = record { within = omega arith; rest = refl }
 mul-shows : tie.Need-mul-shows Inv-loop μ-loop
 mul-shows c = search needs
 
-element-copy-out-shows : tie.Need-element-copy-out-shows Inv-loop μ-loop
-element-copy-out-shows c = search needs
+shared-slice-read-shows : tie.Need-shared-slice-read-shows Inv-loop μ-loop
+shared-slice-read-shows c = search needs
 
 shows-requires : tie.Need-shows-requires Inv-loop μ-loop
 shows-requires c κs = search needs
@@ -65,7 +65,7 @@ returns-2 : tie.Need-returns-2 Inv-loop μ-loop
 returns-2 c =
     let at = c .before .before .before .before in
     rw (← (at .before .before .owes .ensures), at .before .if1 .left)
-    (seek-finds _ _ _ (at .loop .i) (search needs) (at .before .before .before .pre .1) (at .loop .inv) (omega arith) (c .before .shows .ensures) (c .if2 .taken))
+    (seek-finds _ _ _ (at .loop .i) (at .before .before .before .before .pre .1) (at .loop .inv) (omega arith) (c .before .shows .ensures) (c .if2 .taken))
 
 add-i : tie.Need-add-i Inv-loop μ-loop
 add-i c = search needs
@@ -76,13 +76,13 @@ loop-less c = search needs
 loop-again : tie.Need-loop-again Inv-loop μ-loop
 loop-again c =
     let at = c .before .before .before .before in
-    seek-steps _ _ _ (at .loop .i) (search needs) (at .before .before .before .pre .1) (at .loop .inv) (omega arith) (c .before .shows .ensures) (c .if2 .left)
+    seek-steps _ _ _ (at .loop .i) (at .before .before .before .before .pre .1) (at .loop .inv) (omega arith) (c .before .shows .ensures) (c .if2 .left)
 
 returns-3 : tie.Need-returns-3 Inv-loop μ-loop
 returns-3 c =
     let at = c .before in
     rw (← (at .before .before .owes .ensures), at .before .if1 .left)
-    (seek-ends _ _ _ (at .loop .i) (search needs) (at .before .before .before .pre .1) (at .loop .inv) (c .loop-test .left))
+    (seek-ends _ _ _ (at .loop .i) (at .before .before .before .before .pre .1) (at .loop .inv) (c .loop-test .left))
 
 pub fulfils-spec : {M : Type 1} → statement M
 fulfils-spec =
@@ -94,7 +94,7 @@ fulfils-spec =
     returns
     loop-holds
     mul-shows
-    element-copy-out-shows
+    shared-slice-read-shows
     shows-requires
     returns-2
     add-i

@@ -5,7 +5,7 @@ use native.Mathlib.Omega.{arith}
 use Prim.Native.Nat.{_-_}
 use mathlib.Core.Path.{refl}
 use Rattle.generalized.proofs.Passed.{ready}
-use Rattle.acceptance.proofs.Rows.{Marking, mark-begins, node-inside, node-small, terms-few, mark-steps, mark-ends}
+use Rattle.acceptance.proofs.Rows.{Marking, mark-begins, node-inside, node-small, terms-fit, mark-steps, mark-ends}
 use Rattle.acceptance.proofs.mark.Statement.{statement}
 use Rattle.acceptance.proofs.mark.Tie as tie
 
@@ -44,10 +44,12 @@ mul-mark-until c = search needs
 
 mark-until-requires : tie.Need-mark-until-requires Inv-loop μ-loop
 mark-until-requires c κs =
-    let at = c .before .before .before in
+    let terms = c .before .before .before .before in
+    let at = terms .before .before in
     let s = at .before .before .before .before .before .before .before in
-    let taken = c .before .before .loop-test .taken in
-    (node-small _ _ _ _ _ _ (s .pre .0) (at .loop .k) (at .loop .inv) taken, terms-few _ _ _ _ _ _ (s .pre .0) (at .loop .k) (at .loop .inv) taken _ (c .before .terms-of .ensures), s .pre .2, omega (arith, s .pre .1, at .loop .inv))
+    let taken = terms .before .loop-test .taken in
+    let fit = terms-fit _ _ _ _ _ _ (s .pre .0) (at .loop .k) (at .loop .inv) taken _ (terms .terms-of .ensures) in
+    (node-small _ _ _ _ _ _ (s .pre .0) (at .loop .k) (at .loop .inv) taken, fit, s .pre .2, omega (arith, s .pre .1, at .loop .inv))
 
 add-k : tie.Need-add-k Inv-loop μ-loop
 add-k c = search needs
@@ -58,7 +60,7 @@ loop-less c = search needs
 loop-again : tie.Need-loop-again Inv-loop μ-loop
 loop-again c =
     let call = c .before .before in
-    let terms = call .before .before in
+    let terms = call .before .before .before .before .before in
     let at = terms .before .before in
     let s = at .before .before .before .before .before .before .before in
     mark-steps _ _ _ _ _ _ (s .pre .0) (at .loop .k) (at .loop .inv) (terms .before .loop-test .taken) _ (terms .terms-of .ensures) (s .pre .2) (s .pre .1) (call .mark-until .ensures)

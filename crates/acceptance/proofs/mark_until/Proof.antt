@@ -35,11 +35,10 @@ module _ (f : ℕ) (us ts : List ℕ) (m : ℕ) (before : List ℕ) (at : ℕ) w
       }
 
 abbrev Inv-loop : tie.InvT-loop
-Inv-loop f terms ts m marks₀ at i₀ marks i =
-    Flagging f (take (terms .count) (terms .items)) ts m marks₀ at marks i
+Inv-loop f us count ts m marks₀ at i₀ marks i = Flagging f (take count us) ts m marks₀ at marks i
 
 abbrev μ-loop : tie.MeasureT-loop
-μ-loop f terms ts m marks₀ at i₀ marks i = m - i
+μ-loop f us count ts m marks₀ at i₀ marks i = m - i
 
 loop-holds : tie.Need-loop-holds Inv-loop μ-loop
 loop-holds c = flag-begins _ _ _ _ _ _
@@ -71,7 +70,7 @@ loop-less c = search needs
 loop-again : tie.Need-loop-again Inv-loop μ-loop
 loop-again c =
     let at = c .before .before .before .before in
-    let s = at .before .before .before in
+    let s = at .before .before .before .before in
     flag-steps _ _ _ _ _ _ (s .pre .2) (s .pre .3) _ (at .loop .i) (omega arith) (at .loop .inv) (c .before .fulfils .ensures) (c .flag .ensures)
 
 same-length : tie.Need-same-length Inv-loop μ-loop
@@ -80,7 +79,7 @@ same-length c = c .before .loop .inv .size
 returns : tie.Need-returns Inv-loop μ-loop
 returns c =
     let at = c .before in
-    let e : at .loop .i ≡ at .before .before .before .args .m = omega (arith, at .loop .inv .within) in
+    let e : at .loop .i ≡ at .before .before .before .before .args .m = omega (arith, at .loop .inv .within) in
     rw e at (at .loop .inv .done)
 
 pub mark-until-spec : {M : Type 1} → statement M
