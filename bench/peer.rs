@@ -233,72 +233,77 @@ pub fn translate(rule: &[u8]) -> Answer<Automaton> {
     Ok(Automaton { states, initial: (0..initial as u16).collect() })
 }
 
+/// The runs that stand in a state: bit p for one that began the pass in state p, bit START for one that began with the
+/// stem; in `met` those that have met an accepting state since.
+#[derive(Clone, Copy, Default)]
+struct Runs {
+    all: u128,
+    met: u128,
+}
+
+const START: usize = 127;
+
+impl Runs {
+    fn join(&mut self, other: Runs) {
+        self.all |= other.all;
+        self.met |= other.met;
+    }
+}
+
+fn has(bits: u128, p: usize) -> bool {
+    bits >> p & 1 == 1
+}
+
+fn lift(a: &Automaton, rows: &mut [Runs]) {
+    for (row, state) in rows.iter_mut().zip(&a.states) {
+        if state.accepting {
+            row.met |= row.all;
+        }
+    }
+}
+
+fn run(a: &Automaton, word: &[u8], rows: &mut Vec<Runs>) {
+    for &letter in word {
+        let mut next = vec![Runs::default(); rows.len()];
+        for (row, state) in rows.iter().zip(&a.states) {
+            for &(must, must_not, t) in &state.transitions {
+                if letter & must == must && letter & must_not == 0 {
+                    next[t as usize].join(*row);
+                }
+            }
+        }
+        lift(a, &mut next);
+        *rows = next;
+    }
+}
+
 /// Some state at the beginning of a pass comes back to itself through an accepting state.
 pub fn judge(a: &Automaton, stem: &[u8], cycle: &[u8]) -> bool {
-    let step = |here: &[bool], letter: u8| {
-        let mut next = vec![false; a.states.len()];
-        for (q, _) in here.iter().enumerate().filter(|(_, h)| **h) {
-            for &(must, must_not, t) in &a.states[q].transitions {
-                if letter & must == must && letter & must_not == 0 {
-                    next[t as usize] = true;
-                }
-            }
-        }
-        next
-    };
-    let n = a.states.len();
-    let mut here = vec![false; n];
+    let mut rows = vec![Runs::default(); a.states.len()];
     for &i in &a.initial {
-        here[i as usize] = true;
+        rows[i as usize].all |= 1 << START;
     }
-    for &letter in stem {
-        here = step(&here, letter);
+    run(a, stem, &mut rows);
+    for (q, row) in rows.iter_mut().enumerate() {
+        row.all |= 1 << q;
     }
-    // one pass from every state: 0 no run, 1 a run, 2 a run that meets an accepting state
-    let mut pass = vec![vec![0u8; n]; n];
-    for (p, row) in pass.iter_mut().enumerate() {
-        let mut now = vec![0u8; n];
-        now[p] = 1 + a.states[p].accepting as u8;
-        for &letter in cycle {
-            let mut next = vec![0u8; n];
-            for q in 0..n {
-                if now[q] == 0 {
-                    continue;
-                }
-                for &(must, must_not, t) in &a.states[q].transitions {
-                    if letter & must == must && letter & must_not == 0 {
-                        let t = t as usize;
-                        let value = if a.states[t].accepting { 2 } else { now[q] };
-                        next[t] = next[t].max(value);
-                    }
-                }
-            }
-            now = next;
+    lift(a, &mut rows);
+    run(a, cycle, &mut rows);
+    for m in 0..rows.len() {
+        let mut via = rows[m];
+        if has(via.met, m) {
+            via.met |= via.all;
         }
-        *row = now;
-    }
-    let mut todo: Vec<usize> = (0..n).filter(|&q| here[q]).collect();
-    while let Some(p) = todo.pop() {
-        for q in 0..n {
-            if pass[p][q] > 0 && !here[q] {
-                here[q] = true;
-                todo.push(q);
+        for row in &mut rows {
+            if has(row.met, m) {
+                row.met |= via.all;
+            }
+            if has(row.all, m) {
+                row.join(via);
             }
         }
     }
-    for k in 0..n {
-        for i in 0..n {
-            if pass[i][k] == 0 {
-                continue;
-            }
-            for j in 0..n {
-                if pass[k][j] > 0 {
-                    pass[i][j] = pass[i][j].max(pass[i][k].max(pass[k][j]));
-                }
-            }
-        }
-    }
-    (0..n).any(|q| here[q] && pass[q][q] == 2)
+    rows.iter().enumerate().any(|(q, row)| has(row.all, START) && has(row.met, q))
 }
 
 fn number_at(bytes: &[u8], i: usize) -> usize {
