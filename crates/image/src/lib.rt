@@ -312,7 +312,6 @@ fn copy(target: &mut [u8], source: &[u8], n: usize)
     }
 }
 
-// Zero in every place.
 // The first n bytes of source in a table, and zero behind them.
 fn load(table: &mut [u8], source: &[u8], n: usize)
     requires { ⌜ (n ≤ length (now table)) × (n ≤ length (now source)) ⌝ }
