@@ -15,6 +15,8 @@ use Rattle.formula.specs.Result.{accepted, fine, require}
 use Rattle.formula.specs.Rule.{root, nodeCount, lengthCheck}
 use Rattle.formula.specs.Rule
 use Rattle.formula.specs.Formula.{formula}
+use Rattle.formula.proofs.Checks.{require-fine}
+use Rattle.formula.proofs.Lowest.{lowest-each}
 use Rattle.term.specs.Term.{Term, cover, terms}
 use Rattle.term.specs.Size.{sizeCheck, checked}
 use Rattle.generalized.specs.Explore.{find}
@@ -27,7 +29,7 @@ use Rattle.correctness.proofs.Runs.{Reads, Represents}
 use Rattle.correctness.proofs.Tests.{reads-iff}
 use Rattle.correctness.proofs.Passes.{Machine}
 use Rattle.correctness.proofs.Counting.{Counted, counting}
-use Rattle.correctness.proofs.Results.{then-accepted, required, lowest-fine}
+use Rattle.correctness.proofs.Results.{then-accepted}
 use Rattle.correctness.proofs.Explored.{Reached, find-in, walked}
 use Rattle.correctness.proofs.Numbering.{Numbering}
 
@@ -37,14 +39,14 @@ unfolding Rule.checked lengthCheck
 root-inside rule e =
     let (a, p, q) = then-accepted (lengthCheck rule) _ e in
     let (b, r, s) = then-accepted (require (leb (length rule) 96) 1 0) _ p in
-    let (l, m) = and-eq-true-iff (ltb 0 (length rule)) _ .0 (required _ 2 0 s) in
+    let (l, m) = and-eq-true-iff (ltb 0 (length rule)) _ .0 (require-fine _ 2 0 s) in
     omega (arith, ltb-true 0 (length rule) l, eqb-true (length rule % 3) 0 m)
 
 pub cover-small : (rule : List ℕ) → checked rule ≡ fine → length (cover (formula rule)) ≤ 64
 unfolding checked sizeCheck formula
 cover-small rule e =
     let (a, p, q) = then-accepted (Rule.checked rule) _ e in
-    let h = required _ 20 (root rule) (lowest-fine (sizeCheck rule) (nodeCount rule) q (root rule) (root-inside rule p)) in
+    let h = require-fine _ 20 (root rule) (lowest-each (sizeCheck rule) (nodeCount rule) q (root rule) (root-inside rule p)) in
     leb-true (length (cover (formula rule))) 64 (and-eq-true-iff (leb (length (terms (formula rule))) 64) _ .0 h .1)
 
 -- the numbers below n

@@ -10,6 +10,8 @@ use Rattle.formula.specs.Result.{accepted, fine}
 use Rattle.formula.specs.Rule.{root, nodeCount}
 use Rattle.formula.specs.Rule
 use Rattle.formula.specs.Formula.{formula, tree, InRange}
+use Rattle.formula.proofs.Checks.{require-fine}
+use Rattle.formula.proofs.Lowest.{lowest-each}
 use Rattle.formula.proofs.Accepted.{accepted-fine}
 use Rattle.formula.proofs.Trees.{tree-in-range}
 use Rattle.term.specs.Term.{Term, cover}
@@ -19,7 +21,7 @@ use Rattle.automaton.specs.Automaton.{Transition, State, Automaton, In}
 use Rattle.automaton.specs.Translate.{transitionCount}
 use Rattle.automaton.specs.Degeneralized.{Pair, pair, initialNumbers, pairTransitions, degeneralized, stateOf, translation}
 use Rattle.correctness.proofs.Members.{in-at, at-in, map-in}
-use Rattle.correctness.proofs.Results.{then-accepted, required, lowest-fine}
+use Rattle.correctness.proofs.Results.{then-accepted}
 use Rattle.correctness.proofs.Labels.{Label, transitions-labelled}
 use Rattle.correctness.proofs.Walks.{cover-small, numbers-length, numbers-at, automatonOf, Valid, first-walked, second-walked, initial-valid, pairs-known, leads, lands}
 
@@ -49,7 +51,7 @@ few-transitions : (rule : List ℕ) (place state : ℕ) → 0 < nodeCount rule �
 unfolding productCheck transitions
 few-transitions rule place state some e =
     let n : suc (root rule) ≡ nodeCount rule = omega arith in
-    let h = required _ 21 place (lowest-fine _ (nodeCount rule) e (root rule) (omega arith)) in
+    let h = require-fine _ 21 place (lowest-each _ (nodeCount rule) e (root rule) (omega arith)) in
     subst (λ (k : ℕ). length (partialProduct rule state k) ≤ 128) n (leb-true (length (partialProduct rule state (suc (root rule)))) 128 h)
 
 module _ (rule : List ℕ) (accepted-rule : checked rule ≡ fine) (states : List ℕ) (first : generalized rule ≡ accepted states)
