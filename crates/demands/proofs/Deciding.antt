@@ -21,7 +21,8 @@ use Rattle.image.specs.Calls.{Buffer, buffer, writes}
 use Rattle.judge.specs.declared.Judged.{Judged}
 use Rattle.judge.specs.declared.Judged.the-variants.{Kept, Broken, Refused}
 use Rattle.judge.specs.Judge.{lassoCheck, judgeable, Says}
-use Rattle.correctness.proofs.Results.{never-both, then-accepted, required}
+use Rattle.formula.proofs.Checks.{require-fine}
+use Rattle.correctness.proofs.Results.{never-both, then-accepted}
 use Rattle.correctness.proofs.WellFormed.{translation-well-formed}
 use Rattle.correctness.proofs.AcceptingPass.{accepting-pass-iff-satisfied}
 use Rattle.demands.specs.Demand.{roomCheck, decidable, Answers, Decides}
@@ -77,7 +78,7 @@ lasso-some : (stem cycle : List ℕ) → lassoCheck stem cycle ≡ fine → 0 < 
 unfolding lassoCheck
 lasso-some stem cycle e =
     let (_, some, _) = then-accepted (require (ltb 0 (length cycle)) 8 0) _ e in
-    ltb-true 0 (length cycle) (required (ltb 0 (length cycle)) 8 0 some)
+    ltb-true 0 (length cycle) (require-fine (ltb 0 (length cycle)) 8 0 some)
 
 -- what is said of a lasso by the automaton of an accepted rule
 module _ (rule stem cycle : List ℕ) (a : Automaton) (e : translation rule ≡ accepted a) (r : Judged) where
