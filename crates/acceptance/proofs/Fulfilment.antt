@@ -7,15 +7,16 @@ use native.Mathlib.Omega.{arith}
 use lib.Dec.{eqb}
 use lib.ListN.{getD}
 use borrow.Author.Tests.{eq-eqb, ne-eqb, eqb-true, eqb-false}
+use Rattle.sets.specs.Sets.{any}
 use Rattle.formula.specs.Rule.{nodeCount}
 use Rattle.formula.specs.Formula.{tree, InRange}
 use Rattle.term.specs.Term.{Term, term, joined, terms}
 use Rattle.term.specs.Packed.{pack}
 use Rattle.term.proofs.Packing.{Numbers, none, more, canonical, Bytes, of-terms, terms-numbers}
-use Rattle.generalized.specs.Generalized.{any, shows, fulfils, transitions}
+use Rattle.generalized.specs.Generalized.{shows, fulfils, transitions}
 use Rattle.generalized.specs.Memory.{obligationsN, allTransitions}
 use Rattle.generalized.proofs.Products.{Packed, partial-packed}
-use Rattle.acceptance.specs.Marks.{showsN, anyN, fulfilsN}
+use Rattle.acceptance.specs.Marks.{showsN, fulfilsN}
 
 -- ---- the tests
 -- one number is another where the three parts are
@@ -37,8 +38,8 @@ unfolding shows
 shows-packed f t u g h =
     rw (of-terms .joins u t h g, equal-parts (joined u t) t (of-terms .good u t h g) g, pack-obligations u h) (simp and-assoc)
 
-any-packed : (f : ℕ) (t : Term) → Bytes t → {us : List Term} {ns : List ℕ} → Numbers of-terms us ns → anyN (showsN f (pack t)) ns ≡ any (shows f t) us
-unfolding anyN any
+any-packed : (f : ℕ) (t : Term) → Bytes t → {us : List Term} {ns : List ℕ} → Numbers of-terms us ns → any (showsN f (pack t)) ns ≡ any (shows f t) us
+unfolding any
 any-packed f t g none = refl
 any-packed f t g (more u h r) = rw (shows-packed f t u g h, any-packed f t g r)
 

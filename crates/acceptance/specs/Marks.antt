@@ -2,9 +2,10 @@
 use Prim.Native.Nat.{ℕ, _+_, _*_, _<_}
 use mathlib.Core.Path.{_≡_}
 use mathlib.Core.List.{List, [], _∷_}
-use mathlib.Core.Bool.{Bool, false, cond, not, _&&_, _||_}
+use mathlib.Core.Bool.{Bool, cond, not, _&&_, _||_}
 use lib.ListN.{getD, length}
 use lib.Dec.{eqb}
+use Rattle.sets.specs.Sets.{any}
 use Rattle.term.specs.Term.{has, Term, term}
 use Rattle.generalized.specs.Generalized.{within}
 use Rattle.generalized.specs.Memory.{obligationsN}
@@ -18,13 +19,9 @@ ownUntil kind i = cond (eqb kind 7) (i ∷ []) []
 abbrev pub showsN : (f t u : ℕ) → Bool
 showsN f t u = within u t && not (has (obligationsN u) f)
 
-unfoldable pub anyN : (ℕ → Bool) → List ℕ → Bool
-anyN test [] = false
-anyN test (u ∷ us) = test u || anyN test us
-
 -- packed, t fulfils f, whose terms are us
 abbrev pub fulfilsN : (f : ℕ) (us : List ℕ) (t : ℕ) → Bool
-fulfilsN f us t = not (has (obligationsN t) f) || anyN (showsN f t) us
+fulfilsN f us t = not (has (obligationsN t) f) || any (showsN f t) us
 
 -- the mark of t for f, whose terms are us: 1 where t fulfils f, else 0
 abbrev pub flagN : (f : ℕ) (us : List ℕ) (t : ℕ) → ℕ

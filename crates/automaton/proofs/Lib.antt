@@ -1,4 +1,7 @@
 -- What the proofs of several functions, and of the crates above, cite.
+pub mod Positions
+pub mod Members
+pub mod Passes
 pub mod Levels
 pub mod Codes
 pub mod Within

@@ -11,19 +11,12 @@ use Rattle.term.specs.Size.{checked}
 use Rattle.generalized.specs.Generalized.{generalized}
 use Rattle.automaton.specs.Automaton.{Automaton, AcceptingPass}
 use Rattle.automaton.specs.Degeneralized.{degeneralized, translation}
-use Rattle.correctness.proofs.Periodic.{letter-round}
-use Rattle.correctness.proofs.Passes.{Pass}
+use Rattle.formula.proofs.Letters.{letter-round}
+use Rattle.automaton.proofs.Passes.{pass-iff}
 use Rattle.correctness.proofs.Counting.{endless-iff-holds}
 use Rattle.correctness.proofs.Results.{then-accepted}
 use Rattle.correctness.proofs.Numbering.{pass-iff-endless}
-use Rattle.correctness.proofs.Walks.{numbered, Listed, listed-represent, automatonOf, numbering}
-
--- an automaton's accepting passes are those of the machine over its state numbers
-pass-iff : (a : Automaton) (stem cycle : List ℕ) → AcceptingPass a stem cycle ↔ Pass (length stem) (length cycle) (letter stem cycle) (numbered a)
-pass-iff a stem cycle = (
-  λ p. record { at = p .at; first = p .first; second = p .second; later = p .later; begins = p .begins; steps = p .steps; same = p .same; accepts = p .accepts },
-  λ p. record { at = p .at; first = p .first; second = p .second; later = p .later; begins = p .begins; steps = p .steps; same = p .same; accepts = p .accepts },
-)
+use Rattle.correctness.proofs.Walks.{Listed, listed-represent, automatonOf, numbering}
 
 -- The demand: "for any accepted rule and any plan, however long, whose loop has a slot, the watcher has an accepting
 -- lap on the plan exactly when the plan keeps the rule". A rule is accepted if its translation is ("none of the numbers

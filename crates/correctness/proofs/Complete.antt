@@ -19,7 +19,8 @@ use Rattle.term.specs.Term.{has, Term, term, less, joined, consistent, product,
 use Rattle.generalized.specs.Generalized.{times, partialProduct}
 use Rattle.automaton.specs.Automaton.{In}
 use Rattle.term.proofs.Bits.{has-dec, has-true, has-false, not-has, or-has, zero-has, has-pow, and-disjoint}
-use Rattle.correctness.proofs.Members.{in-map, in-union, in-product, ltb-equal, less-equal}
+use Rattle.automaton.proofs.Members.{in-map}
+use Rattle.correctness.proofs.Members.{in-union, in-product, ltb-equal, less-equal}
 use Rattle.correctness.proofs.Runs.{Reads, Within, within-trans, within-l, within-r, Fulfilling, Known, Fits, Run, Fair, Dominates, TermOf}
 use Rattle.correctness.proofs.Trees.{tree-fits}
 use Rattle.correctness.proofs.Obligations.{terms-own}

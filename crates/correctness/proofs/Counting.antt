@@ -18,8 +18,8 @@ use Rattle.generalized.specs.Generalized.{fulfils}
 use Rattle.automaton.specs.Automaton.{In}
 use Rattle.acceptance.specs.Acceptance.{untilCount}
 use Rattle.automaton.specs.Degeneralized.{nextLevel}
-use Rattle.correctness.proofs.Positions.{Again}
-use Rattle.correctness.proofs.Members.{at-in, in-at, append-in, in-append}
+use Rattle.automaton.proofs.Positions.{Again}
+use Rattle.automaton.proofs.Members.{at-in, in-at, append-in, in-append}
 use Rattle.correctness.proofs.Runs.{Reads, Fulfilling, Run, Fair, Represents}
 use Rattle.correctness.proofs.Trees.{kind-until, until-kind}
 use Rattle.correctness.proofs.Sound.{sound}
@@ -27,7 +27,7 @@ use Rattle.correctness.proofs.Periodic.{holds-dec}
 use Rattle.correctness.proofs.Complete.{complete}
 use Rattle.correctness.proofs.Tests.{fulfils-iff}
 use Rattle.correctness.proofs.Levels.{Over, level, last-again, fulfilled-again}
-use Rattle.correctness.proofs.Passes.{Machine, Endless}
+use Rattle.automaton.proofs.Passes.{Machine, Endless}
 
 -- an obligation set with a level
 pub record Counted : Type 0 where

@@ -14,7 +14,8 @@ use borrow.Author.Tests.{ltb-true, ltb-false}
 use Rattle.formula.specs.Result.{Result, accepted, refused, andThen, Check, fine}
 use Rattle.generalized.specs.Explore.{find, meet, meetAll, explore}
 use Rattle.automaton.specs.Automaton.{In}
-use Rattle.correctness.proofs.Members.{All, at-in, in-at, in-append, append-in, all-one}
+use Rattle.automaton.proofs.Members.{All, at-in, in-at, in-append, append-in}
+use Rattle.correctness.proofs.Members.{all-one}
 use Rattle.correctness.proofs.Results.{never-both, then-accepted}
 
 module _ {A : Type 0} (none : A) where

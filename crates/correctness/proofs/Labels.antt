@@ -13,7 +13,8 @@ use Rattle.formula.specs.Rule.{nodeCount}
 use Rattle.formula.specs.Formula.{Formula, bottom, top, proposition, negation, conjunction, disjunction, next, until, release, tree, InRange}
 use Rattle.term.specs.Term.{has, Term, term, less, joined, consistent, product, cover, terms}
 use Rattle.generalized.specs.Generalized.{times, partialProduct, transitions}
-use Rattle.correctness.proofs.Members.{All, all-one, all-union, product-in, product-kept, map-in}
+use Rattle.automaton.proofs.Members.{All, map-in}
+use Rattle.correctness.proofs.Members.{all-one, all-union, product-in, product-kept}
 
 -- the propositions that a transition asks for and those that it forbids: bytes, with no bit in both
 pub record Label (must mustNot : ℕ) : Type 0 where

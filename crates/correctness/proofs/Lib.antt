@@ -1,5 +1,4 @@
 -- What the automaton of a rule accepts, exactly the lassos that satisfy the rule, and the limits that it keeps.
-pub mod Positions
 pub mod Members
 pub mod Runs
 pub mod Trees
@@ -8,7 +7,6 @@ pub mod Periodic
 pub mod Obligations
 pub mod Complete
 pub mod Levels
-pub mod Passes
 pub mod Tests
 pub mod Counting
 pub mod Results

@@ -1,55 +1,17 @@
--- What is in a list: by place, in joined and mapped lists, and in the sets that insert, union and product make.
+-- What is in the sets that insert, union and product make.
 -- Assumes of an order only that two elements are equal where neither is less.
-use Prim.Native.Nat.{ℕ, zero, suc, _<_}
+use Prim.Native.Nat.{ℕ}
 use mathlib.Core.Path.{_≡_, refl, sym, _∙_, ap, subst}
 use mathlib.Core.Logic.{_⊎_, inl, inr}
-use mathlib.Core.List.{List, [], _∷_, _++_, map}
+use mathlib.Core.List.{List, [], _∷_}
 use mathlib.Core.Bool.{Bool, true, false, cond}
 use native.Mathlib.Omega.{arith}
-use lib.ListN.{getD, length}
 use lib.Dec.{ltb}
 use borrow.Author.Tests.{ltb-false}
 use Rattle.sets.specs.Sets.{insert, union, insertJoin, insertJoins, insertProduct}
 use Rattle.term.specs.Term.{Term, lessThen, less}
 use Rattle.automaton.specs.Automaton.{In}
-
--- the element at a place, and the place of an element
-pub at-in : {A : Type 0} (d : A) (xs : List A) (i : ℕ) → i < length xs → In (getD xs i d) xs
-at-in d [] i l = absurd (omega arith)
-at-in d (x ∷ xs) zero l = inl refl
-at-in d (x ∷ xs) (suc i) l = inr (at-in d xs i (omega arith))
-
-pub in-at : {A : Type 0} (d x : A) (xs : List A) → In x xs → (i : ℕ) × (i < length xs) × (getD xs i d ≡ x)
-in-at d x [] h = absurd h
-in-at d x (y ∷ xs) (inl e) = (0, omega arith, sym e)
-in-at d x (y ∷ xs) (inr h) = let (i, l, q) = in-at d x xs h in (suc i, omega arith, q)
-
-pub append-in : {A : Type 0} (x : A) (xs ys : List A) → In x (xs ++ ys) → In x xs ⊎ In x ys
-append-in x [] ys h = inr h
-append-in x (y ∷ xs) ys (inl e) = inl (inl e)
-append-in x (y ∷ xs) ys (inr h) = elim (append-in x xs ys h) [ inl a ↦ inl (inr a) | inr b ↦ inr b ]
-
-pub in-append : {A : Type 0} (x : A) (xs ys : List A) → In x xs ⊎ In x ys → In x (xs ++ ys)
-in-append x [] ys (inl a) = absurd a
-in-append x [] ys (inr b) = b
-in-append x (y ∷ xs) ys (inl (inl e)) = inl e
-in-append x (y ∷ xs) ys (inl (inr h)) = inr (in-append x xs ys (inl h))
-in-append x (y ∷ xs) ys (inr h) = inr (in-append x xs ys (inr h))
-
-pub map-in : {A B : Type 0} (f : A → B) (z : B) (xs : List A) → In z (map f xs) → (x : A) × In x xs × (z ≡ f x)
-map-in f z [] h = absurd h
-map-in f z (y ∷ ys) (inl e) = (y, inl refl, e)
-map-in f z (y ∷ ys) (inr h) = let (x, m, q) = map-in f z ys h in (x, inr m, q)
-
-pub in-map : {A B : Type 0} (f : A → B) (x : A) (xs : List A) → In x xs → In (f x) (map f xs)
-in-map f x [] h = absurd h
-in-map f x (y ∷ ys) (inl e) = inl (ap f e)
-in-map f x (y ∷ ys) (inr h) = inr (in-map f x ys h)
-
-pub map-at : {A B : Type 0} (f : A → B) (d : A) (e : B) (xs : List A) (i : ℕ) → i < length xs → getD (map f xs) i e ≡ f (getD xs i d)
-map-at f d e [] i l = absurd (omega arith)
-map-at f d e (x ∷ xs) zero l = refl
-map-at f d e (x ∷ xs) (suc i) l = map-at f d e xs i (omega arith)
+use Rattle.automaton.proofs.Members.{All}
 
 -- z is the join of one of xs and one of ys
 abbrev Joined : {A : Type 0} → (A → A → A) → A → List A → List A → Type 0
@@ -161,9 +123,6 @@ module _ {A : Type 0} (less : A → A → Bool) where
           joins-keep (joined x y) u ys (insertProduct less joined consistent xs ys []) (in-product x y xs ys m n c)
 
 -- what holds of all that goes into a set holds of all that is in it
-abbrev pub All : {A : Type 0} → (A → Type 0) → List A → Type 0
-All {A} P xs = (x : A) → In x xs → P x
-
 pub all-one : {A : Type 0} (P : A → Type 0) (x : A) → P x → All P (x ∷ [])
 all-one P x p y (inl e) = subst P (sym e) p
 all-one P x p y (inr e) = absurd e

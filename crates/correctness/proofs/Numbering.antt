@@ -3,7 +3,7 @@
 use Prim.Native.Nat.{ℕ, zero, suc, _+_, _<_, _≤_}
 use mathlib.Core.Path.{_≡_, sym, subst}
 use mathlib.Core.Logic.{_↔_}
-use Rattle.correctness.proofs.Passes.{Machine, Endless, Pass, endless-pass, pass-endless}
+use Rattle.automaton.proofs.Passes.{Machine, Endless, Pass, endless-pass, pass-endless}
 
 -- valid numbers stand for states of machine: every initial state has one, every step from a state that has one leads to
 -- one, and they are below N

@@ -13,7 +13,8 @@ use Rattle.formula.specs.Formula.{Formula, bottom, top, proposition, negation, 
 use Rattle.term.specs.Term.{Term, term, less, joined, consistent, product, cover, terms, Has}
 use Rattle.automaton.specs.Automaton.{In}
 use Rattle.term.proofs.Bits.{or-has, zero-has, has-pow}
-use Rattle.correctness.proofs.Members.{All, all-one, all-union, all-product, map-in}
+use Rattle.automaton.proofs.Members.{All, map-in}
+use Rattle.correctness.proofs.Members.{all-one, all-union, all-product}
 use Rattle.correctness.proofs.Runs.{Below}
 
 -- the bits of d are below k

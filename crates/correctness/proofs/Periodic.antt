@@ -1,30 +1,13 @@
 -- On a word that repeats from position s on with period n, what holds repeats too, and can be decided: an until that
 -- comes true does so within s + n positions. Assumes nothing.
 use Prim.Native.Nat.{ℕ, zero, suc, _+_, _-_, _/_, _%_, _^_, _<_, _≤_}
-use mathlib.Core.Path.{_≡_, refl, sym, _∙_, ap, subst}
+use mathlib.Core.Path.{_≡_, refl, sym, subst}
 use mathlib.Core.Logic.{_⊎_, inl, inr}
-use mathlib.Core.List.{List}
 use native.Mathlib.Omega.{arith}
-use native.Mathlib.Nat.{add-mod-right}
 use native.Mathlib.Decide.{ℕ-discrete, decLe}
-use lib.ListN.{getD, length}
-use borrow.Author.Tests.{le-ltb}
 use Rattle.formula.specs.Formula.{Formula, bottom, top, proposition, negation, conjunction, disjunction, next, until, release}
-use Rattle.formula.specs.Lasso.{letter, Holds}
-use Rattle.correctness.proofs.Positions.{Decided, some-dec}
-
--- the word of a lasso repeats from the end of the stem on
-letter-late : (stem cycle : List ℕ) (i : ℕ) → length stem ≤ i → letter stem cycle i ≡ getD cycle ((i - length stem) % length cycle) 0
-unfolding letter
-letter-late stem cycle i l = rw (le-ltb i (length stem) l)
-
-pub letter-round : (stem cycle : List ℕ) (i : ℕ) → length stem ≤ i → letter stem cycle (i + length cycle) ≡ letter stem cycle i
-letter-round stem cycle i l =
-    let e : i + length cycle - length stem ≡ i - length stem + length cycle = omega arith in
-    letter-late stem cycle (i + length cycle) (omega arith)
-    ∙ ap (λ (x : ℕ). getD cycle (x % length cycle) 0) e
-    ∙ ap (λ (x : ℕ). getD cycle x 0) (add-mod-right (i - length stem) (length cycle))
-    ∙ sym (letter-late stem cycle i l)
+use Rattle.formula.specs.Lasso.{Holds}
+use Rattle.automaton.proofs.Positions.{Decided, some-dec}
 
 -- until and release of any two properties of positions
 abbrev Until : (P Q : ℕ → Type 0) → ℕ → Type 0

@@ -12,7 +12,7 @@ use Rattle.formula.specs.Formula.{Formula, bottom, top, proposition, negation, 
 use Rattle.term.specs.Term.{has, Term, less, joined, consistent, cover, terms, Has}
 use Rattle.generalized.specs.Generalized.{times, partialProduct}
 use Rattle.automaton.specs.Automaton.{In}
-use Rattle.correctness.proofs.Positions.{Again}
+use Rattle.automaton.proofs.Positions.{Again}
 use Rattle.term.proofs.Bits.{Sub, has-false, has-or-l, has-or-r}
 use Rattle.correctness.proofs.Members.{product-in}
 

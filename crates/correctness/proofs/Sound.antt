@@ -16,7 +16,8 @@ use Rattle.formula.specs.Lasso.{Holds}
 use Rattle.term.specs.Term.{Term, term, less, joined, consistent, product, cover, terms, Has}
 use Rattle.automaton.specs.Automaton.{In}
 use Rattle.term.proofs.Bits.{Sub, has-zero, has-or-l, has-or-r, pow-has}
-use Rattle.correctness.proofs.Members.{map-in, union-in, product-in}
+use Rattle.automaton.proofs.Members.{map-in}
+use Rattle.correctness.proofs.Members.{union-in, product-in}
 use Rattle.correctness.proofs.Runs.{Reads, Within, within-reads, within-l, within-r, Fulfilling, Known, Fits, Run, Fair, TermOf, product-has}
 use Rattle.correctness.proofs.Trees.{tree-fits}
 

@@ -1,23 +1,21 @@
 -- What the tests of the definitions say: when a transition reads a letter, and when a term fulfils an until.
 -- Assumes nothing.
 use Prim.Native.Nat.{ℕ}
-use mathlib.Core.Path.{_≡_, refl, ap, subst}
+use mathlib.Core.Path.{_≡_, ap}
 use mathlib.Core.Logic.{_⊎_, inl, inr, _↔_}
-use mathlib.Core.List.{List, [], _∷_}
-use mathlib.Core.Bool.{Bool, true, false, not, _||_, false≢true, and-eq-true-iff}
+use mathlib.Core.List.{List}
+use mathlib.Core.Bool.{true, not, and-eq-true-iff}
 use lib.Dec.{eqb}
 use lib.Bits.{bitOr}
 use borrow.Author.Tests.{eqb-true, eq-eqb, ne-eqb, not-true}
+use Rattle.sets.specs.Sets.{any}
 use Rattle.formula.specs.Formula.{tree}
 use Rattle.term.specs.Term.{has, Term, terms, Has}
-use Rattle.generalized.specs.Generalized.{within, any, shows, fulfils}
-use Rattle.automaton.specs.Automaton.{In, reads}
+use Rattle.generalized.specs.Generalized.{within, shows, fulfils}
+use Rattle.automaton.specs.Automaton.{reads}
+use Rattle.automaton.proofs.Members.{or-iff, any-iff}
 use Rattle.term.proofs.Bits.{Sub, has-false, and-disjoint, disjoint-and, or-sub, sub-or}
 use Rattle.correctness.proofs.Runs.{Reads, Within, Fulfilling}
-
-or-iff : (a b : Bool) → (a || b) ≡ true ↔ ((a ≡ true) ⊎ (b ≡ true))
-or-iff true b = (λ e. inl refl, λ h. refl)
-or-iff false b = (λ e. inr e, λ h. elim h [ inl e ↦ absurd (false≢true e) | inr e ↦ e ])
 
 within-iff : (x y : ℕ) → within x y ≡ true ↔ Sub x y
 within-iff x y = (λ e. sub-or x y (eqb-true (bitOr x y) y e), λ s. eq-eqb (bitOr x y) y (or-sub x y s))
@@ -47,21 +45,6 @@ shows-iff f t u = (there, back)
             and-eq-true-iff (within (u .obligations) (t .obligations)) _ .1 (within-iff (u .obligations) (t .obligations) .1 (k .obligations), lacks-iff (u .obligations) f .1 h),
           ),
         )
-
-any-iff : (test : Term → Bool) (us : List Term) → any test us ≡ true ↔ ((u : Term) × In u us × (test u ≡ true))
-unfolding any
-any-iff test [] = (λ e. absurd (false≢true e), λ (u, m, e). absurd m)
-any-iff test (u ∷ us) = (there (any-iff test us), back (any-iff test us))
-  where
-    Some : List Term → Type 0
-    Some vs = (v : Term) × In v vs × (test v ≡ true)
-
-    there : any test us ≡ true ↔ Some us → (test u || any test us) ≡ true → Some (u ∷ us)
-    there ih e = elim (or-iff (test u) (any test us) .0 e) [ inl p ↦ (u, inl refl, p) | inr p ↦ (let (v, m, q) = ih .0 p in (v, inr m, q)) ]
-
-    back : any test us ≡ true ↔ Some us → Some (u ∷ us) → (test u || any test us) ≡ true
-    back ih (v, inl p, e) = or-iff (test u) (any test us) .1 (inl (subst (λ (x : Term). test x ≡ true) p e))
-    back ih (v, inr m, e) = or-iff (test u) (any test us) .1 (inr (ih .1 (v, m, e)))
 
 pub fulfils-iff : (rule : List ℕ) (f : ℕ) (t : Term) → fulfils rule f t ≡ true ↔ Fulfilling f (tree rule f) t
 unfolding fulfils

@@ -21,13 +21,13 @@ use Rattle.term.specs.Term.{Term, cover, terms}
 use Rattle.term.specs.Size.{sizeCheck, checked}
 use Rattle.generalized.specs.Explore.{find}
 use Rattle.generalized.specs.Generalized.{transitions, transitionCheck, productCheck, targets, generalized}
-use Rattle.automaton.specs.Automaton.{Transition, State, Automaton, noState, In, reads, Step, Accepts}
+use Rattle.automaton.specs.Automaton.{Transition, State, Automaton, noState, In, reads, Step}
 use Rattle.acceptance.specs.Acceptance.{untilCount}
 use Rattle.automaton.specs.Degeneralized.{nextLevel, Pair, pair, samePair, numbers, initialNumbers, pairTransitions, target, degeneralized, stateOf}
-use Rattle.correctness.proofs.Members.{All, at-in, in-at, map-in, in-map, map-at}
+use Rattle.automaton.proofs.Members.{All, at-in, in-at, map-in, in-map, map-at}
 use Rattle.correctness.proofs.Runs.{Reads, Represents}
 use Rattle.correctness.proofs.Tests.{reads-iff}
-use Rattle.correctness.proofs.Passes.{Machine}
+use Rattle.automaton.proofs.Passes.{numbered}
 use Rattle.correctness.proofs.Counting.{Counted, counting}
 use Rattle.correctness.proofs.Results.{then-accepted}
 use Rattle.correctness.proofs.Explored.{Reached, find-in, walked}
@@ -80,10 +80,6 @@ same-equal x y e =
 
 same-self : (x : Pair) → samePair x x ≡ true
 same-self x = and-eq-true-iff (eqb (x .state) (x .state)) _ .1 (eq-eqb (x .state) (x .state) refl, eq-eqb (x .level) (x .level) refl)
-
--- the states of an automaton as numbers
-abbrev pub numbered : Automaton → Machine ℕ
-numbered automaton = record { Initial = λ k. In k (automaton .initial); Step = Step automaton; Accepting = Accepts automaton }
 
 -- a state's transitions as the first walk lists them: all its terms
 abbrev pub Listed : List ℕ → ℕ → Term → Type 0

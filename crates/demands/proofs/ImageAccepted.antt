@@ -18,7 +18,7 @@ use Rattle.automaton.specs.Translate.{Counts, counts, transitionCount}
 use Rattle.automaton.specs.Degeneralized.{translation}
 use Rattle.image.specs.Image.{entry, transitionsAt, initialAt, imageLength, contents, imageBytes}
 use Rattle.image.specs.Reader.{numberAt, countsAt, countsFit, contentsCheck, stateCheck, sumCheck, transitionCheck, initialCheck, recordsCheck, automatonFrom, readTables, readImage}
-use Rattle.correctness.proofs.Members.{at-in, append-in}
+use Rattle.automaton.proofs.Members.{at-in, append-in}
 use Rattle.correctness.proofs.WellFormed.{WellFormed, few-together, translation-well-formed}
 use Rattle.demands.proofs.ReadRecords.{records-length, byte-at, number-at, records-append, number-length, state-length, transition-length, number-read, numbers-read, states-read, counts-add}
 

@@ -7,7 +7,7 @@ use mathlib.Core.Bool.{Bool, true, false}
 use native.Mathlib.Decide.{ℕ-discrete}
 use native.Mathlib.Omega.{arith}
 use lib.ListN.{length}
-use Rattle.sets.specs.Sets.{insert, union, insertJoin, insertJoins, insertProduct}
+use Rattle.sets.specs.Sets.{insert, union, insertJoin, insertJoins, insertProduct, any}
 use Rattle.formula.specs.Result.{accepted, lowest}
 use Rattle.formula.specs.Rule.{leftOperand, rightOperand, lengthCheck, nodeCheck, places, placeCheck, untils, untilCheck}
 use Rattle.formula.specs.Rule
@@ -16,15 +16,16 @@ use Rattle.formula.specs.Lasso.{letter, Satisfies}
 use Rattle.term.specs.Term.{cover, terms}
 use Rattle.term.specs.Size.{sizeCheck, checked}
 use Rattle.generalized.specs.Explore.{find, meet, meetAll, explore}
-use Rattle.generalized.specs.Generalized.{partialProduct, transitions, productCheck, targets, generalized, any, shows, fulfils}
+use Rattle.generalized.specs.Generalized.{partialProduct, transitions, productCheck, targets, generalized, shows, fulfils}
 use Rattle.generalized.specs.Memory.{allTransitions}
 use Rattle.automaton.specs.Automaton.{Transition, State, Automaton, AcceptingPass}
 use Rattle.automaton.specs.Degeneralized.{climb, nextLevel, numbers, initialNumbers, pairTransitions, target, degeneralized, stateOf, translation}
 use Rattle.automaton.specs.Records.{records, twoBytes, stateRecord, transitionRecord, stateRecords, transitionRecords, initialRecords}
 use Rattle.automaton.specs.Translate.{transitionCount}
 use Rattle.image.specs.Image.{entry, contents, imageBytes}
-use Rattle.correctness.proofs.Positions.{some-dec}
-use Rattle.correctness.proofs.Periodic.{letter-round, near-dec, until-dec, release-dec, holds-dec}
+use Rattle.automaton.proofs.Positions.{some-dec}
+use Rattle.formula.proofs.Letters.{letter-round}
+use Rattle.correctness.proofs.Periodic.{near-dec, until-dec, release-dec, holds-dec}
 use Rattle.correctness.proofs.AcceptingPass.{accepting-pass-iff-satisfied}
 
 pub record Lasso : Type 0 where

@@ -6,3 +6,4 @@ pub mod Places
 pub mod Untils
 pub mod Accepted
 pub mod Trees
+pub mod Letters

@@ -6,6 +6,7 @@ use mathlib.Core.Bool.{Bool, true, false, not, _&&_, _||_}
 use lib.ListN.{length}
 use lib.Dec.{eqb, leb, ltb}
 use lib.Bits.{bitOr}
+use Rattle.sets.specs.Sets.{any}
 use Rattle.formula.specs.Result.{Result, Check, require, lowest}
 use Rattle.formula.specs.Rule.{nodeCount}
 use Rattle.formula.specs.Formula.{tree, formula}
@@ -47,10 +48,6 @@ generalized rule =
 -- x is within y, as sets
 abbrev pub within : ℕ → ℕ → Bool
 within x y = eqb (bitOr x y) y
-
-unfoldable pub any : (Term → Bool) → List Term → Bool
-any test [] = false
-any test (u ∷ us) = test u || any test us
 
 -- "some term of f has its must within must, its not within not, its duties within e, and f not among them"
 unfoldable pub shows : (f : ℕ) (t u : Term) → Bool

@@ -2,7 +2,7 @@
 use Prim.Native.Nat.{ℕ, zero, suc, _≤_, _/_, _%_, min}
 use mathlib.Core.Path.{_≡_}
 use mathlib.Core.List.{List, [], _∷_}
-use mathlib.Core.Bool.{Bool, cond}
+use mathlib.Core.Bool.{Bool, false, cond, _||_}
 use lib.ListN.{length, take}
 use lib.Dec.{eqb, ltb}
 use lib.Bits.{bitAnd, bitOr}
@@ -33,6 +33,11 @@ module _ {A : Type 0} (less : A → A → Bool) where
     unfoldable pub insertProduct : (xs ys ws : List A) → List A
     insertProduct [] ys ws = ws
     insertProduct (x ∷ xs) ys ws = insertJoins x ys (insertProduct xs ys ws)
+
+-- whether a test holds of one of them
+unfoldable pub any : {A : Type 0} → (A → Bool) → List A → Bool
+any test [] = false
+any test (x ∷ xs) = test x || any test xs
 
 -- a number whose two lowest bytes share no bit
 abbrev pub consistentN : ℕ → Bool

@@ -9,32 +9,33 @@ use mathlib.Core.List.{List}
 use Prim.Native.Nat.{ℕ, suc, _+_, _-_, _≤_, _<_}
 use lib.ListN.{length, getD, take, drop, drop-of-length-le}
 use lib.Seq.{length-take-le, drop-cons, getD-take}
-use Rattle.acceptance.specs.Marks.{showsN, anyN}
+use Rattle.sets.specs.Sets.{any}
+use Rattle.acceptance.specs.Marks.{showsN}
 use Rattle.acceptance.proofs.fulfils.Statement.{statement}
 use Rattle.acceptance.proofs.fulfils.Tie as tie
 
 -- a search among the first count of items that stands at i: the test's answer is that of the rest
 record Seeking (test : ℕ → Bool) (items : List ℕ) (count i : ℕ) : Type 0 where
   within : i ≤ count
-  rest : anyN test (take count items) ≡ anyN test (drop i (take count items))
+  rest : any test (take count items) ≡ any test (drop i (take count items))
 
 module _ (test : ℕ → Bool) (items : List ℕ) (count i : ℕ) (fits : count ≤ length items) (inv : Seeking test items count i) where
   part : length (take count items) ≡ count
   part = length-take-le count items fits
 
-  next : i < count → anyN test (take count items) ≡ (test (getD items i 0) || anyN test (drop (suc i) (take count items)))
-  unfolding anyN
+  next : i < count → any test (take count items) ≡ (test (getD items i 0) || any test (drop (suc i) (take count items)))
+  unfolding any
   next lt =
       inv .rest ∙ rw (drop-cons (take count items) i 0 (rw part lt), getD-take count items i 0 lt)
 
-  seek-finds : {b : Bool} → i < count → b ≡ test (getD items i 0) → b ≡ true → true ≡ anyN test (take count items)
+  seek-finds : {b : Bool} → i < count → b ≡ test (getD items i 0) → b ≡ true → true ≡ any test (take count items)
   seek-finds lt e f = rw (next lt, ← e, f)
 
   seek-steps : {b : Bool} → i < count → b ≡ test (getD items i 0) → b ≡ false → Seeking test items count (i + 1)
   seek-steps lt e f = record { within = omega arith; rest = rw (next lt, ← e, f, add-one i) }
 
-  seek-ends : count ≤ i → false ≡ anyN test (take count items)
-  unfolding anyN
+  seek-ends : count ≤ i → false ≡ any test (take count items)
+  unfolding any
   seek-ends ge = sym (inv .rest ∙ rw (drop-of-length-le (take count items) {i = i} (rw part ge)))
 
 abbrev Inv-loop : tie.InvT-loop

@@ -2,17 +2,25 @@
 -- it accepts again and again. Assumes of the word only that it repeats.
 use Prim.Native.Nat.{ℕ, zero, suc, _+_, _-_, _*_, _<_, _≤_}
 use mathlib.Core.Path.{_≡_, refl, sym, _∙_, ap, subst}
-use mathlib.Core.Logic.{_⊎_, inl, inr}
+use mathlib.Core.Logic.{_⊎_, inl, inr, _↔_}
+use mathlib.Core.List.{List}
 use native.Mathlib.Omega.{arith}
 use native.Mathlib.Nat.{add-mul, suc-mul, mul-pos, mul-le-mul-right, le-mul-of-pos-right}
 use native.Mathlib.Decide.{ℕ-discrete, decLt}
-use Rattle.correctness.proofs.Positions.{Again, pigeon}
+use lib.ListN.{length}
+use Rattle.formula.specs.Lasso.{letter}
+use Rattle.automaton.specs.Automaton.{Automaton, In, Step, Accepts, AcceptingPass}
+use Rattle.automaton.proofs.Positions.{Again, pigeon}
 
 -- a machine over states X: where it begins, what it may do on a letter, and which states accept
 pub record Machine (X : Type 0) : Type 1 where
   pub Initial : X → Type 0
   pub Step : X → (letter : ℕ) → X → Type 0
   pub Accepting : X → Type 0
+
+-- the states of an automaton as numbers
+abbrev pub numbered : Automaton → Machine ℕ
+numbered automaton = record { Initial = λ k. In k (automaton .initial); Step = Step automaton; Accepting = Accepts automaton }
 
 -- an endless run on w that accepts again and again
 pub record Endless (w : ℕ → ℕ) {X : Type 0} (machine : Machine X) (p : ℕ → X) : Type 0 where
@@ -31,6 +39,13 @@ pub record Pass (s n : ℕ) (w : ℕ → ℕ) {X : Type 0} (machine : Machine X)
   pub steps : (i : ℕ) → i < s + second * n → machine .Step (at i) (w i) (at (suc i))
   pub same : at (s + first * n) ≡ at (s + second * n)
   pub accepts : (i : ℕ) × (s + first * n ≤ i) × (i ≤ s + second * n) × machine .Accepting (at i)
+
+-- an automaton's accepting passes are those of the machine over its state numbers
+pub pass-iff : (a : Automaton) (stem cycle : List ℕ) → AcceptingPass a stem cycle ↔ Pass (length stem) (length cycle) (letter stem cycle) (numbered a)
+pass-iff a stem cycle = (
+  λ p. record { at = p .at; first = p .first; second = p .second; later = p .later; begins = p .begins; steps = p .steps; same = p .same; accepts = p .accepts },
+  λ p. record { at = p .at; first = p .first; second = p .second; later = p .later; begins = p .begins; steps = p .steps; same = p .same; accepts = p .accepts },
+)
 
 -- ---- from an endless run through states below N to a pass
 module _ (s n : ℕ) (pos : 0 < n) (w : ℕ → ℕ) (machine : Machine ℕ) (p : ℕ → ℕ) (run : Endless w machine p) (N : ℕ) (few : (i : ℕ) → p i < N) where
