@@ -101,7 +101,7 @@ sum-first s (suc n) =
     omega arith
 
 -- state records, and the transitions that belong to each
-states-length : (n : ℕ) (s t : List ℕ) → length (statesFrom n s t) ≡ n
+pub states-length : (n : ℕ) (s t : List ℕ) → length (statesFrom n s t) ≡ n
 unfolding statesFrom
 states-length zero s t = refl
 states-length (suc n) s t = ap suc (states-length n (drop 4 s) (drop (4 * numberAt s 0) t))

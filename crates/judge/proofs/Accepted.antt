@@ -1,8 +1,9 @@
--- What is known of an image that check accepts.
+-- What is known of an image that check accepts: its records are within bounds. Assumes nothing.
 use Prim.Native.Nat.{ℕ, zero, suc, _+_, _*_, _<_}
 use mathlib.Core.Path.{_≡_}
 use mathlib.Core.List.{List}
 use mathlib.Core.Bool.{and-eq-true-iff}
+use native.Mathlib.Omega.{arith}
 use borrow.Author.Tests.{ltb-true}
 use Rattle.formula.specs.Result.{accepted, andThen, fine, lowest}
 use Rattle.formula.proofs.Lowest.{fine-first, fine-second, lowest-each}
@@ -13,7 +14,9 @@ use Rattle.image.specs.Reader.{numberAt, countsAt, stateCheck, sumCheck, transi
 use Rattle.image.specs.Calls.{checks}
 use Rattle.image.proofs.Contents.{Read, read-of, contents-fine, checks-of}
 use Rattle.image.proofs.Tables.{sum-fine}
-use Rattle.judge.specs.Marks.{Readable}
+use Rattle.judge.specs.Marks.{machine, Readable}
+use Rattle.judge.proofs.Records.{machine-states, step-target, initial-state}
+use Rattle.judge.proofs.Points.{InRange}
 
 module _ (c : Counts) (s t i : List ℕ) (checked : recordsCheck c s t i ≡ fine) where
   after-sum : andThen (lowest (transitionCheck (c .states) t) (c .transitions)) (λ _. lowest (initialCheck (c .states) i) (c .initial)) ≡ fine
@@ -49,3 +52,10 @@ pub known : (image : List ℕ) {c : Counts} → accepted c ≡ checks image → 
 known image {c} e =
     let found = checks-of image c e in
     readable (read-of image (found .automaton) (found .read))
+
+-- the automaton's targets and initial numbers are states
+pub readable-in-range : (image : List ℕ) → Readable image → InRange (machine image)
+readable-in-range image fine = record {
+  targets = λ q x next h. omega (arith, machine-states image, step-target image fine q x next h);
+  initial = λ q h. omega (arith, machine-states image, initial-state image fine q h);
+}

@@ -10,5 +10,9 @@ pub mod Runs
 pub mod Marking
 pub mod Passes
 pub mod Verdict
+pub mod Queue
+pub mod Points
+pub mod Reached
+pub mod HasAcceptingPass
 pub mod Accepted
 pub mod Answers

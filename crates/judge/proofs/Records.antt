@@ -14,7 +14,7 @@ use borrow.Author.Tests.{eqb-true, eq-eqb}
 use Rattle.automaton.specs.Automaton.{Transition, State, noState, In, reads, Step, Accepts}
 use Rattle.image.specs.Image.{transitionsAt, initialAt}
 use Rattle.image.specs.Reader.{numberAt, countsAt, countSum, transitionsFrom, statesFrom, numbersFrom, automatonFrom}
-use Rattle.image.proofs.Tables.{sum-first}
+use Rattle.image.proofs.Tables.{sum-first, states-length}
 use Rattle.judge.specs.Marks.{machine, recordAt, recordsAt, Readable}
 
 pub number-drop : (d : ℕ) (bytes : List ℕ) (i : ℕ) → numberAt (drop d bytes) i ≡ numberAt bytes (d + i)
@@ -102,11 +102,6 @@ state-at (suc n) states transitions (suc q) lt =
         → _≡_ {A = State} (record { accepting = eqb b 1; transitions = transitionsFrom c d }) (record { accepting = eqb b' 1; transitions = transitionsFrom c' d' })
     same e f g = rw (e, f, g)
 
-states-length : (n : ℕ) (states transitions : List ℕ) → length (statesFrom n states transitions) ≡ n
-unfolding statesFrom
-states-length zero states transitions = refl
-states-length (suc n) states transitions = ap suc (states-length n (drop 4 states) (drop (4 * numberAt states 0) transitions))
-
 module _ (image : List ℕ) where
   abbrev count : ℕ
   count = numberAt image 2
@@ -115,9 +110,12 @@ module _ (image : List ℕ) where
   unfolding automatonFrom
   machine-state q lt = state-at count (drop 18 image) (drop (transitionsAt (countsAt image)) image) q lt
 
-  machine-none : (q : ℕ) → count ≤ q → getD (machine image .states) q noState ≡ noState
+  pub machine-states : length (machine image .states) ≡ count
   unfolding automatonFrom
-  machine-none q le = List·getD-eq-default (machine image .states) noState (omega (arith, states-length count (drop 18 image) (drop (transitionsAt (countsAt image)) image)))
+  machine-states = states-length count (drop 18 image) (drop (transitionsAt (countsAt image)) image)
+
+  machine-none : (q : ℕ) → count ≤ q → getD (machine image .states) q noState ≡ noState
+  machine-none q le = List·getD-eq-default (machine image .states) noState (omega (arith, machine-states))
 
   -- a transition of state q that reads x and leads to t, as a record among those of q
   pub record Taken (q x t : ℕ) : Type 0 where

@@ -1,39 +1,56 @@
--- The call judge: answer, place and the working bytes, for every input (document 01, "Judging").
+-- The call judge: answer, place and the working bytes, for every input (01, Judging; Numbers that come from the input).
 use Prim.Native.Nat.{ℕ, _+_}
-use mathlib.Core.Path.{_≡_}
 use mathlib.Core.List.{List}
+use mathlib.Core.Bool.{true, false}
 use lib.ListN.{length, replicate}
 use lib.Dec.{leb, ltb}
 use Rattle.formula.specs.Result.{Result, accepted, refused, andThen, Check, require}
-use Rattle.automaton.specs.Automaton.{Automaton, AcceptingPass}
+use Rattle.automaton.specs.Automaton.{Automaton}
 use Rattle.image.specs.Reader.{readImage}
 use Rattle.judge.specs.declared.Judged.{Judged}
 use Rattle.judge.specs.declared.Judged.the-variants.{Kept, Broken, Refused}
+use Rattle.judge.specs.Search.{hasAcceptingPass}
 
--- "25 .. or 12,288 working bytes for judging"
+pub data Verdict : Type 0 where
+  kept : Verdict
+  broken : Verdict
+
+-- what an answer says in document 01's numbers and values
+abbrev pub judgeAnswer : Judged → Result Verdict
+judgeAnswer Kept = accepted kept
+judgeAnswer Broken = accepted broken
+judgeAnswer (Refused number place) = refused number place
+
+-- 25: fewer than 12,288 working bytes
 abbrev pub workCheck : List ℕ → Check
 workCheck work = require (leb 12288 (length work)) 25 0
 
--- "8: empty loop. 9: stem and loop over 128 slots. Place 0."
+-- 8: the cycle has no letter; then 9: stem and cycle have over 128 together
 unfoldable pub lassoCheck : (stem cycle : List ℕ) → Check
 lassoCheck stem cycle =
     andThen (require (ltb 0 (length cycle)) 8 0) (λ _. require (leb (length stem + length cycle) 128) 9 0)
 
--- "10 to 13, then 8, 9, for judging", after 25: the automaton that is judged, or the refusal
+-- the order of judging's refusals: 25, the image's 10 to 13, the lasso's 8 and 9; else the automaton that is judged
 unfoldable pub judgeable : (image stem cycle work : List ℕ) → Result Automaton
 judgeable image stem cycle work =
     andThen (workCheck work) (λ _. andThen (readImage image) (λ a. andThen (lassoCheck stem cycle) (λ _. accepted a)))
 
--- ""Kept" if the image has an accepting lap on the plan, else "broken"."; a refusal's number and place
-abbrev pub Says : Judged → Result Automaton → (stem cycle : List ℕ) → Type 0
-Says Kept (accepted a) stem cycle = AcceptingPass a stem cycle
-Says Kept (refused number place) stem cycle = ⊥
-Says Broken (accepted a) stem cycle = AcceptingPass a stem cycle → ⊥
-Says Broken (refused number place) stem cycle = ⊥
-Says (Refused number place) (accepted a) stem cycle = ⊥
-Says (Refused number place) (refused number' place') stem cycle = (number ≡ number') × (place ≡ place')
+-- kept exactly where there is an accepting pass (01, Judging, sentence 6)
+unfoldable pub verdict : Automaton → (stem cycle : List ℕ) → Verdict
+verdict a stem cycle = elim (hasAcceptingPass a stem cycle) [ true ↦ kept | false ↦ broken ]
 
--- "judging's working bytes are then zero": all that were lent; a refusal leaves them as they were
-abbrev pub workAfter : Result Automaton → List ℕ → List ℕ
-workAfter (accepted a) work = replicate (length work) 0
-workAfter (refused number place) work = work
+-- an answer, and the lent working bytes afterwards
+pub record Judgement : Type 0 where
+  pub answer : Result Verdict
+  pub work : List ℕ
+
+abbrev pub judgement : Result Verdict → List ℕ → Judgement
+judgement answer work = record { answer = answer; work = work }
+
+-- a refusal leaves the working bytes as they were, a verdict leaves them zero, all that were lent
+abbrev pub judgedBy : Result Automaton → (stem cycle work : List ℕ) → Judgement
+judgedBy (accepted a) stem cycle work = judgement (accepted (verdict a stem cycle)) (replicate (length work) 0)
+judgedBy (refused number place) stem cycle work = judgement (refused number place) work
+
+unfoldable pub judged : (image stem cycle work : List ℕ) → Judgement
+judged image stem cycle work = judgedBy (judgeable image stem cycle work) stem cycle work

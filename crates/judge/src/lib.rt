@@ -1,4 +1,5 @@
 // The call judge: whether a lasso is kept or broken by the automaton of an image.
+use formula::Checked;
 use image::CONTENTS_BYTES;
 use image::Loaded;
 use image::check;
@@ -12,7 +13,8 @@ ghost use lib.Dec.{eqb, leb};
 ghost use lib.Bits.{bitOr, bitAnd};
 ghost use Rattle.automaton.specs.Automaton.{AcceptingPass, Step, Accepts, In, reads};
 ghost use Rattle.image.specs.Reader.{numberAt};
-ghost use Rattle.judge.specs.Judge.{judgeable, Says, workAfter};
+ghost use Rattle.formula.specs.Rule.{answer};
+ghost use Rattle.judge.specs.Judge.{judgeAnswer, lassoCheck, judgement, judgedBy, judged};
 ghost use Rattle.judge.specs.Marks.{lassoJudgeable, Token, Lifted, Is, Adds, Ored, Decides, machine, recordAt, recordsAt, Readable, Moved, After, Joined, Linked, Found};
 
 // The numbers of document 01 by which a lasso is refused, and working bytes that are too few.
@@ -338,17 +340,27 @@ fn letters_fit(stem: usize, cycle: usize) -> bool
     cycle <= MAX_LETTERS - stem
 }
 
+// 8 and 9 of a lasso.
+pub fn check_lasso(stem: &[u8], cycle: &[u8]) -> Checked
+    ensures { λ r. ⌜ answer r ≡ lassoCheck (now (stem .entry)) (now (cycle .entry)) ⌝ }
+{
+    if cycle.len() == 0 {
+        return Checked::Refused(EMPTY_CYCLE, 0);
+    }
+    if !letters_fit(stem.len(), cycle.len()) {
+        return Checked::Refused(TOO_MANY_LETTERS, 0);
+    }
+    Checked::Accepted
+}
+
 // 8 and 9, then the verdict of an image that is not refused, and the working bytes zero.
 fn judge_lasso(image: &[u8], n: usize, stem: &[u8], cycle: &[u8], work: &mut [u8]) -> Judged
     requires { ⌜ Readable (now image) × (n ≡ numberAt (now image) 2) ⌝ }
-    ensures { λ r. ⌜ Says r (lassoJudgeable (machine (now (image .entry))) (now (stem .entry)) (now (cycle .entry))) (now (stem .entry)) (now (cycle .entry)) ⌝ }
-    ensures { λ _. ⌜ now (work .exit) ≡ workAfter (lassoJudgeable (machine (now (image .entry))) (now (stem .entry)) (now (cycle .entry))) (now (work .entry)) ⌝ }
+    ensures { λ r. ⌜ judgement (judgeAnswer r) (now (work .exit)) ≡ judgedBy (lassoJudgeable (machine (now (image .entry))) (now (stem .entry)) (now (cycle .entry))) (now (stem .entry)) (now (cycle .entry)) (now (work .entry)) ⌝ }
 {
-    if cycle.len() == 0 {
-        return Judged::Refused(EMPTY_CYCLE, 0);
-    }
-    if !letters_fit(stem.len(), cycle.len()) {
-        return Judged::Refused(TOO_MANY_LETTERS, 0);
+    let checked = check_lasso(stem, cycle);
+    if let Checked::Refused(number, place) = checked {
+        return Judged::Refused(number, place);
     }
     let kept = search(image, n, stem, cycle);
     automaton::zero(work);
@@ -360,8 +372,7 @@ fn judge_lasso(image: &[u8], n: usize, stem: &[u8], cycle: &[u8], work: &mut [u8
 
 // The verdict on a lasso: 25, then 10 to 13 of the image, then 8 and 9 of the lasso.
 pub fn judge(image: &[u8], stem: &[u8], cycle: &[u8], work: &mut [u8]) -> Judged
-    ensures { λ r. ⌜ Says r (judgeable (now (image .entry)) (now (stem .entry)) (now (cycle .entry)) (now (work .entry))) (now (stem .entry)) (now (cycle .entry)) ⌝ }
-    ensures { λ _. ⌜ now (work .exit) ≡ workAfter (judgeable (now (image .entry)) (now (stem .entry)) (now (cycle .entry)) (now (work .entry))) (now (work .entry)) ⌝ }
+    ensures { λ r. ⌜ judgement (judgeAnswer r) (now (work .exit)) ≡ judged (now (image .entry)) (now (stem .entry)) (now (cycle .entry)) (now (work .entry)) ⌝ }
 {
     if work.len() < WORK_BYTES {
         return Judged::Refused(WORK_TOO_SHORT, 0);

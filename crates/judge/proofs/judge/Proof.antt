@@ -36,7 +36,7 @@ same-length : tie.Need-same-length
 same-length c = search needs
 
 returns-3 : tie.Need-returns-3
-returns-3 c = image-judged _ _ _ _ (omega arith) (sym (ap readAnswer (c .before .before .before .before .before .enum-told .given .1)) ∙ c .before .before .before .before .before .before .before .check .ensures) (c .before .before .judge-lasso .result) (c .before .before .judge-lasso .ensures)
+returns-3 c = image-judged _ _ _ _ (omega arith) (sym (ap readAnswer (c .before .before .before .before .before .enum-told .given .1)) ∙ c .before .before .before .before .before .before .before .check .ensures) (c .before .before .judge-lasso .ensures)
 
 pub judge-spec : {M : Type 1} → statement M
 judge-spec =

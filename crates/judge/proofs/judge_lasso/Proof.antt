@@ -1,19 +1,24 @@
--- `judge::judge_lasso` meets its contract: the tests of `lassoCheck` in their order, then the verdict of the search.
+-- `judge::judge_lasso` meets its contract: the answer of `check_lasso`, then the verdict of the search.
 -- Assumes nothing.
-use native.Mathlib.Omega.{arith}
-use Rattle.judge.proofs.Answers.{cycle-empty, letters-over, lasso-kept, lasso-broken}
 use borrow.Author.Needs.{needs}
+use mathlib.Core.Path.{sym, ap, _∙_}
+use Rattle.formula.specs.Rule.{answer}
+use Rattle.judge.proofs.Accepted.{readable-in-range}
+use Rattle.judge.proofs.Answers.{lasso-refused, lasso-kept, lasso-broken}
 use Rattle.judge.proofs.judge_lasso.Statement.{statement}
 use Rattle.judge.proofs.judge_lasso.Tie as tie
 
+check-lasso-requires : tie.Need-check-lasso-requires
+check-lasso-requires c κs = search needs
+
+enum-known-checked : tie.Need-enum-known-checked
+enum-known-checked c = search needs
+
 returns : tie.Need-returns
-returns c = cycle-empty _ _ _ _ (omega arith)
+returns c = lasso-refused _ _ _ _ (sym (ap answer (c .before .checked .given .1)) ∙ c .before .before .before .check-lasso .ensures)
 
-letters-fit-requires : tie.Need-letters-fit-requires
-letters-fit-requires c κs = search needs
-
-returns-2 : tie.Need-returns-2
-returns-2 c = letters-over _ _ _ _ (c .before .before .if1 .left) (c .before .letters-fit .ensures) (c .if2 .taken)
+enum-told : tie.Need-enum-told
+enum-told c = search needs
 
 search-requires : tie.Need-search-requires
 search-requires c κs = search needs
@@ -24,25 +29,34 @@ zero-requires c κs = search needs
 same-length : tie.Need-same-length
 same-length c = search needs
 
-returns-3 : tie.Need-returns-3
-returns-3 c = lasso-kept _ _ _ _ (c .before .before .before .before .before .before .before .before .if1 .left) (c .before .before .before .before .before .before .before .letters-fit .ensures) (c .before .before .before .before .before .before .if2 .left) (c .before .before .before .before .before .search .ensures) (c .before .before .before .zero .ensures) (c .if3 .taken)
+returns-2 : tie.Need-returns-2
+returns-2 c =
+    let found = c .before .before .before .before .before in
+    let checked = found .before .before .before in
+    let start = checked .before .before .before .before .before in
+    lasso-kept _ _ _ _ (readable-in-range _ (start .pre .0)) (sym (ap answer (found .before .enum-told .given .1)) ∙ checked .check-lasso .ensures) (found .search .ensures) (c .before .before .before .zero .ensures) (c .if1 .taken)
 
 same-length-2 : tie.Need-same-length-2
 same-length-2 c = search needs
 
-returns-4 : tie.Need-returns-4
-returns-4 c = lasso-broken _ _ _ _ (c .before .before .before .before .before .before .before .before .if1 .left) (c .before .before .before .before .before .before .before .letters-fit .ensures) (c .before .before .before .before .before .before .if2 .left) (c .before .before .before .before .before .search .ensures) (c .before .before .before .zero .ensures) (c .if3 .left)
+returns-3 : tie.Need-returns-3
+returns-3 c =
+    let found = c .before .before .before .before .before in
+    let checked = found .before .before .before in
+    let start = checked .before .before .before .before .before in
+    lasso-broken _ _ _ _ (readable-in-range _ (start .pre .0)) (sym (ap answer (found .before .enum-told .given .1)) ∙ checked .check-lasso .ensures) (found .search .ensures) (c .before .before .before .zero .ensures) (c .if1 .left)
 
 pub judge-lasso-spec : {M : Type 1} → statement M
 judge-lasso-spec =
     tie.close
     (tie.spec
+    check-lasso-requires
+    enum-known-checked
     returns
-    letters-fit-requires
-    returns-2
+    enum-told
     search-requires
     zero-requires
     same-length
-    returns-3
+    returns-2
     same-length-2
-    returns-4)
+    returns-3)

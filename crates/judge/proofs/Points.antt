@@ -1,0 +1,172 @@
+-- The positions that a run goes through, letter after letter, and the points on its way: the points that follow from a
+-- point are those that a step leads to.
+use Prim.Native.Nat.{ℕ, zero, suc, _+_, _-_, _*_, _<_, _≤_}
+use mathlib.Core.Path.{_≡_, refl, sym, _∙_, ap, subst}
+use mathlib.Core.Logic.{inl, inr}
+use mathlib.Core.List.{List, [], _∷_}
+use mathlib.Core.Bool.{Bool, true, false}
+use native.Mathlib.Omega.{arith}
+use native.Mathlib.Nat.{suc-mul}
+use native.Mathlib.Decide.{decLt}
+use lib.ListN.{getD, length}
+use borrow.Author.Tests.{lt-ltb, le-ltb}
+use Rattle.formula.specs.Lasso.{letter}
+use Rattle.automaton.specs.Automaton.{Transition, Automaton, In, noState, reads, Step}
+use Rattle.formula.proofs.Letters.{letter-round}
+use Rattle.automaton.proofs.Members.{All}
+use Rattle.judge.proofs.Runs.{Leads, leads-none, leads-snoc}
+use Rattle.judge.specs.Search.{Point, point, targets, after, onward}
+use Rattle.judge.proofs.Queue.{Within}
+
+module _ (stem cycle : List ℕ) where
+  abbrev s : ℕ
+  s = length stem
+
+  abbrev n : ℕ
+  n = length cycle
+
+  after-inside : (p : ℕ) → suc p < s + n → after stem cycle p ≡ suc p
+  unfolding after
+  after-inside p l = rw (lt-ltb (suc p) (s + n) l)
+
+  after-last : (p : ℕ) → s + n ≤ suc p → after stem cycle p ≡ s
+  unfolding after
+  after-last p l = rw (le-ltb (suc p) (s + n) l)
+
+  pub after-small : 0 < n → (p : ℕ) → after stem cycle p < s + n
+  after-small pos p = go (decLt (suc p) (s + n))
+    where
+      go : Dec (suc p < s + n) → after stem cycle p < s + n
+      go (yes l) = omega (arith, after-inside p l)
+      go (no l) = omega (arith, after-last p (omega arith))
+
+  -- the position i letters after p
+  unfoldable pub onto : (p i : ℕ) → ℕ
+  onto p zero = p
+  onto p (suc i) = after stem cycle (onto p i)
+
+  pub onto-more : (p i j : ℕ) → onto p (i + j) ≡ onto (onto p i) j
+  unfolding onto
+  onto-more p i zero =
+      let z : i + 0 ≡ i = omega arith in
+      ap (onto p) z
+  onto-more p i (suc j) =
+      let z : i + suc j ≡ suc (i + j) = omega arith in
+      ap (onto p) z ∙ ap (after stem cycle) (onto-more p i j)
+
+  -- ---- from the beginning
+
+  onto-early : (i : ℕ) → i < s + n → onto 0 i ≡ i
+  unfolding onto
+  onto-early zero l = refl
+  onto-early (suc i) l = ap (after stem cycle) (onto-early i (omega arith)) ∙ after-inside i l
+
+  -- the position n letters on is the same
+  module _ (pos : 0 < n) where
+    onto-round : (d : ℕ) → onto 0 (s + d + n) ≡ onto 0 (s + d)
+    unfolding onto
+    onto-round zero =
+        let z : s + 0 + n ≡ suc (s + (n - 1)) = omega arith in
+        let y : s + 0 ≡ s = omega arith in
+        ap (onto 0) z ∙ ap (after stem cycle) (onto-early (s + (n - 1)) (omega arith)) ∙ after-last (s + (n - 1)) (omega arith) ∙ sym (ap (onto 0) y ∙ onto-early s (omega arith))
+    onto-round (suc d) =
+        let z : s + suc d + n ≡ suc (s + d + n) = omega arith in
+        let y : s + suc d ≡ suc (s + d) = omega arith in
+        ap (onto 0) z ∙ ap (after stem cycle) (onto-round d) ∙ sym (ap (onto 0) y)
+
+    -- each pass begins at the cycle's first letter
+    pub onto-pass : (k : ℕ) → onto 0 (s + k * n) ≡ s
+    onto-pass zero =
+        let z : s + 0 * n ≡ s = omega arith in
+        ap (onto 0) z ∙ onto-early s (omega arith)
+    onto-pass (suc k) =
+        let z : s + suc k * n ≡ s + k * n + n = omega (arith, suc-mul k n) in
+        ap (onto 0) z ∙ onto-round (k * n) ∙ onto-pass k
+
+    -- and the letter there is the word's
+    letter-below : (b i : ℕ) → i < b → letter stem cycle (onto 0 i) ≡ letter stem cycle i
+    letter-below zero i l = absurd (omega arith)
+    letter-below (suc b) i l = go (decLt i (s + n)) (letter-below b (i - n))
+      where
+        go : Dec (i < s + n) → (i - n < b → letter stem cycle (onto 0 (i - n)) ≡ letter stem cycle (i - n)) → letter stem cycle (onto 0 i) ≡ letter stem cycle i
+        go (yes m) ih = ap (letter stem cycle) (onto-early i m)
+        go (no m) ih =
+            let z : i ≡ s + (i - n - s) + n = omega arith in
+            let y : s + (i - n - s) ≡ i - n = omega arith in
+            let x : i ≡ i - n + n = omega arith in
+            ap (letter stem cycle) (ap (onto 0) z ∙ onto-round (i - n - s) ∙ ap (onto 0) y) ∙ ih (omega arith) ∙ sym (letter-round stem cycle (i - n) (omega arith)) ∙ sym (ap (letter stem cycle) x)
+
+    pub letter-onto : (i : ℕ) → letter stem cycle (onto 0 i) ≡ letter stem cycle i
+    letter-onto i = letter-below (suc i) i (omega arith)
+
+-- ---- what follows from a point
+
+targets-in : (x next : ℕ) (ts : List Transition) (z : Point) → In z (targets x next ts) → (z .position ≡ next) × ((t : Transition) × In t ts × (reads t x ≡ true) × (z .state ≡ t .target))
+unfolding targets
+targets-in x next [] z h = absurd h
+targets-in x next (t ∷ ts) z h = go (reads t x) refl h (targets-in x next ts z)
+  where
+    Led : List Transition → Type 0
+    Led us = (z .position ≡ next) × ((u : Transition) × In u us × (reads u x ≡ true) × (z .state ≡ u .target))
+
+    on : Led ts → Led (t ∷ ts)
+    on (p, (u, m, r, e)) = (p, (u, inr m, r, e))
+
+    go : (b : Bool) → reads t x ≡ b → In z (elim b [ true ↦ point next (t .target) ∷ targets x next ts | false ↦ targets x next ts ]) → (In z (targets x next ts) → Led ts) → Led (t ∷ ts)
+    go true q (inl e) ih = (ap (λ (y : Point). y .position) e, (t, inl refl, q, ap (λ (y : Point). y .state) e))
+    go true q (inr h) ih = on (ih h)
+    go false q h ih = on (ih h)
+
+in-targets : (x next : ℕ) (ts : List Transition) (t : Transition) → In t ts → reads t x ≡ true → In (point next (t .target)) (targets x next ts)
+unfolding targets
+in-targets x next [] t m r = absurd m
+in-targets x next (u ∷ ts) t (inl e) r = subst (λ (b : Bool). In (point next (t .target)) (elim b [ true ↦ point next (u .target) ∷ targets x next ts | false ↦ targets x next ts ])) (sym (subst (λ (v : Transition). reads v x ≡ true) e r)) (inl (ap (λ (v : Transition). point next (v .target)) e))
+in-targets x next (u ∷ ts) t (inr m) r = go (reads u x) (in-targets x next ts t m r)
+  where
+    go : (b : Bool) → In (point next (t .target)) (targets x next ts) → In (point next (t .target)) (elim b [ true ↦ point next (u .target) ∷ targets x next ts | false ↦ targets x next ts ])
+    go true h = inr h
+    go false h = h
+
+module _ (a : Automaton) (stem cycle : List ℕ) where
+  pub onward-step : (x z : Point) → In z (onward a stem cycle x) → (z .position ≡ after stem cycle (x .position)) × Step a (x .state) (letter stem cycle (x .position)) (z .state)
+  unfolding onward
+  onward-step x z h = targets-in (letter stem cycle (x .position)) (after stem cycle (x .position)) (getD (a .states) (x .state) noState .transitions) z h
+
+  pub step-onward : (p q r : ℕ) → Step a q (letter stem cycle p) r → In (point (after stem cycle p) r) (onward a stem cycle (point p q))
+  unfolding onward
+  step-onward p q r (t, m, reads-it, e) =
+      subst (λ (k : ℕ). In (point (after stem cycle p) k) (onward a stem cycle (point p q))) (sym e)
+      (in-targets (letter stem cycle p) (after stem cycle p) (getD (a .states) q noState .transitions) t m reads-it)
+
+  -- the letters from position p on
+  abbrev pub wordFrom : (p : ℕ) → ℕ → ℕ
+  wordFrom p i = letter stem cycle (onto stem cycle p i)
+
+  -- a run over d letters from one point to another
+  pub record Walk (d : ℕ) (x y : Point) : Type 0 where
+    pub place : onto stem cycle (x .position) d ≡ y .position
+    pub run : Leads a (wordFrom (x .position)) d (x .state) (y .state)
+
+  pub walk-none : (x : Point) → Walk 0 x x
+  unfolding onto
+  walk-none x = record { place = refl; run = leads-none a (wordFrom (x .position)) (x .state) }
+
+  pub walk-on : {d : ℕ} {x y : Point} → Walk d x y → (z : Point) → In z (onward a stem cycle y) → Walk (suc d) x z
+  unfolding onto
+  walk-on {d} {x} {y} w z h =
+      let (p, st) = onward-step y z h in
+      record {
+        place = ap (after stem cycle) (w .place) ∙ sym p;
+        run = leads-snoc a (w .run) (subst (λ (k : ℕ). Step a (y .state) (letter stem cycle k) (z .state)) (sym (w .place)) st);
+      }
+
+-- targets and initial numbers are states
+pub record InRange (a : Automaton) : Type 0 where
+  pub targets : (q letter next : ℕ) → Step a q letter next → next < length (a .states)
+  pub initial : (q : ℕ) → In q (a .initial) → q < length (a .states)
+
+-- what follows from a point is within bounds
+pub onward-within : (a : Automaton) (stem cycle : List ℕ) → InRange a → 0 < length cycle → (x : Point) → All (Within (length (a .states)) (length stem + length cycle)) (onward a stem cycle x)
+onward-within a stem cycle range pos x z h =
+    let (p, st) = onward-step a stem cycle x z h in
+    record { position = omega (arith, after-small stem cycle pos (x .position)); state = range .targets _ _ _ st }
