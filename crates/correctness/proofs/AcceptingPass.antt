@@ -14,7 +14,7 @@ use Rattle.automaton.specs.Degeneralized.{degeneralized, translation}
 use Rattle.formula.proofs.Letters.{letter-round}
 use Rattle.automaton.proofs.Passes.{pass-iff}
 use Rattle.correctness.proofs.Counting.{endless-iff-holds}
-use Rattle.correctness.proofs.Results.{then-accepted}
+use Rattle.formula.proofs.Results.{then-accepted}
 use Rattle.correctness.proofs.Numbering.{pass-iff-endless}
 use Rattle.correctness.proofs.Walks.{Listed, listed-represent, automatonOf, numbering}
 

@@ -16,7 +16,7 @@ use Rattle.generalized.specs.Explore.{find, meet, meetAll, explore}
 use Rattle.automaton.specs.Automaton.{In}
 use Rattle.automaton.proofs.Members.{All, at-in, in-at, in-append, append-in}
 use Rattle.correctness.proofs.Members.{all-one}
-use Rattle.correctness.proofs.Results.{never-both, then-accepted}
+use Rattle.formula.proofs.Results.{never-both, then-accepted}
 
 module _ {A : Type 0} (none : A) where
   -- what stands in xs stands at the same place in ys

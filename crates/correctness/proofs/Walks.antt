@@ -29,7 +29,7 @@ use Rattle.correctness.proofs.Runs.{Reads, Represents}
 use Rattle.correctness.proofs.Tests.{reads-iff}
 use Rattle.automaton.proofs.Passes.{numbered}
 use Rattle.correctness.proofs.Counting.{Counted, counting}
-use Rattle.correctness.proofs.Results.{then-accepted}
+use Rattle.formula.proofs.Results.{then-accepted}
 use Rattle.correctness.proofs.Explored.{Reached, find-in, walked}
 use Rattle.correctness.proofs.Numbering.{Numbering}
 

@@ -21,7 +21,7 @@ use Rattle.automaton.specs.Automaton.{Transition, State, Automaton, In}
 use Rattle.automaton.specs.Translate.{transitionCount}
 use Rattle.automaton.specs.Degeneralized.{Pair, pair, initialNumbers, pairTransitions, degeneralized, stateOf, translation}
 use Rattle.automaton.proofs.Members.{in-at, at-in, map-in}
-use Rattle.correctness.proofs.Results.{then-accepted}
+use Rattle.formula.proofs.Results.{then-accepted}
 use Rattle.correctness.proofs.Labels.{Label, transitions-labelled}
 use Rattle.correctness.proofs.Walks.{cover-small, numbers-length, numbers-at, automatonOf, Valid, first-walked, second-walked, initial-valid, pairs-known, leads, lands}
 

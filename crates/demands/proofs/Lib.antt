@@ -4,3 +4,4 @@ pub mod ReadRecords
 pub mod ImageAccepted
 pub mod Verdict
 pub mod Deciding
+pub mod Decided

@@ -1,63 +1,59 @@
--- Document 01's "Watchers to hold against the definitions": the rows P1 to P9 as one table under one theorem, each
--- with its automaton, its image where the document has one, and its verdicts. Computed from the definitions.
-use Prim.Native.Nat.{ℕ, _<_}
-use mathlib.Core.Path.{_≡_, refl}
-use mathlib.Core.List.{List, [], _∷_}
+-- The table of 01, Watchers to hold against the definitions: the rows P1 to P9 under one theorem, each with its first
+-- walk, its automaton, its image where the document has one, and what judging that image says. Computed from the
+-- definitions. Assumes nothing.
+use Prim.Native.Nat.{ℕ, _≤_}
+use mathlib.Core.Path.{_≡_, refl, sym, _∙_, ap}
+use mathlib.Core.Logic.{inl, inr}
+use mathlib.Core.List.{List, [], _∷_, map}
 use mathlib.Core.Bool.{Bool, true, false}
-use native.Mathlib.Decide.{ℕ-discrete}
-use native.Mathlib.Omega.{arith}
 use lib.ListN.{length}
 use Rattle.sets.specs.Sets.{insert, union, insertJoin, insertJoins, insertProduct, any}
-use Rattle.formula.specs.Result.{accepted, lowest}
+use Rattle.formula.specs.Result.{accepted, fine, lowest}
 use Rattle.formula.specs.Rule.{leftOperand, rightOperand, lengthCheck, nodeCheck, places, placeCheck, untils, untilCheck}
 use Rattle.formula.specs.Rule
 use Rattle.formula.specs.Formula.{trees, tree, formula}
-use Rattle.formula.specs.Lasso.{letter, Satisfies}
+use Rattle.formula.specs.Lasso.{letter}
 use Rattle.term.specs.Term.{cover, terms}
 use Rattle.term.specs.Size.{sizeCheck, checked}
 use Rattle.generalized.specs.Explore.{find, meet, meetAll, explore}
 use Rattle.generalized.specs.Generalized.{partialProduct, transitions, productCheck, targets, generalized, shows, fulfils}
 use Rattle.generalized.specs.Memory.{allTransitions}
-use Rattle.automaton.specs.Automaton.{Transition, State, Automaton, AcceptingPass}
+use Rattle.automaton.specs.Automaton.{Transition, State, Automaton, In}
 use Rattle.automaton.specs.Degeneralized.{climb, nextLevel, numbers, initialNumbers, pairTransitions, target, degeneralized, stateOf, translation}
 use Rattle.automaton.specs.Records.{records, twoBytes, stateRecord, transitionRecord, stateRecords, transitionRecords, initialRecords}
 use Rattle.automaton.specs.Translate.{transitionCount}
+use Rattle.automaton.proofs.Members.{All}
 use Rattle.image.specs.Image.{entry, contents, imageBytes}
-use Rattle.automaton.proofs.Positions.{some-dec}
-use Rattle.formula.proofs.Letters.{letter-round}
-use Rattle.correctness.proofs.Periodic.{near-dec, until-dec, release-dec, holds-dec}
-use Rattle.correctness.proofs.AcceptingPass.{accepting-pass-iff-satisfied}
+use Rattle.judge.specs.Search
+use Rattle.judge.specs.Judge.{Verdict, kept, broken, lassoCheck, verdict, Judgement, judged}
+use Rattle.demands.proofs.Verdict.{image-judged}
 
-pub record Lasso : Type 0 where
+-- a lasso and its verdict
+pub record Case : Type 0 where
   pub stem : List ℕ
   pub cycle : List ℕ
+  pub verdict : Verdict
 
 -- a rule, the obligation sets of its first walk and the count of its transitions, its automaton, its image if the
--- document gives one, and lassos that it says are kept and broken
+-- document gives one, and the verdicts that it gives
 pub record Row : Type 0 where
   pub rule : List ℕ
   pub sets : List ℕ
   pub count : ℕ
   pub automaton : Automaton
   pub images : List (List ℕ)
-  pub kept : List Lasso
-  pub broken : List Lasso
+  pub cases : List Case
 
-abbrev pub All : {A : Type 0} → (A → Type 0) → List A → Type 0
-All P [] = Unit {0}
-All P (x ∷ xs) = P x × All P xs
-
--- what a row says
+-- what a row says; a verdict is the answer of judging the automaton's image, with working bytes enough
 pub record Right (row : Row) : Type 0 where
   pub walked : generalized (row .rule) ≡ accepted (row .sets)
   pub counted : length (allTransitions (row .rule) (row .sets)) ≡ row .count
   pub translated : translation (row .rule) ≡ accepted (row .automaton)
   pub imaged : All (λ image. imageBytes (row .automaton) ≡ image) (row .images)
-  pub keeps : All (λ l. AcceptingPass (row .automaton) (l .stem) (l .cycle)) (row .kept)
-  pub breaks : All (λ l. AcceptingPass (row .automaton) (l .stem) (l .cycle) → ⊥) (row .broken)
+  pub judges : All (λ c. (work : List ℕ) → 12288 ≤ length work → judged (imageBytes (row .automaton)) (c .stem) (c .cycle) work .answer ≡ accepted (c .verdict)) (row .cases)
 
-lasso : List ℕ → List ℕ → Lasso
-lasso stem cycle = record { stem = stem; cycle = cycle }
+on : (stem cycle : List ℕ) → Verdict → Case
+on stem cycle verdict = record { stem = stem; cycle = cycle; verdict = verdict }
 
 state : Bool → List Transition → State
 state accepting ts = record { accepting = accepting; transitions = ts }
@@ -72,8 +68,7 @@ p1 = record {
   count = 0;
   automaton = record { states = []; initial = [] };
   images = [];
-  kept = [];
-  broken = lasso ([]) (0 ∷ []) ∷ [];
+  cases = on [] (0 ∷ []) broken ∷ [];
 }
 
 p2 : Row
@@ -83,8 +78,7 @@ p2 = record {
   count = 1;
   automaton = record { states = state true (transition 0 0 0 ∷ []) ∷ []; initial = 0 ∷ [] };
   images = [];
-  kept = [];
-  broken = [];
+  cases = [];
 }
 
 p3 : Row
@@ -94,8 +88,7 @@ p3 = record {
   count = 2;
   automaton = record { states = state true (transition 1 0 1 ∷ []) ∷ state true (transition 0 0 1 ∷ []) ∷ []; initial = 0 ∷ [] };
   images = (1 ∷ 0 ∷ 2 ∷ 0 ∷ 18 ∷ 0 ∷ 2 ∷ 0 ∷ 2 ∷ 0 ∷ 26 ∷ 0 ∷ 3 ∷ 0 ∷ 1 ∷ 0 ∷ 34 ∷ 0 ∷ 1 ∷ 0 ∷ 1 ∷ 0 ∷ 1 ∷ 0 ∷ 1 ∷ 0 ∷ 1 ∷ 0 ∷ 1 ∷ 0 ∷ 0 ∷ 0 ∷ 1 ∷ 0 ∷ 0 ∷ 0 ∷ []) ∷ [];
-  kept = [];
-  broken = [];
+  cases = [];
 }
 
 p4 : Row
@@ -105,8 +98,7 @@ p4 = record {
   count = 3;
   automaton = record { states = state false (transition 1 0 1 ∷ transition 0 0 0 ∷ []) ∷ state true (transition 0 0 1 ∷ []) ∷ []; initial = 0 ∷ [] };
   images = [];
-  kept = lasso (1 ∷ []) (0 ∷ []) ∷ [];
-  broken = lasso ([]) (0 ∷ []) ∷ [];
+  cases = on (1 ∷ []) (0 ∷ []) kept ∷ on [] (0 ∷ []) broken ∷ [];
 }
 
 p5 : Row
@@ -116,8 +108,7 @@ p5 = record {
   count = 1;
   automaton = record { states = state true (transition 1 0 0 ∷ []) ∷ []; initial = 0 ∷ [] };
   images = [];
-  kept = lasso ([]) (1 ∷ []) ∷ [];
-  broken = lasso (0 ∷ []) (1 ∷ []) ∷ [];
+  cases = on [] (1 ∷ []) kept ∷ on (0 ∷ []) (1 ∷ []) broken ∷ [];
 }
 
 p6 : Row
@@ -127,8 +118,7 @@ p6 = record {
   count = 3;
   automaton = record { states = state true (transition 0 0 1 ∷ []) ∷ state true (transition 1 0 2 ∷ []) ∷ state true (transition 0 0 2 ∷ []) ∷ []; initial = 0 ∷ [] };
   images = [];
-  kept = lasso ([]) (1 ∷ []) ∷ [];
-  broken = lasso ([]) (1 ∷ 0 ∷ []) ∷ [];
+  cases = on [] (1 ∷ []) kept ∷ on [] (1 ∷ 0 ∷ []) broken ∷ [];
 }
 
 p7 : Row
@@ -138,8 +128,7 @@ p7 = record {
   count = 3;
   automaton = record { states = state false (transition 2 0 1 ∷ transition 1 0 0 ∷ []) ∷ state true (transition 0 0 1 ∷ []) ∷ []; initial = 0 ∷ [] };
   images = [];
-  kept = lasso (1 ∷ 1 ∷ []) (2 ∷ []) ∷ [];
-  broken = lasso ([]) (1 ∷ []) ∷ [];
+  cases = on (1 ∷ 1 ∷ []) (2 ∷ []) kept ∷ on [] (1 ∷ []) broken ∷ [];
 }
 
 p8 : Row
@@ -149,8 +138,7 @@ p8 = record {
   count = 3;
   automaton = record { states = state true (transition 3 0 1 ∷ transition 2 0 0 ∷ []) ∷ state true (transition 0 0 1 ∷ []) ∷ []; initial = 0 ∷ [] };
   images = [];
-  kept = lasso ([]) (2 ∷ []) ∷ lasso (3 ∷ []) (0 ∷ []) ∷ [];
-  broken = lasso (2 ∷ []) (1 ∷ []) ∷ [];
+  cases = on [] (2 ∷ []) kept ∷ on (3 ∷ []) (0 ∷ []) kept ∷ on (2 ∷ []) (1 ∷ []) broken ∷ [];
 }
 
 p9 : Row
@@ -160,66 +148,60 @@ p9 = record {
   count = 5;
   automaton = record { states = state false (transition 1 0 1 ∷ transition 0 0 2 ∷ []) ∷ state true (transition 1 0 1 ∷ transition 0 0 2 ∷ []) ∷ state false (transition 1 0 1 ∷ transition 0 0 2 ∷ transition 1 0 3 ∷ []) ∷ state true (transition 1 0 1 ∷ transition 0 0 2 ∷ transition 1 0 3 ∷ []) ∷ []; initial = 0 ∷ [] };
   images = [];
-  kept = [];
-  broken = [];
+  cases = [];
 }
 
 pub table : List Row
 table = p1 ∷ p2 ∷ p3 ∷ p4 ∷ p5 ∷ p6 ∷ p7 ∷ p8 ∷ p9 ∷ []
 
--- whether a lasso satisfies a rule, decided
-satisfied : (rule stem cycle : List ℕ) → 0 < length cycle → Dec (Satisfies rule stem cycle)
-unfolding Satisfies
-satisfied rule stem cycle pos = holds-dec (length stem) (length cycle) pos (letter stem cycle) (letter-round stem cycle) (formula rule) 0
+-- ---- the whole table, computed
 
-is-yes : {A : Type 0} → Dec A → Bool
-is-yes (yes a) = true
-is-yes (no a) = false
+walks : map (λ row. generalized (row .rule)) table ≡ map (λ row. accepted (row .sets)) table
+unfolding on state transition table p1 p2 p3 p4 p5 p6 p7 p8 p9 insert union insertJoin insertJoins insertProduct lowest trees tree formula cover terms find meet meetAll explore partialProduct transitions productCheck targets generalized allTransitions
+walks = refl
 
-module _ (rule stem cycle : List ℕ) (a : Automaton) (e : translation rule ≡ accepted a) (pos : 0 < length cycle) where
-  kept-by : is-yes (satisfied rule stem cycle pos) ≡ true → AcceptingPass a stem cycle
-  unfolding is-yes
-  kept-by q = go (satisfied rule stem cycle pos) q
-    where
-      go : (d : Dec (Satisfies rule stem cycle)) → is-yes d ≡ true → AcceptingPass a stem cycle
-      go (yes h) q = accepting-pass-iff-satisfied rule stem cycle a e pos .1 h
-      go (no h) q = let z : _≡_ {A = ℕ} 0 1 = cc in absurd (omega arith)
+counts : map (λ row. length (allTransitions (row .rule) (row .sets))) table ≡ map (λ row. row .count) table
+unfolding on state transition table p1 p2 p3 p4 p5 p6 p7 p8 p9 insert union insertJoin insertJoins insertProduct lowest trees tree formula cover terms find meet meetAll explore partialProduct transitions productCheck targets generalized allTransitions
+counts = refl
 
-  broken-by : is-yes (satisfied rule stem cycle pos) ≡ false → AcceptingPass a stem cycle → ⊥
-  unfolding is-yes
-  broken-by q pass = go (satisfied rule stem cycle pos) q
-    where
-      go : (d : Dec (Satisfies rule stem cycle)) → is-yes d ≡ false → ⊥
-      go (yes h) q = let z : _≡_ {A = ℕ} 0 1 = cc in absurd (omega arith)
-      go (no h) q = h (accepting-pass-iff-satisfied rule stem cycle a e pos .0 pass)
+translations : map (λ row. translation (row .rule)) table ≡ map (λ row. accepted (row .automaton)) table
+unfolding on state transition table p1 p2 p3 p4 p5 p6 p7 p8 p9 insert union insertJoin insertJoins insertProduct any lowest leftOperand rightOperand lengthCheck nodeCheck places placeCheck untils untilCheck Rule.checked trees tree formula cover terms sizeCheck checked find meet meetAll explore partialProduct transitions productCheck targets generalized shows fulfils climb nextLevel numbers initialNumbers pairTransitions target degeneralized stateOf translation
+translations = refl
+
+images : map (λ row. map (λ image. imageBytes (row .automaton)) (row .images)) table ≡ map (λ row. map (λ image. image) (row .images)) table
+unfolding on state transition table p1 p2 p3 p4 p5 p6 p7 p8 p9 transitionCount records twoBytes stateRecord transitionRecord stateRecords transitionRecords initialRecords entry contents imageBytes
+images = refl
+
+fits : map (λ row. map (λ c. lassoCheck (c .stem) (c .cycle)) (row .cases)) table ≡ map (λ row. map (λ c. fine) (row .cases)) table
+unfolding on state transition table p1 p2 p3 p4 p5 p6 p7 p8 p9 lassoCheck
+fits = refl
+
+verdicts : map (λ row. map (λ c. verdict (row .automaton) (c .stem) (c .cycle)) (row .cases)) table ≡ map (λ row. map (λ c. c .verdict) (row .cases)) table
+unfolding on state transition table p1 p2 p3 p4 p5 p6 p7 p8 p9 letter any Search.meet Search.meetAll Search.targets Search.after Search.onward Search.reach Search.reachedFrom Search.starts Search.hasAcceptingPass verdict
+verdicts = refl
+
+-- ---- each row by itself
+
+same-each : {A B : Type 0} (f g : A → B) (xs : List A) → map f xs ≡ map g xs → (x : A) → In x xs → f x ≡ g x
+same-each f g [] e x m = absurd m
+same-each f g (y ∷ ys) e x (inl q) =
+    let first : f y ≡ g y = cc in
+    ap f q ∙ first ∙ ap g (sym q)
+same-each f g (y ∷ ys) e x (inr m) =
+    let rest : map f ys ≡ map g ys = cc in
+    same-each f g ys rest x m
 
 pub rows : All Right table
-unfolding insert union insertJoin insertJoins insertProduct lowest leftOperand rightOperand lengthCheck nodeCheck places placeCheck untils untilCheck Rule.checked trees tree formula letter cover terms sizeCheck checked find meet meetAll explore partialProduct transitions productCheck targets generalized any shows fulfils allTransitions climb nextLevel numbers initialNumbers pairTransitions target degeneralized stateOf translation records twoBytes stateRecord transitionRecord stateRecords transitionRecords initialRecords transitionCount entry contents imageBytes some-dec near-dec until-dec release-dec holds-dec ℕ-discrete satisfied is-yes lasso state transition table p1 p2 p3 p4 p5 p6 p7 p8 p9
-rows = (
-  record { walked = refl; counted = refl; translated = refl; imaged = tt; keeps = tt; breaks = (broken-by (p1 .rule) _ _ _ refl (omega arith) refl, tt) },
-  (
-    record { walked = refl; counted = refl; translated = refl; imaged = tt; keeps = tt; breaks = tt },
-    (
-      record { walked = refl; counted = refl; translated = refl; imaged = (refl, tt); keeps = tt; breaks = tt },
-      (
-        record { walked = refl; counted = refl; translated = refl; imaged = tt; keeps = (kept-by (p4 .rule) _ _ _ refl (omega arith) refl, tt); breaks = (broken-by (p4 .rule) _ _ _ refl (omega arith) refl, tt) },
-        (
-          record { walked = refl; counted = refl; translated = refl; imaged = tt; keeps = (kept-by (p5 .rule) _ _ _ refl (omega arith) refl, tt); breaks = (broken-by (p5 .rule) _ _ _ refl (omega arith) refl, tt) },
-          (
-            record { walked = refl; counted = refl; translated = refl; imaged = tt; keeps = (kept-by (p6 .rule) _ _ _ refl (omega arith) refl, tt); breaks = (broken-by (p6 .rule) _ _ _ refl (omega arith) refl, tt) },
-            (
-              record { walked = refl; counted = refl; translated = refl; imaged = tt; keeps = (kept-by (p7 .rule) _ _ _ refl (omega arith) refl, tt); breaks = (broken-by (p7 .rule) _ _ _ refl (omega arith) refl, tt) },
-              (
-                record { walked = refl; counted = refl; translated = refl; imaged = tt; keeps = (kept-by (p8 .rule) _ _ _ refl (omega arith) refl, (kept-by (p8 .rule) _ _ _ refl (omega arith) refl, tt)); breaks = (broken-by (p8 .rule) _ _ _ refl (omega arith) refl, tt) },
-                (
-                  record { walked = refl; counted = refl; translated = refl; imaged = tt; keeps = tt; breaks = tt },
-                  tt,
-                ),
-              ),
-            ),
-          ),
-        ),
-      ),
-    ),
-  ),
-)
+rows row m = record {
+  walked = same-each _ _ table walks row m;
+  counted = same-each _ _ table counts row m;
+  translated = translated;
+  imaged = same-each _ _ (row .images) (same-each _ _ table images row m);
+  judges = λ c n work enough.
+      let fit = same-each _ _ (row .cases) (same-each _ _ table fits row m) c n in
+      ap (λ (j : Judgement). j .answer) (image-judged (row .rule) (c .stem) (c .cycle) (row .automaton) translated work fit enough)
+      ∙ ap accepted (same-each _ _ (row .cases) (same-each _ _ table verdicts row m) c n);
+}
+  where
+    translated : translation (row .rule) ≡ accepted (row .automaton)
+    translated = same-each _ _ table translations row m

@@ -1,41 +1,74 @@
--- Deciding a lasso by a rule: translate, write and judge in a row, for every input.
+-- Deciding a lasso by a rule, translate, write and judge in a row: answer, place and every lent byte, for every input;
+-- and what such an answer is to say (demand 3).
 use Prim.Native.Nat.{ℕ}
 use mathlib.Core.Path.{_≡_}
-use mathlib.Core.Logic.{_↔_}
-use mathlib.Core.List.{List}
+use mathlib.Core.List.{List, _++_}
 use mathlib.Core.Bool.{_&&_}
-use lib.ListN.{length}
+use lib.ListN.{length, drop}
 use lib.Dec.{leb}
-use Rattle.formula.specs.Result.{accepted, refused, andThen, Check, require}
+use Rattle.formula.specs.Result.{Result, accepted, refused, andThen, Check, require}
+use Rattle.formula.specs.Rule
 use Rattle.formula.specs.Lasso.{Satisfies}
+use Rattle.automaton.specs.Automaton.{Automaton}
 use Rattle.automaton.specs.Degeneralized.{translation}
-use Rattle.judge.specs.declared.Judged.{Judged}
-use Rattle.judge.specs.declared.Judged.the-variants.{Kept, Broken, Refused}
-use Rattle.judge.specs.Judge.{lassoCheck}
+use Rattle.automaton.specs.Records.{stateRecords, transitionRecords, initialRecords}
+use Rattle.automaton.specs.Translate.{zeros, filled}
+use Rattle.image.specs.Image.{imageBytes}
+use Rattle.judge.specs.Judge.{Verdict, Exactly, lassoCheck, verdict}
 
--- "25 .. a lent table is shorter than 96 states, 12,288 transitions, 96 initial, or an image buffer under 49,746 bytes
--- for writing, or 12,288 working bytes for judging": 4, 4 and 2 bytes a record
+-- 25: one of the three tables, the image's buffer or the working bytes is too short for its call
 unfoldable pub roomCheck : (states transitions initial image work : List ℕ) → Check
 roomCheck states transitions initial image work =
     require (leb 384 (length states) && (leb 49152 (length transitions) && (leb 192 (length initial) && (leb 49746 (length image) && leb 12288 (length work))))) 25 0
 
--- 25; then the rule's refusal by 1 to 7 or 20 to 24; then the lasso's by 8 and 9. "a rule is accepted if none of the
--- numbers by which translate refuses a rule applies to it, 25 aside"
+-- what is refused before anything is stored: 25, the rule's 1 to 7, the lasso's 8 and 9
+unfoldable pub inputCheck : (rule stem cycle states transitions initial image work : List ℕ) → Check
+inputCheck rule stem cycle states transitions initial image work =
+    andThen (roomCheck states transitions initial image work) (λ _. andThen (Rule.checked rule) (λ _. lassoCheck stem cycle))
+
+-- an answer, and the five lent buffers afterwards
+pub record Decision : Type 0 where
+  pub answer : Result Verdict
+  pub states : List ℕ
+  pub transitions : List ℕ
+  pub initial : List ℕ
+  pub image : List ℕ
+  pub work : List ℕ
+
+abbrev pub decision : Result Verdict → (states transitions initial image work : List ℕ) → Decision
+decision answer s t i image work =
+    record { answer = answer; states = s; transitions = t; initial = i; image = image; work = work }
+
+-- Each buffer as the last call that stores in it leaves it: the automaton in the tables, its image at the start of the
+-- buffer, the working bytes zero. After 20 to 24 the tables are zero, and the rest is as it was.
+abbrev pub concluded : Result Automaton → (stem cycle states transitions initial image work : List ℕ) → Decision
+concluded (accepted a) stem cycle s t i image work =
+    decision (accepted (verdict a stem cycle)) (filled s (stateRecords a)) (filled t (transitionRecords a)) (filled i (initialRecords a)) (imageBytes a ++ drop (length (imageBytes a)) image) (zeros work)
+concluded (refused number place) stem cycle s t i image work =
+    decision (refused number place) (zeros s) (zeros t) (zeros i) image work
+
+-- a refusal of the input leaves every byte as it was
+abbrev pub decidedBy : Check → Decision → (states transitions initial image work : List ℕ) → Decision
+decidedBy (accepted u) rest s t i image work = rest
+decidedBy (refused number place) rest s t i image work = decision (refused number place) s t i image work
+
+unfoldable pub decided : (rule stem cycle states transitions initial image work : List ℕ) → Decision
+decided rule stem cycle s t i image work =
+    decidedBy (inputCheck rule stem cycle s t i image work) (concluded (translation rule) stem cycle s t i image work) s t i image work
+
+-- ---- what the answer says
+
+-- every refusal in its order: 25, 1 to 7, 8 and 9, then the rule's 20 to 24
 unfoldable pub decidable : (rule stem cycle states transitions initial image work : List ℕ) → Check
-decidable rule stem cycle states transitions initial image work =
-    andThen (roomCheck states transitions initial image work) (λ _. andThen (translation rule) (λ _. lassoCheck stem cycle))
+decidable rule stem cycle s t i image work =
+    andThen (inputCheck rule stem cycle s t i image work) (λ _. andThen (translation rule) (λ _. accepted tt))
 
--- "kept" exactly where P holds, and "broken" exactly where it does not
-abbrev pub Exactly : Judged → Type 0 → Type 0
-Exactly r P = ((r ≡ Kept) ↔ P) × ((r ≡ Broken) ↔ (P → ⊥))
-
--- a refusal's number and place; where there is none, the verdict
-abbrev pub Answers : Judged → Check → Type 0 → Type 0
+-- the first refusal where there is one, else kept exactly where P holds and broken exactly where it does not
+abbrev pub Answers : Result Verdict → Check → Type 0 → Type 0
 Answers r (accepted _) P = Exactly r P
-Answers r (refused number place) P = r ≡ Refused number place
+Answers r (refused number place) P = r ≡ refused number place
 
--- "for plans of 128 slots or fewer judging the image says "kept" exactly when the plan keeps the rule and "broken"
--- exactly when it does not"
-unfoldable pub Decides : Judged → (rule stem cycle states transitions initial image work : List ℕ) → Type 0
-Decides r rule stem cycle states transitions initial image work =
-    Answers r (decidable rule stem cycle states transitions initial image work) (Satisfies rule stem cycle)
+-- demand 3 of one answer: P is that the lasso satisfies the rule
+abbrev pub Decides : Result Verdict → (rule stem cycle states transitions initial image work : List ℕ) → Type 0
+Decides r rule stem cycle s t i image work =
+    Answers r (decidable rule stem cycle s t i image work) (Satisfies rule stem cycle)

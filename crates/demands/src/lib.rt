@@ -5,16 +5,21 @@ use automaton::TABLE_TOO_SHORT;
 use automaton::TRANSITIONS_BYTES;
 use automaton::Translated;
 use automaton::translate;
+use formula::Checked;
 use image::IMAGE_BYTES;
 use image::Written;
 use image::write;
 use judge::Judged;
 use judge::WORK_BYTES;
+use judge::check_lasso;
 use judge::judge;
 ghost use mathlib.Core.Path.{_≡_};
 ghost use mathlib.Core.Bool.{_&&_};
 ghost use lib.Dec.{leb};
-ghost use Rattle.demands.specs.Demand.{Decides};
+ghost use Rattle.formula.specs.Result.{fine};
+ghost use Rattle.automaton.specs.Degeneralized.{translation};
+ghost use Rattle.judge.specs.Judge.{judgeAnswer};
+ghost use Rattle.demands.specs.Demand.{inputCheck, decision, concluded, decided};
 
 // Whether lent tables, an image's buffer and working bytes of these lengths are long enough.
 fn room_fits(states: usize, transitions: usize, initial: usize, image: usize, work: usize) -> bool
@@ -35,7 +40,31 @@ fn room_fits(states: usize, transitions: usize, initial: usize, image: usize, wo
     WORK_BYTES <= work
 }
 
-// Whether the lasso satisfies the rule: the rule's automaton, its image, and the verdict of judging that image.
+// translate, write and judge in a row, where 25, 1 to 7, 8 and 9 refuse nothing.
+fn decide_checked(
+    rule: &[u8],
+    stem: &[u8],
+    cycle: &[u8],
+    states: &mut [u8],
+    transitions: &mut [u8],
+    initial: &mut [u8],
+    image: &mut [u8],
+    work: &mut [u8],
+) -> Judged
+    requires { ⌜ inputCheck (now rule) (now stem) (now cycle) (now states) (now transitions) (now initial) (now image) (now work) ≡ fine ⌝ }
+    ensures { λ r. ⌜ decision (judgeAnswer r) (now (states .exit)) (now (transitions .exit)) (now (initial .exit)) (now (image .exit)) (now (work .exit)) ≡ concluded (translation (now (rule .entry))) (now (stem .entry)) (now (cycle .entry)) (now (states .entry)) (now (transitions .entry)) (now (initial .entry)) (now (image .entry)) (now (work .entry)) ⌝ }
+{
+    match translate(rule, states, transitions, initial) {
+        Translated::Refused(number, place) => Judged::Refused(number, place),
+        Translated::Accepted(n, m, k) => match write(states, n, transitions, m, initial, k, image) {
+            Written::Refused(number, place) => Judged::Refused(number, place),
+            Written::Length(length) => judge(&image[..length], stem, cycle, work),
+        },
+    }
+}
+
+// Whether the lasso satisfies the rule: the rule's automaton, its image, and the verdict of judging that image. What is
+// known of the input alone, 25, 1 to 7, 8 and 9, is refused before anything is stored.
 pub fn decide(
     rule: &[u8],
     stem: &[u8],
@@ -46,22 +75,25 @@ pub fn decide(
     image: &mut [u8],
     work: &mut [u8],
 ) -> Judged
-    ensures { λ r. ⌜ Decides r (now (rule .entry)) (now (stem .entry)) (now (cycle .entry)) (now (states .entry)) (now (transitions .entry)) (now (initial .entry)) (now (image .entry)) (now (work .entry)) ⌝ }
+    ensures { λ r. ⌜ decision (judgeAnswer r) (now (states .exit)) (now (transitions .exit)) (now (initial .exit)) (now (image .exit)) (now (work .exit)) ≡ decided (now (rule .entry)) (now (stem .entry)) (now (cycle .entry)) (now (states .entry)) (now (transitions .entry)) (now (initial .entry)) (now (image .entry)) (now (work .entry)) ⌝ }
 {
-    if !room_fits(
+    let fits = room_fits(
         states.len(),
         transitions.len(),
         initial.len(),
         image.len(),
         work.len(),
-    ) {
+    );
+    if !fits {
         return Judged::Refused(TABLE_TOO_SHORT, 0);
     }
-    match translate(rule, states, transitions, initial) {
-        Translated::Refused(number, place) => Judged::Refused(number, place),
-        Translated::Accepted(n, m, k) => match write(states, n, transitions, m, initial, k, image) {
-            Written::Refused(number, place) => Judged::Refused(number, place),
-            Written::Length(length) => judge(&image[..length], stem, cycle, work),
-        },
+    let bytes = formula::check(rule);
+    if let Checked::Refused(number, place) = bytes {
+        return Judged::Refused(number, place);
     }
+    let lasso = check_lasso(stem, cycle);
+    if let Checked::Refused(number, place) = lasso {
+        return Judged::Refused(number, place);
+    }
+    decide_checked(rule, stem, cycle, states, transitions, initial, image, work)
 }

@@ -1,4 +1,5 @@
 -- What the proofs of several functions, and of the crates above, cite.
+pub mod Results
 pub mod Operands
 pub mod Lowest
 pub mod Checks

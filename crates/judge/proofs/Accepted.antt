@@ -37,7 +37,7 @@ module _ (c : Counts) (s t i : List ℕ) (checked : recordsCheck c s t i ≡ fin
       go zero e = ltb-true _ _ (require-fine _ 13 0 e)
       go (suc k) e = ltb-true _ _ (and-eq-true-iff _ _ .0 (require-fine _ 13 (suc k) e) .0)
 
-readable : {image : List ℕ} {a : Automaton} → Read image a → Readable image
+pub readable : {image : List ℕ} {a : Automaton} → Read image a → Readable image
 readable {image} read =
     let contents = contents-fine image (read .contents) in
     record {

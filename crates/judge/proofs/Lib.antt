@@ -16,3 +16,4 @@ pub mod Reached
 pub mod HasAcceptingPass
 pub mod Accepted
 pub mod Answers
+pub mod VerdictIff

@@ -1,5 +1,7 @@
 -- The call judge: answer, place and the working bytes, for every input (01, Judging; Numbers that come from the input).
 use Prim.Native.Nat.{ℕ, _+_}
+use mathlib.Core.Path.{_≡_}
+use mathlib.Core.Logic.{_↔_}
 use mathlib.Core.List.{List}
 use mathlib.Core.Bool.{true, false}
 use lib.ListN.{length, replicate}
@@ -14,6 +16,10 @@ use Rattle.judge.specs.Search.{hasAcceptingPass}
 pub data Verdict : Type 0 where
   kept : Verdict
   broken : Verdict
+
+-- an answer says kept exactly where P holds, and broken exactly where it does not
+abbrev pub Exactly : Result Verdict → Type 0 → Type 0
+Exactly r P = ((r ≡ accepted kept) ↔ P) × ((r ≡ accepted broken) ↔ (P → ⊥))
 
 -- what an answer says in document 01's numbers and values
 abbrev pub judgeAnswer : Judged → Result Verdict

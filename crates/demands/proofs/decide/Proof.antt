@@ -1,11 +1,9 @@
--- `demands::decide` meets its contract: `translate` stores the tables of the rule's automaton, `write` makes its image of them, and `judge` says of that image what the rule says.
--- Assumes nothing.
+-- `demands::decide` meets its contract: 25, 1 to 7, 8 and 9 in turn, each with every buffer as it was, then what
+-- `decide_checked` stores and says. Assumes nothing.
+use mathlib.Core.Path.{sym, ap, _∙_}
+use Rattle.formula.specs.Rule.{answer}
+use Rattle.demands.proofs.Deciding.{short-refused, bytes-refused, lasso-refused, input-fine, concludes}
 use borrow.Author.Needs.{needs}
-use mathlib.Core.Path.{sym, ap}
-use lib.Seq.{length-take-le}
-use Rattle.automaton.specs.Translate.{answer}
-use Rattle.image.specs.Calls.{writeAnswer}
-use Rattle.demands.proofs.Deciding.{short-refused, rule-refused, write-refused, image-inside, judged}
 use Rattle.demands.proofs.decide.Statement.{statement}
 use Rattle.demands.proofs.decide.Tie as tie
 
@@ -15,38 +13,46 @@ room-fits-requires c κs = search needs
 returns : tie.Need-returns
 returns c = short-refused _ _ _ _ _ _ _ _ (c .before .room-fits .ensures) (c .if1 .taken)
 
-translate-requires : tie.Need-translate-requires
-translate-requires c κs = search needs
+check-requires : tie.Need-check-requires
+check-requires c κs = search needs
 
-enum-known-number : tie.Need-enum-known-number
-enum-known-number c = search needs
+enum-known-bytes : tie.Need-enum-known-bytes
+enum-known-bytes c = search needs
 
-enum-known-n : tie.Need-enum-known-n
-enum-known-n c = search needs
+returns-2 : tie.Need-returns-2
+returns-2 c =
+    let checked = c .before .before .before in
+    let tested = checked .before in
+    bytes-refused _ _ _ _ _ _ _ _ (tested .before .room-fits .ensures) (tested .if1 .left) (sym (ap answer (c .before .bytes .given .1)) ∙ checked .check .ensures)
 
-write-requires : tie.Need-write-requires
-write-requires c κs = search needs
+enum-told : tie.Need-enum-told
+enum-told c = search needs
 
-enum-known-number-2 : tie.Need-enum-known-number-2
-enum-known-number-2 c = search needs
+check-lasso-requires : tie.Need-check-lasso-requires
+check-lasso-requires c κs = search needs
 
-enum-known-length : tie.Need-enum-known-length
-enum-known-length c = search needs
+enum-known-lasso : tie.Need-enum-known-lasso
+enum-known-lasso c = search needs
 
-slice-reshare-prefix-judge : tie.Need-slice-reshare-prefix-judge
-slice-reshare-prefix-judge c =
-    let stored = c .before .before .before .before .before in
-    let matched = stored .before .before .before .before .before .before in
-    let called = matched .before .before .before .before .before .before .before .before in
-    let tested = called .before .before .before .before in
-    let a = tested .before .before .before .before .before .before .before .before .before .before .args in
-    image-inside (a .rule .now) (a .stem .now) (a .cycle .now) (a .states .now) (a .transitions .now) (a .initial .now) (a .image .now) (a .work .now) (tested .before .room-fits .ensures) (tested .if1 .left) _ _ _ (called .translate .ensures) _ (ap answer (matched .n .given .1)) _ (stored .write .ensures) _ (ap writeAnswer (c .before .length .given .1))
+returns-3 : tie.Need-returns-3
+returns-3 c =
+    let lasso = c .before .before .before in
+    let checked = lasso .before .before .before in
+    let tested = checked .before in
+    let bytes = sym (ap answer (lasso .before .enum-told .given .1)) ∙ checked .check .ensures in
+    lasso-refused _ _ _ _ _ _ _ _ (tested .before .room-fits .ensures) (tested .if1 .left) bytes (sym (ap answer (c .before .lasso .given .1)) ∙ lasso .check-lasso .ensures)
 
-slice-aggregate-judge : tie.Need-slice-aggregate-judge
-slice-aggregate-judge c = sym (length-take-le _ _ (slice-reshare-prefix-judge (c .before)))
+enum-told-2 : tie.Need-enum-told-2
+enum-told-2 c = search needs
 
-judge-requires : tie.Need-judge-requires
-judge-requires c κs = search needs
+decide-checked-requires : tie.Need-decide-checked-requires
+decide-checked-requires c κs =
+    let told = c .before .before .before .before .before in
+    let lasso = told .before .before in
+    let checked = lasso .before .before .before in
+    let tested = checked .before in
+    let bytes = sym (ap answer (lasso .before .enum-told .given .1)) ∙ checked .check .ensures in
+    input-fine _ _ _ _ _ _ _ _ (tested .before .room-fits .ensures) (tested .if1 .left) bytes (sym (ap answer (told .enum-told2 .given .1)) ∙ lasso .check-lasso .ensures)
 
 same-length : tie.Need-same-length
 same-length c = search needs
@@ -57,54 +63,21 @@ same-length-2 c = search needs
 same-length-3 : tie.Need-same-length-3
 same-length-3 c = search needs
 
-returns-2 : tie.Need-returns-2
-returns-2 c =
-    let called = c .before .before .before .before .before .before .before .before .before in
-    let tested = called .before .before .before .before in
-    rule-refused _ _ _ _ _ _ _ _ (tested .before .room-fits .ensures) (tested .if1 .left) _ _ _ (called .translate .ensures) (ap answer (c .before .number .given .1))
-
 same-length-4 : tie.Need-same-length-4
 same-length-4 c = search needs
 
 same-length-5 : tie.Need-same-length-5
 same-length-5 c = search needs
 
-same-length-6 : tie.Need-same-length-6
-same-length-6 c = search needs
-
-same-length-7 : tie.Need-same-length-7
-same-length-7 c = search needs
-
-returns-3 : tie.Need-returns-3
-returns-3 c =
-    let stored = c .before .before .before .before .before in
-    let matched = stored .before .before .before .before .before .before in
-    let called = matched .before .before .before .before .before .before .before .before in
-    let tested = called .before .before .before .before in
-    write-refused _ _ _ _ _ _ _ _ (tested .before .room-fits .ensures) (tested .if1 .left) _ _ _ (called .translate .ensures) _ (ap answer (matched .n .given .1)) _ (stored .write .ensures) (ap writeAnswer (c .before .number2 .given .1))
-
-same-length-8 : tie.Need-same-length-8
-same-length-8 c = search needs
-
-same-length-9 : tie.Need-same-length-9
-same-length-9 c = search needs
-
-same-length-10 : tie.Need-same-length-10
-same-length-10 c = search needs
-
-same-length-11 : tie.Need-same-length-11
-same-length-11 c = search needs
-
-same-length-12 : tie.Need-same-length-12
-same-length-12 c = search needs
-
 returns-4 : tie.Need-returns-4
 returns-4 c =
-    let stored = c .before .before .before .before .before .before .before .before .before .before in
-    let matched = stored .before .before .before .before .before .before in
-    let called = matched .before .before .before .before .before .before .before .before in
-    let tested = called .before .before .before .before in
-    judged _ _ _ _ _ _ _ _ (tested .before .room-fits .ensures) (tested .if1 .left) _ _ _ (called .translate .ensures) _ (ap answer (matched .n .given .1)) _ (stored .write .ensures) _ (ap writeAnswer (c .before .before .before .before .before .before .length .given .1)) (c .before .before .judge .result) (c .before .before .judge .ensures .0)
+    let done = c .before .before .before .before .before .before .before .before .before .before in
+    let told = done .before .before .before .before .before .before in
+    let lasso = told .before .before in
+    let checked = lasso .before .before .before in
+    let tested = checked .before in
+    let bytes = sym (ap answer (lasso .before .enum-told .given .1)) ∙ checked .check .ensures in
+    concludes _ _ _ _ _ _ _ _ (tested .before .room-fits .ensures) (tested .if1 .left) bytes (sym (ap answer (told .enum-told2 .given .1)) ∙ lasso .check-lasso .ensures) (done .decide-checked .ensures)
 
 pub decide-spec : {M : Type 1} → statement M
 decide-spec =
@@ -112,27 +85,18 @@ decide-spec =
     (tie.spec
     room-fits-requires
     returns
-    translate-requires
-    enum-known-number
-    enum-known-n
-    write-requires
-    enum-known-number-2
-    enum-known-length
-    slice-reshare-prefix-judge
-    slice-aggregate-judge
-    judge-requires
+    check-requires
+    enum-known-bytes
+    returns-2
+    enum-told
+    check-lasso-requires
+    enum-known-lasso
+    returns-3
+    enum-told-2
+    decide-checked-requires
     same-length
     same-length-2
     same-length-3
-    returns-2
     same-length-4
     same-length-5
-    same-length-6
-    same-length-7
-    returns-3
-    same-length-8
-    same-length-9
-    same-length-10
-    same-length-11
-    same-length-12
     returns-4)

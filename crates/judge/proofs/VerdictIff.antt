@@ -1,0 +1,57 @@
+-- What a verdict says: kept exactly where the automaton has an accepting pass on the lasso, broken exactly where it has
+-- none; and so of every image that is judged. Assumes nothing.
+use Prim.Native.Nat.{ℕ, _<_}
+use mathlib.Core.Path.{_≡_, refl, sym, _∙_, subst}
+use mathlib.Core.Logic.{_↔_}
+use mathlib.Core.List.{List}
+use mathlib.Core.Bool.{Bool, true, false, false≢true}
+use native.Mathlib.Omega.{arith}
+use lib.ListN.{length}
+use Rattle.formula.specs.Result.{accepted}
+use Rattle.formula.proofs.Results.{then-accepted}
+use Rattle.automaton.specs.Automaton.{Automaton, AcceptingPass}
+use Rattle.image.specs.Reader.{readImage}
+use Rattle.image.proofs.Contents.{read-of}
+use Rattle.judge.specs.Search.{hasAcceptingPass}
+use Rattle.judge.specs.Judge.{kept, broken, Exactly, workCheck, lassoCheck, judgeable, verdict, judged}
+use Rattle.judge.proofs.Points.{InRange}
+use Rattle.judge.proofs.HasAcceptingPass.{has-accepting-pass-iff}
+use Rattle.judge.proofs.Accepted.{readable, readable-in-range}
+use Rattle.judge.proofs.Answers.{lasso-some}
+
+one-verdict : accepted kept ≡ accepted broken → ⊥
+one-verdict e =
+    let z : _≡_ {A = ℕ} 0 1 = cc in
+    omega arith
+
+-- the automaton that is read from an image has its targets and initial numbers among its states
+pub image-in-range : (image : List ℕ) (a : Automaton) → readImage image ≡ accepted a → InRange a
+image-in-range image a e =
+    let read = read-of image a e in
+    subst InRange (sym (read .automaton)) (readable-in-range image (readable read))
+
+-- kept exactly where P holds, if that is where there is an accepting pass
+pub verdict-exactly : (a : Automaton) (stem cycle : List ℕ) → InRange a → 0 < length cycle → {P : Type 0} → AcceptingPass a stem cycle ↔ P → Exactly (accepted (verdict a stem cycle)) P
+unfolding verdict
+verdict-exactly a stem cycle range pos {P} iff = go (hasAcceptingPass a stem cycle) refl
+  where
+    shown : hasAcceptingPass a stem cycle ≡ true ↔ AcceptingPass a stem cycle
+    shown = has-accepting-pass-iff a range stem cycle pos
+
+    go : (b : Bool) → hasAcceptingPass a stem cycle ≡ b → Exactly (accepted (elim b [ true ↦ kept | false ↦ broken ])) P
+    go true e =
+        let p : P = iff .0 (shown .0 e) in
+        ((λ _. p, λ _. refl), (λ w. absurd (one-verdict w), λ no. absurd (no p)))
+    go false e =
+        let none : P → ⊥ = λ p. false≢true (sym e ∙ shown .1 (iff .1 p)) in
+        ((λ w. absurd (one-verdict (sym w)), λ p. absurd (none p)), (λ _. none, λ _. refl))
+
+-- of every image: where 25, 10 to 13, 8 and 9 refuse nothing, the answer is about the automaton that was read
+pub judged-exactly : (image stem cycle work : List ℕ) (a : Automaton) → judgeable image stem cycle work ≡ accepted a → Exactly (judged image stem cycle work .answer) (AcceptingPass a stem cycle)
+unfolding judgeable judged
+judged-exactly image stem cycle work a e =
+    let (_, _, after-work) = then-accepted (workCheck work) _ e in
+    let (b, read, after-image) = then-accepted (readImage image) _ after-work in
+    let (_, fits, same) = then-accepted (lassoCheck stem cycle) _ after-image in
+    let is : readImage image ≡ accepted a = read ∙ same in
+    rw e (verdict-exactly a stem cycle (image-in-range image a is) (lasso-some stem cycle (sym fits)) (λ h. h, λ h. h))
