@@ -29,7 +29,7 @@ pub record Row (rule items counts : List ℕ) (k : ℕ) : Type 0 where
 abbrev pub Rows : (rule items counts : List ℕ) (n : ℕ) → Type 0
 Rows rule items counts n = (k : ℕ) → k < n → Row rule items counts k
 
--- a partial product as one value, a count with 128 places
+-- the value that holds a partial product: 128 places and how many of them are used
 abbrev pub IsMany : Many → List ℕ → Type 0
 IsMany ts ws = Carries 128 (ts .items) (ts .count) ws
 
