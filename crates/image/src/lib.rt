@@ -389,7 +389,7 @@ fn write_contents(image: &mut [u8], states: usize, transitions: usize, initial: 
     write_entry(&mut image[12..], 3, initial, initial_at);
 }
 
-// The contents first, then each body in the part of the buffer that begins where it lies; the image's length.
+// The contents, then each body, for which the buffer is lent from the body's offset on; the image's length.
 fn write_image(
     states: &[u8],
     state_count: usize,
