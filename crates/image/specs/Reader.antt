@@ -23,7 +23,7 @@ countsAt image = record { states = numberAt image 2; transitions = numberAt imag
 unfoldable pub countsFit : Counts → Bool
 countsFit c = leb (c .states) 96 && (leb (c .transitions) 12288 && leb (c .initial) 96)
 
--- 10, at place 0: an image too short for a table of contents, one whose contents have other kinds than 1, 2, 3,
+-- 10, at place 0: an image too short for the 18 bytes of contents, one whose contents have other kinds than 1, 2, 3,
 -- counts that do not fit or offsets that are not where the bodies begin, or one that does not end with its last body
 -- (01, Numbers that come from the input, 10)
 unfoldable pub contentsCheck : List ℕ → Check
@@ -41,8 +41,8 @@ unfoldable pub countSum : List ℕ → ℕ → ℕ
 countSum states zero = 0
 countSum states (suc n) = countSum states n + numberAt states (4 * n)
 
--- 11, at the place behind the last state: the states together count more or fewer transitions than the contents do
--- (01, Numbers that come from the input, 11)
+-- 11, at the place behind the last state: the states' transition counts have another sum than the count of all
+-- transitions (01, Numbers that come from the input, 11)
 abbrev pub sumCheck : Counts → List ℕ → Check
 sumCheck c states = require (eqb (countSum states (c .states)) (c .transitions)) 11 (c .states)
 

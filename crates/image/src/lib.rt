@@ -227,7 +227,7 @@ fn kinds_fit(image: &[u8]) -> bool
     number_at(image, 12) == 3
 }
 
-// The offsets of the three entries against 10: bodies without gaps.
+// The offsets of the three entries against 10: each body begins where the one before ends.
 fn offsets_fit(image: &[u8], transitions_at: usize, initial_at: usize) -> bool
     requires { ⌜ 18 ≤ length (now image) ⌝ }
     ensures { λ r. ⌜ r ≡ (eqb (numberAt (now (image .entry)) 4) 18 && (eqb (numberAt (now (image .entry)) 10) «transitions_at» && eqb (numberAt (now (image .entry)) 16) «initial_at»)) ⌝ }
