@@ -4,9 +4,9 @@
 test:
 	@tests/run
 
-# Builds what there is and shows it on an example.
+# Proves and builds what there is, crate by crate, and shows it on an example.
 run:
-	@rt check | tail -n 1
+	@tests/prove
 	@tests/example
 
 # The C functions against the second translator for as long as is asked: make soak SECONDS=600 SEED=7

@@ -1,4 +1,4 @@
-/* Rules of linear time logic, their automata, and the judging of plans: see docs/FORMAT.md for the bytes.
+/* Rules of linear temporal logic, their automata, and the judging of lassos (plans): see docs/FORMAT.md for the bytes.
  *
  * Every call takes byte slices as a pointer and a length, allocates nothing, and is proved to give the answer and
  * leave every lent byte as documented, for every input. A slice of length 0 still wants a pointer that is not null.
@@ -20,7 +20,7 @@ extern "C" {
 #define ZIMBORALO_IMAGE_BYTES 49746
 #define ZIMBORALO_WORK_BYTES 12288
 
-/* The longest rule in bytes, and the most letters (slots) of a plan. */
+/* The longest rule in bytes, and the most letters of a lasso, stem and cycle together. */
 #define ZIMBORALO_RULE_BYTES 96
 #define ZIMBORALO_LETTERS 128
 
@@ -30,14 +30,14 @@ enum zimboralo_number {
     ZIMBORALO_RULE_TOO_LONG = 1,       /* over 96 bytes */
     ZIMBORALO_RULE_LENGTH = 2,         /* empty, or no multiple of 3 */
     ZIMBORALO_UNKNOWN_KIND = 3,        /* place: the node */
-    ZIMBORALO_BAD_BYTE = 4,            /* a mark above 7, or an unused byte not 0; place: the node */
+    ZIMBORALO_BAD_BYTE = 4,            /* no such proposition, or an unused byte is not 0; place: the node */
     ZIMBORALO_CHILD_NOT_BELOW = 5,     /* place: the node */
-    ZIMBORALO_BAD_PARENTS = 6,         /* no parent, or a child at two places; place: the lowest node */
+    ZIMBORALO_BAD_PARENTS = 6,         /* no parent, or an operator that is used twice; place: the lowest node */
     ZIMBORALO_TOO_MANY_UNTILS = 7,     /* over 8 */
-    ZIMBORALO_EMPTY_CYCLE = 8,         /* the plan's loop has no slot */
-    ZIMBORALO_PLAN_TOO_LONG = 9,       /* stem and loop over 128 slots */
+    ZIMBORALO_EMPTY_CYCLE = 8,         /* of the lasso */
+    ZIMBORALO_PLAN_TOO_LONG = 9,       /* over 128 letters in stem and cycle */
     ZIMBORALO_BAD_CONTENTS = 10,       /* of an image, or counts above their limits */
-    ZIMBORALO_BAD_STATE = 11,          /* place: the state record, or their number if the counts don't add up */
+    ZIMBORALO_BAD_STATE = 11,          /* place: the state; how many there are, if their counts have a wrong sum */
     ZIMBORALO_BAD_TRANSITION = 12,     /* place: the transition record */
     ZIMBORALO_BAD_INITIAL = 13,        /* place: the initial number */
     ZIMBORALO_TOO_MANY_TERMS = 20,     /* place: the lowest node */
@@ -61,7 +61,7 @@ uint64_t zimboralo_write(const uint8_t *states, size_t states_len, size_t state_
 uint64_t zimboralo_read(const uint8_t *image, size_t image_len, uint8_t *states, size_t states_len,
                         uint8_t *transitions, size_t transitions_len, uint8_t *initial, size_t initial_len);
 
-/* A plan, stem and cycle (its loop), against an image. The verdict, or a refusal. */
+/* A lasso, stem and cycle, against an image. The verdict, or a refusal. */
 uint64_t zimboralo_judge(const uint8_t *image, size_t image_len, const uint8_t *stem, size_t stem_len,
                          const uint8_t *cycle, size_t cycle_len, uint8_t *work, size_t work_len);
 
@@ -74,7 +74,7 @@ static inline unsigned zimboralo_states(uint64_t answer) { return (unsigned)(ans
 static inline unsigned zimboralo_transitions(uint64_t answer) { return (unsigned)(answer >> 16 & 0xffff); }
 static inline unsigned zimboralo_initial(uint64_t answer) { return (unsigned)(answer >> 32 & 0xff); }
 
-/* Of an accepted write: the image's length. Of an accepted judge: whether the plan keeps the rule. */
+/* Of an accepted write: the image's length. Of an accepted judge: whether the lasso is kept. */
 static inline size_t zimboralo_length(uint64_t answer) { return (size_t)(answer >> 8 & 0xffffffff); }
 static inline int zimboralo_kept(uint64_t answer) { return (int)(answer >> 8 & 1); }
 

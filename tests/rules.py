@@ -30,7 +30,7 @@ class Builder:
 
 
 def choices(count):
-    """The "and" of (proposition i or next proposition 0) for i below count: 2 ** count terms."""
+    """For each i below count, proposition i now or proposition 0 next, all at once: 2 ** count terms."""
     b = Builder()
     leaves = [b.add(PROPOSITION, i) for i in range(count)]
     b.joined(AND, [b.add(OR, leaf, b.add(NEXT, leaves[0])) for leaf in leaves])
@@ -38,7 +38,7 @@ def choices(count):
 
 
 def next_eventually(count, more=None):
-    """Next-eventually propositions 0 to count - 1, leaves shared, and what more adds, all joined by and."""
+    """Each of count propositions at some letter from letter 1 on, in one conjunction with what more adds."""
     b = Builder()
     true = b.add(TRUE)
     leaves = [b.add(PROPOSITION, i) for i in range(count)]
@@ -56,7 +56,7 @@ def always_either(b, leaves):
 
 
 def eventually_and_next_next():
-    """Eventually propositions 0 to 4 and next next proposition 5."""
+    """Each of propositions 0 to 4 at some letter, and proposition 5 at letter 2."""
     b = Builder()
     true = b.add(TRUE)
     parts = [b.add(UNTIL, true, b.add(PROPOSITION, i)) for i in range(5)]
@@ -121,7 +121,7 @@ def damaged(rng, rule):
 
 
 def crowded(rng):
-    """An "and" of five to seven ors, about 64 terms, below a few random operators: about as often over 64 as not."""
+    """A conjunction of five to seven ors, about 64 terms, below a few random operators: about as often over 64 as not."""
     b = Builder()
     leaves = [b.add(rng.choice((PROPOSITION, NEGATION)), p) for p in range(rng.randrange(6, 8))]
     parts = []

@@ -1,8 +1,8 @@
-/* The office program: a rule and a plan, from bytes to the verdict in words.
+/* The office program: a rule and a lasso, from bytes to the verdict in words.
  *
  *     office RULE STEM CYCLE       each in hexadecimal, or @FILE for a file's bytes; - for none
  *
- * Exits 0 for a kept plan, 1 for a broken one, 2 for a refusal or bad words. */
+ * Exits 0 for a kept lasso, 1 for a broken one, 2 for a refusal or bad words. */
 #include <ctype.h>
 #include <stdio.h>
 #include <stdlib.h>

@@ -31,11 +31,13 @@ abbrev pub In : {A : Type 0} → A → List A → Type 0
 In x [] = ⊥
 In x (y ∷ ys) = (x ≡ y) ⊎ In x ys
 
--- "it reads the slots that have all marks of must and none of not"
+-- whether a transition can be taken at a letter: the letter has every proposition of must and none of mustNot (01,
+-- First walk and second walk, sentence 6)
 abbrev pub reads : Transition → (letter : ℕ) → Bool
 reads t a = eqb (bitOr (t .must) a) a && eqb (bitAnd (t .mustNot) a) 0
 
--- "At each slot it takes a transition of its state that reads the slot, and it stands in the target at the next slot."
+-- a step of a run from state q at letter a: some transition of q can be taken there, and next is where it leads (01,
+-- Judging, sentence 2)
 abbrev pub Step : Automaton → (state letter next : ℕ) → Type 0
 Step automaton q a next =
     (t : Transition) × In t (getD (automaton .states) q noState .transitions) × (reads t a ≡ true) × (next ≡ t .target)
@@ -44,10 +46,10 @@ Step automaton q a next =
 abbrev pub Accepts : Automaton → ℕ → Type 0
 Accepts automaton q = getD (automaton .states) q noState .accepting ≡ true
 
--- "A run, of any length, begins in an initial state at slot 0 of the plan. With s slots in the stem and n in the loop,
--- laps begin at slots s, s + n, s + 2n and on. There is an accepting lap if some run stands in the same state at the
--- beginnings of two laps, and in an accepting state at one or more of the slots from the first beginning to the
--- second, both included." A lap is here a pass.
+-- an accepting pass (document 01: lap): a run, `at i` being its state when letter i comes, that starts in an initial
+-- state, is in one and the same state when passes `first` and `second` through the cycle begin, and between these two
+-- letters, or at one of them, is in an accepting state. Pass k begins behind the stem and k cycles (01, Judging,
+-- sentences 1, 3 and 4)
 pub record AcceptingPass (automaton : Automaton) (stem cycle : List ℕ) : Type 0 where
   pub at : ℕ → ℕ
   pub first : ℕ

@@ -1,4 +1,4 @@
--- The second walk: the automaton of a rule (document 01, "First walk and second walk").
+-- The second walk: the automaton of a rule (01, First walk and second walk).
 use Prim.Native.Nat.{ℕ, zero, suc, _-_}
 use mathlib.Core.List.{List, [], _∷_, _++_, map}
 use mathlib.Core.Bool.{Bool, true, false, cond, _&&_}
@@ -13,16 +13,18 @@ use Rattle.generalized.specs.Generalized.{transitions, generalized}
 use Rattle.acceptance.specs.Acceptance.{untilCount, fulfilsNext}
 use Rattle.automaton.specs.Automaton.{State, Automaton}
 
--- "the largest i ≥ j such that the transition is good for untils j+1 to i", where left are the untils after j
+-- the level reached from j: one higher for each of the next untils that t fulfils, up to the first that it does not;
+-- left untils come after j (01, First walk and second walk, sentence 13)
 unfoldable pub climb : List ℕ → (left j : ℕ) → Term → ℕ
 climb rule zero j t = j
 climb rule (suc left) j t = elim (fulfilsNext rule j t) [ true ↦ climb rule left (suc j) t | false ↦ j ]
 
--- "From level j below r, the new level is the largest i ≥ j ..; from level r, count the same from 0."
+-- the level after t: reached from j, or from 0 if j is the last, r (01, First walk and second walk, sentence 13)
 unfoldable pub nextLevel : List ℕ → (j : ℕ) → Term → ℕ
 nextLevel rule j t = cond (ltb j (untilCount rule)) (climb rule (untilCount rule - j) j t) (climb rule (untilCount rule) 0 t)
 
--- "states are pairs (state, level), level 0 to r"; state is a number of the first walk
+-- a state of the second walk: the number of a state of the first, and a level, which is at most r (01, First walk and
+-- second walk, sentence 11)
 pub record Pair : Type 0 where
   pub state : ℕ
   pub level : ℕ
@@ -38,7 +40,8 @@ unfoldable pub numbers : ℕ → List ℕ
 numbers zero = []
 numbers (suc n) = numbers n ++ (n ∷ [])
 
--- "Initial pairs are the initial states at level 0."
+-- the numbers of the initial states, the same in both walks: as many as the root's cover has sets; the second walk
+-- begins with them at level 0 (01, First walk and second walk, sentence 12)
 unfoldable pub initialNumbers : List ℕ → List ℕ
 initialNumbers rule = numbers (length (cover (formula rule)))
 
@@ -50,12 +53,14 @@ module _ (rule states : List ℕ) where
   unfoldable pub target : Pair → Term → Pair
   target x t = pair (find eqb (t .obligations) states) (nextLevel rule (x .level) t)
 
-  -- "Numbering and order are as in the first walk. At most 96 pairs.": "24: the 97th pair; place the pair being walked."
+  -- the pairs by number, as the first walk would number them; one more than 96 is refused by 24, at the pair that is
+  -- walked (01, First walk and second walk, sentences 14 and 16; Numbers that come from the state, 24)
   unfoldable pub degeneralized : Result (List Pair)
   degeneralized =
       explore samePair 96 24 (λ _ _. fine) (pair 0 0) (λ x. map (target x) (pairTransitions x)) (λ _ _. fine) 96 0 0 (map (λ i. pair i 0) (initialNumbers rule))
 
-  -- "Accepting: level r."
+  -- a pair as a state of the automaton: it accepts at the last level, and has the transitions of the first walk, each
+  -- to its target's number (01, First walk and second walk, sentences 14 and 15)
   unfoldable pub stateOf : List Pair → Pair → State
   stateOf pairs x = record {
     accepting = eqb (x .level) (untilCount rule);

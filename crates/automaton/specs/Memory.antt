@@ -1,5 +1,5 @@
--- How the second walk lies in memory: a pair as one number, the first walk's transitions by state, and what the walk and
--- the records come to over these.
+-- How the second walk lies in memory: a pair as one number, the first walk's transitions by state, and what the walk
+-- and the records come to over these.
 use Prim.Native.Nat.{ℕ, zero, suc, _+_, _-_, _*_, _/_, _%_, _<_, _≤_}
 use mathlib.Core.Path.{_≡_}
 use mathlib.Core.List.{List, [], _∷_, _++_, map}

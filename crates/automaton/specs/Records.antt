@@ -1,4 +1,4 @@
--- The records of an automaton as bytes: in the caller's tables and in the image alike (document 01, "The image").
+-- The records of an automaton as bytes: in the caller's tables and in the image alike (01, The image).
 use Prim.Native.Nat.{ℕ, _/_, _%_}
 use mathlib.Core.List.{List, [], _∷_, _++_}
 use mathlib.Core.Bool.{cond}
@@ -10,25 +10,28 @@ unfoldable pub records : {A : Type 0} → (A → List ℕ) → List A → List �
 records bytesOf [] = []
 records bytesOf (x ∷ xs) = bytesOf x ++ records bytesOf xs
 
--- "Numbers are 16-bit, low byte first"
+-- a number in two bytes, the low one before the high one (01, The image, sentence 2)
 unfoldable pub twoBytes : ℕ → List ℕ
 twoBytes n = n % 256 ∷ (n / 256 ∷ [])
 
--- "State: transition count, accepting byte 0 or 1, byte 0."
+-- a state, in 4 bytes: how many transitions it has, then 1 if it accepts and 0 if not, then a zero (01, The image,
+-- sentence 5)
 unfoldable pub stateRecord : State → List ℕ
 stateRecord s = twoBytes (length (s .transitions)) ++ (cond (s .accepting) 1 0 ∷ (0 ∷ []))
 
--- "must byte, not byte, target"
+-- a transition, in 4 bytes: its propositions, must before mustNot, then the number of its target (01, The image,
+-- sentence 6)
 unfoldable pub transitionRecord : Transition → List ℕ
 transitionRecord t = t .must ∷ (t .mustNot ∷ twoBytes (t .target))
 
 unfoldable pub stateRecords : Automaton → List ℕ
 stateRecords a = records stateRecord (a .states)
 
--- "Transitions, grouped by state"
+-- the transitions of the first state, then those of the next, and so on (01, The image, sentence 6)
 unfoldable pub transitionRecords : Automaton → List ℕ
 transitionRecords a = records (λ s. records transitionRecord (s .transitions)) (a .states)
 
--- "Initial: state numbers, rising."
+-- the numbers of the initial states, in the automaton's own order; a translation's, and that of an image that is
+-- read, rises (01, The image, sentence 7)
 unfoldable pub initialRecords : Automaton → List ℕ
 initialRecords a = records twoBytes (a .initial)

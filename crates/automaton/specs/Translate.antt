@@ -12,7 +12,8 @@ use Rattle.automaton.specs.Automaton.{State, Automaton}
 use Rattle.automaton.specs.Degeneralized.{translation}
 use Rattle.automaton.specs.Records.{stateRecords, transitionRecords, initialRecords}
 
--- "On acceptance translating and reading give the three counts"
+-- how many states, transitions and initial states there are: the answer of an accepted translate or read (01, Numbers
+-- that come from the state, last paragraph, sentence 2)
 pub record Counts : Type 0 where
   pub states : ℕ
   pub transitions : ℕ
@@ -40,16 +41,18 @@ pub record Outcome : Type 0 where
 abbrev pub outcome : Result Counts → (states transitions initial : List ℕ) → Outcome
 outcome a s t i = record { answer = a; states = s; transitions = t; initial = i }
 
--- "a lent table is shorter than 96 states, 12,288 transitions, 96 initial": 4, 4 and 2 bytes a record
+-- 25, at place 0: a table has no room for 96 records of 4 bytes (states), 12,288 of 4 (transitions) or 96 of 2
+-- (initial) (01, Numbers that come from the state, 25)
 unfoldable pub tableCheck : (states transitions initial : List ℕ) → Check
 tableCheck states transitions initial =
     require (leb (384) (length states) && (leb 49152 (length transitions) && leb 192 (length initial))) 25 0
 
--- "After 20 to 24 every lent table is all zero."
+-- a table as 20 to 24 leave it: nothing but zeros (01, Numbers that come from the state, last paragraph, sentence 1)
 abbrev pub zeros : List ℕ → List ℕ
 zeros table = replicate (length table) 0
 
--- "Unused places .. are then zero."
+-- a table as acceptance leaves it: these bytes, and zeros behind them to its end (01, Numbers that come from the
+-- state, last paragraph, sentence 3)
 abbrev pub filled : (table bytes : List ℕ) → List ℕ
 filled table bytes = bytes ++ replicate (length table - length bytes) 0
 
@@ -64,6 +67,6 @@ abbrev pub unless : Check → Outcome → (states transitions initial : List ℕ
 unless (accepted u) rest s t i = rest
 unless (refused number place) rest s t i = outcome (refused number place) s t i
 
--- "25, before all others, untouched"; then 1 to 7, "Lent bytes are untouched."; then 20 to 24, or acceptance
+-- 25, then 1 to 7, each leaving the tables as they were; then 20 to 24, or acceptance, with the tables as above
 unfoldable pub translated : (rule states transitions initial : List ℕ) → Outcome
 translated rule s t i = unless (andThen (tableCheck s t i) (λ _. Rule.checked rule)) (stored (translation rule) s t i) s t i

@@ -18,10 +18,9 @@ use Rattle.formula.proofs.Results.{then-accepted}
 use Rattle.correctness.proofs.Numbering.{pass-iff-endless}
 use Rattle.correctness.proofs.Walks.{Listed, listed-represent, automatonOf, numbering}
 
--- The demand: "for any accepted rule and any plan, however long, whose loop has a slot, the watcher has an accepting
--- lap on the plan exactly when the plan keeps the rule". A rule is accepted if its translation is ("none of the numbers
--- by which translate refuses a rule applies to it, 25 aside"), and its watcher is then the automaton a; a plan is a
--- stem and a cycle (its loop), a slot is a letter; a lap is a pass; to keep a rule is to satisfy it.
+-- The demand on the translation: on a lasso of any length whose cycle is not empty, the automaton a of an accepted
+-- rule has an accepting pass if and only if the lasso satisfies the rule. A rule is accepted if it has a translation:
+-- none of 1 to 7 and 20 to 24 refuses it (01, Numbers that come from the input, last sentence).
 pub accepting-pass-iff-satisfied : (rule stem cycle : List ℕ) (a : Automaton) → translation rule ≡ accepted a → 0 < length cycle
     → AcceptingPass a stem cycle ↔ Satisfies rule stem cycle
 unfolding translation Satisfies

@@ -101,6 +101,6 @@ in-range-to rule zero n lt inside nodes = absurd (omega arith)
 in-range-to rule (suc bound) n lt inside nodes =
     in-range-step rule n inside (nodes n (omega arith)) (λ k l. in-range-to rule bound k (omega arith) (omega arith) (λ j le. nodes j (omega arith)))
 
--- "mark 0..7": every tree of a rule whose nodes are as 3 to 5 want them
+-- the tree of node n has propositions 0 to 7 alone, if 3 to 5 let all nodes up to n pass
 pub tree-in-range : (rule : List ℕ) (n : ℕ) → n < nodeCount rule → ((k : ℕ) → k ≤ n → Node rule k) → InRange (tree rule n)
 tree-in-range rule n inside nodes = in-range-to rule (suc n) n (omega arith) inside nodes

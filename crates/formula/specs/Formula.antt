@@ -4,7 +4,8 @@ use mathlib.Core.List.{List, [], _∷_, _++_}
 use lib.ListN.{getD, length}
 use Rattle.formula.specs.Rule.{root}
 
--- kinds 0 to 8: false, true, mark, negated mark, and, or, next, until, release. A mark is here a proposition.
+-- the kinds 0 to 8 of a node, in this order; a proposition is document 01's mark (01, Rules and when a plan keeps one,
+-- the table of kinds)
 pub data Formula : Type 0 where
   bottom top : Formula
   proposition negation : (node p : ℕ) → Formula
@@ -24,7 +25,8 @@ build (suc (suc (suc (suc (suc (suc zero)))))) n left a b = next n a
 build (suc (suc (suc (suc (suc (suc (suc zero))))))) n left a b = until n a b
 build (suc (suc (suc (suc (suc (suc (suc (suc kind)))))))) n left a b = release n a b
 
--- the trees of all nodes, from those below and the bytes of the rest: a child is looked up among the trees below its parent
+-- the trees of all nodes, from those below and the bytes of the rest: a child is looked up among the trees below its
+-- parent
 unfoldable pub trees : List Formula → List ℕ → List Formula
 trees below [] = below
 trees below (kind ∷ []) = below
@@ -40,7 +42,7 @@ tree rule n = getD (trees [] rule) n bottom
 unfoldable pub formula : List ℕ → Formula
 formula rule = tree rule (root rule)
 
--- the propositions of a formula are those of "mark 0..7"
+-- every proposition of a formula is one of 0 to 7
 unfoldable pub InRange : Formula → Type 0
 InRange bottom = Unit {0}
 InRange top = Unit {0}

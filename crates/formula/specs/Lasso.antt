@@ -1,5 +1,5 @@
 -- When a formula holds, and when a lasso satisfies a rule. A lasso is document 01's plan: a stem, and a cycle (its
--- loop) taken round and round. A letter is its slot: one byte, in which bit p is proposition (mark) p.
+-- loop) that is repeated for ever. A letter is its slot: one byte, in which bit p is proposition (mark) p.
 use Prim.Native.Nat.{ℕ, suc, _-_, _/_, _%_, _^_, _≤_, _<_}
 use mathlib.Core.Path.{_≡_}
 use mathlib.Core.List.{List}
@@ -9,15 +9,17 @@ use lib.ListN.{getD, length}
 use lib.Dec.{ltb}
 use Rattle.formula.specs.Formula.{Formula, bottom, top, proposition, negation, conjunction, disjunction, next, until, release, formula}
 
--- "Slot i of a plan is taken from the stem, then from the loop round and round."
+-- letter i of the word: the stem's as far as it reaches, and behind it the cycle's, again and again (01, Rules and
+-- when a plan keeps one, sentence 8)
 unfoldable pub letter : (stem cycle : List ℕ) → ℕ → ℕ
 letter stem cycle i =
     cond (ltb i (length stem)) (getD stem i 0) (getD cycle ((i - length stem) % length cycle) 0)
 
--- "Mark m is bit m of a slot. False holds nowhere, true everywhere. A mark holds at i if its bit is set in slot i, a
--- negated mark if that bit is clear. An "and" holds at i if both children do, an "or" if at least one does. Next a
--- holds at i if a holds at i+1. a until b holds at i if some k ≥ i has b, and a holds at each j with i ≤ j < k. a
--- release b holds at i if, for each k ≥ i, b holds at k or a holds at some j with i ≤ j < k."
+-- whether a formula holds at letter i of a word: a proposition where its bit is 1, a negation where it is 0, next
+-- where its operand holds one letter on, constants and connectives as usual. An until needs its right side at some
+-- letter from i on, and its left side at all from i to just before that one. A release needs its right side at every
+-- letter from i on, save those behind a letter, itself from i on, that has its left side (01, Rules and when a plan
+-- keeps one, sentences 7 and 9 to 14)
 abbrev pub Holds : (word : ℕ → ℕ) → Formula → ℕ → Type 0
 Holds word bottom i = ⊥
 Holds word top i = Unit {0}
@@ -30,6 +32,7 @@ Holds word (until n a b) i = (k : ℕ) × (i ≤ k) × Holds word b k × ((j : �
 Holds word (release n a b) i =
     (k : ℕ) → i ≤ k → (Holds word b k ⊎ ((j : ℕ) × (i ≤ j) × (j < k) × Holds word a j))
 
--- "A plan keeps a rule if the root holds at slot 0."
+-- a lasso satisfies a rule (document 01: keeps it): the rule's formula holds at letter 0 (01, Rules and when a plan
+-- keeps one, sentence 15)
 unfoldable pub Satisfies : (rule stem cycle : List ℕ) → Type 0
 Satisfies rule stem cycle = Holds (letter stem cycle) (formula rule) 0

@@ -2,7 +2,7 @@
 use Prim.Native.Nat.{ℕ, zero, suc}
 use mathlib.Core.Bool.{Bool, true, false}
 
--- "A refusal gives its number and a place."
+-- an answer: a value, or a refusal with its number and its place (01, Numbers that come from the input, sentence 1)
 pub data Result (A : Type 0) : Type 0 where
   accepted : A → Result A
   refused : (number place : ℕ) → Result A
@@ -24,7 +24,7 @@ abbrev pub require : Bool → (number place : ℕ) → Check
 require true number place = fine
 require false number place = refused number place
 
--- "place the lowest": the refusal of the lowest of 0 to n - 1 that is refused
+-- the checks of 0 to n - 1 in turn: fine, or the refusal of the lowest that is refused
 unfoldable pub lowest : (ℕ → Check) → ℕ → Check
 lowest check zero = fine
 lowest check (suc n) = andThen (lowest check n) (λ _. check n)

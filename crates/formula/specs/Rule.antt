@@ -1,4 +1,4 @@
--- The bytes of a rule, and refusals 1 to 7. Here "rule" is the byte string, and a formula is what it encodes.
+-- The bytes of a rule, and refusals 1 to 7. A rule is here the byte string, and a formula is what it encodes.
 use Prim.Native.Nat.{ℕ, zero, suc, _+_, _-_, _*_, _/_, _%_}
 use mathlib.Core.Bool.{Bool, true, cond, not, _&&_}
 use mathlib.Core.List.{List, [], _∷_, _++_}
@@ -10,10 +10,12 @@ use Rattle.formula.specs.declared.Checked.{Checked}
 use Rattle.formula.specs.declared.Checked.the-variants.{Accepted, Refused}
 use Rattle.formula.specs.Result.{refused, andThen, Check, fine, require, lowest}
 
--- "A rule is 1 to 32 nodes of three bytes: kind, left, right. Nodes are numbered from 0."
+-- how many nodes a rule has: every three bytes are one (01, Rules and when a plan keeps one, sentence 1)
 abbrev pub nodeCount : List ℕ → ℕ
 nodeCount rule = length rule / 3
 
+-- the bytes of node n, the first node being 0: its kind, then its two operands (01, Rules and when a plan keeps one,
+-- sentences 1 and 2)
 abbrev pub kindAt : List ℕ → ℕ → ℕ
 kindAt rule n = getD rule (n * 3) 0
 
@@ -23,36 +25,39 @@ leftAt rule n = getD rule (n * 3 + 1) 0
 abbrev pub rightAt : List ℕ → ℕ → ℕ
 rightAt rule n = getD rule (n * 3 + 2) 0
 
--- "The last is the root."
+-- the root: the node with the highest number (01, Rules and when a plan keeps one, sentence 3)
 abbrev pub root : List ℕ → ℕ
 root rule = nodeCount rule - 1
 
--- the table's columns left and right, by kind: 0 (`Unused`), mark 0..7 (`Proposition`) or node (`Child`)
+-- what the left and the right byte of a node are, by its kind: unused and so 0, a proposition (document 01: mark) or a
+-- child (01, Rules and when a plan keeps one, the table of kinds)
 unfoldable pub leftOperand : ℕ → Operand
 leftOperand kind = cond (ltb kind 2) Unused (cond (ltb kind 4) Proposition Child)
 
 unfoldable pub rightOperand : ℕ → Operand
 rightOperand kind = cond (ltb kind 4) Unused (cond (eqb kind 6) Unused Child)
 
--- "1: rule over 96 bytes. 2: rule empty or not a multiple of 3. Place 0."
+-- 1: a rule longer than 96 bytes; 2: one with no bytes, or whose bytes do not come in threes; both at place 0 (01,
+-- Numbers that come from the input, 1 and 2)
 unfoldable pub lengthCheck : List ℕ → Check
 lengthCheck rule =
     andThen (require (leb (length rule) 96) 1 0) (λ _. require (ltb 0 (length rule) && eqb (length rule % 3) 0) 2 0)
 
--- not "mark above 7, or an unused byte not 0"
+-- whether 4 lets a byte pass: it is 0 where it is unused, and at most 7 as a proposition (01, Numbers that come from
+-- the input, 4)
 abbrev pub byteFits : Operand → ℕ → Bool
 byteFits Unused byte = eqb byte 0
 byteFits Proposition byte = leb byte 7
 byteFits Child byte = true
 
--- not "child not below its parent"
+-- whether 5 lets a byte pass: a child has a lower number than its parent (01, Numbers that come from the input, 5)
 abbrev pub childFits : Operand → (byte parent : ℕ) → Bool
 childFits Unused byte parent = true
 childFits Proposition byte parent = true
 childFits Child byte parent = ltb byte parent
 
--- "3 unknown kind; 4 mark above 7, or an unused byte not 0; 5 child not below its parent. In that order node by
--- node; place the node."
+-- node n against 3, a kind that is none of 0 to 8, then against 4, then against 5; the place is n (01, Numbers that
+-- come from the input, 3 to 5)
 unfoldable pub nodeCheck : List ℕ → ℕ → Check
 nodeCheck rule n =
     andThen (require (leb (kindAt rule n) 8) 3 n)
@@ -71,21 +76,23 @@ places rule zero k = 0
 places rule (suc n) k =
     places rule n k + isChild (leftOperand (kindAt rule n)) (leftAt rule n) k + isChild (rightOperand (kindAt rule n)) (rightAt rule n) k
 
--- "6: a node, not the root, without a parent, or one above kind 3 that is a child at two places; place the lowest."
+-- 6, at place k: node k is nobody's child although it is not the root, or it is an operator (kind 4 or above) and a
+-- child more than once (01, Numbers that come from the input, 6)
 unfoldable pub placeCheck : List ℕ → ℕ → Check
 placeCheck rule k =
     require (not (not (eqb k (root rule)) && eqb (places rule (nodeCount rule) k) 0) && not (ltb 3 (kindAt rule k) && leb 2 (places rule (nodeCount rule) k))) 6 k
 
--- the until nodes among the first n, by rising node
+-- those of the first n nodes that are untils, from the lowest up
 unfoldable pub untils : List ℕ → ℕ → List ℕ
 untils rule zero = []
 untils rule (suc n) = untils rule n ++ cond (eqb (kindAt rule n) 7) (n ∷ []) []
 
--- "7: over 8 untils; place 0."
+-- 7, at place 0: there are nine untils or more (01, Numbers that come from the input, 7)
 unfoldable pub untilCheck : List ℕ → Check
 untilCheck rule = require (leb (length (untils rule (nodeCount rule))) 8) 7 0
 
--- numbers 1 to 7, in their order
+-- 1 to 7 in their order, where 3 to 5 are one pass over the nodes and 6 another; a pass stops at the lowest node that
+-- it refuses
 unfoldable pub checked : List ℕ → Check
 checked rule =
     andThen (lengthCheck rule)

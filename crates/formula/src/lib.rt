@@ -23,7 +23,7 @@ pub const BAD_PLACES: u8 = 6;
 
 pub const TOO_MANY_UNTILS: u8 = 7;
 
-// A rule has at most 96 bytes, so at most 32 nodes, and at most 8 of them are until.
+// The most bytes of a rule, and so the most nodes, and the most untils among them.
 pub const MAX_BYTES: usize = 96;
 
 pub const MAX_NODES: usize = 32;

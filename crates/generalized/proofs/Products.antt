@@ -37,7 +37,7 @@ partial-packed rule state zero ranges = owing-numbers (0 ∷ [])
 partial-packed rule state (suc n) ranges =
     times-packed (has state n) (partial-packed rule state n (λ k lt. ranges k (omega arith))) (terms-numbers (tree rule n) (ranges n (omega arith)))
 
--- "21 partial product over 128" for the obligations up to n
+-- 21 for the product over the obligations up to n
 abbrev partialCheck : List ℕ → (state place : ℕ) → ℕ → Check
 partialCheck rule state place n = require (leb (length (partialProduct rule state (suc n))) 128) 21 place
 

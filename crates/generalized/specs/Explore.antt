@@ -12,7 +12,8 @@ module _ {A : Type 0} (same : A → A → Bool) where
   find x [] = 0
   find x (y ∷ ys) = elim (same x y) [ true ↦ 0 | false ↦ suc (find x ys) ]
 
-  -- "An unseen target takes the next number." At most limit are numbered; one more is the refusal full
+  -- xs when x is met: the same if x is among them, else with x behind them; where limit are numbered already, a new
+  -- one is refused by full (01, First walk and second walk, sentences 7, 8 and 16)
   unfoldable pub meet : (limit full place : ℕ) → A → List A → Result (List A)
   meet limit full place x xs =
       elim (ltb (find x xs) (length xs)) [ true ↦ accepted xs | false ↦ elim (ltb (length xs) limit) [ true ↦ accepted (xs ++ (x ∷ [])) | false ↦ refused full place ] ]
@@ -27,7 +28,8 @@ module _ {A : Type 0} (same : A → A → Bool) where
 
     -- before: what is asked of a state as it is taken. `none` is no state.
     module _ (none : A) (targets : A → List A) (before : ℕ → A → Check) where
-      -- "States are taken in that order.": those from place on, with count transitions before them
+      -- the walk over the states from place on, by number, those that it meets on its way too; count transitions lie
+      -- before it (01, First walk and second walk, sentence 3)
       unfoldable pub explore : (fuel place count : ℕ) → List A → Result (List A)
       explore zero place count xs = accepted xs
       explore (suc fuel) place count xs =

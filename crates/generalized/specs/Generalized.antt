@@ -1,5 +1,5 @@
--- The first walk: the generalized automaton of a rule (document 01, "First walk and second walk"). Its states are
--- obligation sets, its transitions terms.
+-- The first walk: the generalized automaton of a rule (01, First walk and second walk). Its states are obligation
+-- sets, its transitions terms.
 use Prim.Native.Nat.{ℕ, zero, suc}
 use mathlib.Core.List.{List, [], _∷_, map}
 use mathlib.Core.Bool.{Bool, true, false, not, _&&_, _||_}
@@ -17,30 +17,35 @@ abbrev pub times : Bool → List Term → List Term → List Term
 times true ts us = product ts us
 times false ts us = ts
 
--- "A state's terms are the product over its duties in rising order, begun with (0, 0, empty)": those duties below n
+-- the product of the terms of a state's obligations, as far as these are below n: from the term that asks and owes
+-- nothing, one obligation after another, the lowest first (01, First walk and second walk, sentence 4)
 unfoldable pub partialProduct : List ℕ → (state n : ℕ) → List Term
 partialProduct rule state zero = term 0 0 0 ∷ []
 partialProduct rule state (suc n) = times (has state n) (partialProduct rule state n) (terms (tree rule n))
 
--- "They are sorted by duties, then must, then not. Each is a transition": a state's transitions, as they are listed
+-- a state's transitions: the product over all its obligations, in the order of terms (01, First walk and second walk,
+-- sentences 5 and 6)
 unfoldable pub transitions : List ℕ → ℕ → List Term
 transitions rule state = partialProduct rule state (nodeCount rule)
 
--- "each partial product has at most 128 terms": "21 partial product over 128"
+-- 21, at the state that is walked: its product, or a partial one on the way, has more than 128 terms (01, First walk
+-- and second walk, sentence 4; Numbers that come from the state, 21)
 unfoldable pub productCheck : List ℕ → (place state : ℕ) → Check
 productCheck rule place state =
     lowest (λ n. require (leb (length (partialProduct rule state (suc n))) 128) 21 place) (nodeCount rule)
 
--- "22 the 1,025th transition"
+-- 22, at the state that is walked: a transition that has 1,024 before it (01, Numbers that come from the state, 22)
 abbrev pub transitionCheck : (place count : ℕ) → Check
 transitionCheck place count = require (ltb count 1024) 22 place
 
--- "Each is a transition to the state of its duties"
+-- where a state's transitions lead: a transition's target is its obligations (01, First walk and second walk,
+-- sentence 6)
 unfoldable pub targets : List ℕ → ℕ → List ℕ
 targets rule state = map (λ t. t .obligations) (transitions rule state)
 
--- "The root's cover, rising as numbers, gives states 0, 1 and on."; "At most 1,024 transitions and 128 states.";
--- "23 the 129th state: the first one met in the first walk, and 22 before 23 for one transition."
+-- the states by number: the sets of the root's cover, then those that the walk meets. It ends at its first refusal:
+-- 21 as a state is taken, 22 at a transition, then 23 if the target would be one state more than 128 (01, First walk
+-- and second walk, sentences 1 to 3, 7 and 8; Numbers that come from the state, 21 to 23)
 unfoldable pub generalized : List ℕ → Result (List ℕ)
 generalized rule =
     explore eqb 128 23 transitionCheck 0 (targets rule) (productCheck rule) 128 0 0 (cover (formula rule))
@@ -49,11 +54,13 @@ generalized rule =
 abbrev pub within : ℕ → ℕ → Bool
 within x y = eqb (bitOr x y) y
 
--- "some term of f has its must within must, its not within not, its duties within e, and f not among them"
+-- u, a term of the until f, shows that t fulfils f: part by part u is within t, and u does not owe f again (01, First
+-- walk and second walk, sentence 10)
 unfoldable pub shows : (f : ℕ) (t u : Term) → Bool
 shows f t u =
     within (u .must) (t .must) && (within (u .mustNot) (t .mustNot) && (within (u .obligations) (t .obligations) && not (has (u .obligations) f)))
 
--- "Transition (must, not, e) is good for until f if f is not in e, or if some term of f ..": t fulfils f
+-- whether t fulfils the until f (document 01: is good for it): t does not owe f, or a term of f shows that it does
+-- fulfil it (01, First walk and second walk, sentence 10)
 unfoldable pub fulfils : List ℕ → (f : ℕ) → Term → Bool
 fulfils rule f t = not (has (t .obligations) f) || any (shows f t) (terms (tree rule f))

@@ -29,7 +29,7 @@ pub record Row (rule items counts : List ℕ) (k : ℕ) : Type 0 where
 abbrev pub Rows : (rule items counts : List ℕ) (n : ℕ) → Type 0
 Rows rule items counts n = (k : ℕ) → k < n → Row rule items counts k
 
--- a partial product as one value, a count with 128 places
+-- the value that holds a partial product: 128 places and how many of them are used
 abbrev pub IsMany : Many → List ℕ → Type 0
 IsMany ts ws = Carries 128 (ts .items) (ts .count) ws
 
@@ -38,7 +38,7 @@ abbrev pub timesN : Bool → List ℕ → List ℕ → List ℕ
 timesN true ts us = insertProductN ts us []
 timesN false ts us = ts
 
--- the transitions of a state, where every partial product has at most 128 terms; else a count above that
+-- a state's transitions, unless a partial product is over 128 terms; then a count above that
 pub record Product (rule : List ℕ) (state : ℕ) (r : Many) : Type 0 where
   pub checked : r .count ≤ 128 → (place : ℕ) → productCheck rule place state ≡ fine
   pub terms : r .count ≤ 128 → IsMany r (map pack (transitions rule state))

@@ -31,16 +31,19 @@ pub record Buffer : Type 0 where
 abbrev pub buffer : Result ℕ → List ℕ → Buffer
 buffer a image = record { answer = a; image = image }
 
--- "25 .. or an image buffer under 49,746 bytes for writing"
+-- 25, at place 0: a buffer too small for the largest image, which has 49,746 bytes (01, Numbers that come from the
+-- state, 25)
 abbrev pub bufferCheck : List ℕ → Check
 bufferCheck image = require (leb 49746 (length image)) 25 0
 
--- "Writing leaves the bytes behind the image as they were."; a refusal leaves all
+-- the buffer with the image at its start, and behind it what was there before; a refusal changes no byte (01, Numbers
+-- that come from the state, last paragraph, sentence 4)
 abbrev pub written : Result Automaton → (image : List ℕ) → Buffer
 written (accepted a) image = buffer (accepted (length (imageBytes a))) (imageBytes a ++ drop (length (imageBytes a)) image)
 written (refused number place) image = buffer (refused number place) image
 
--- 25; "The writer checks its tables by 10 (counts only) to 13."
+-- 25 of the tables and the buffer, then 10 of the counts, then 11 to 13 of the tables (01, Numbers that come from the
+-- input, the sentence on the writer)
 unfoldable pub writes : Counts → (states transitions initial image : List ℕ) → Buffer
 writes c s t i image =
     written (andThen (tableCheck s t i) (λ _. andThen (bufferCheck image) (λ _. andThen (require (countsFit c) 10 0) (λ _. readTables c s t i)))) image

@@ -10,7 +10,7 @@ use Rattle.automaton.specs.Automaton.{Transition, State, Automaton}
 use Rattle.automaton.specs.Translate.{Counts}
 use Rattle.image.specs.Image.{transitionsAt, initialAt, imageLength}
 
--- "Numbers are 16-bit, low byte first": the one at place i
+-- the number in the two bytes from place i on, of which the first is the low one (01, The image, sentence 2)
 abbrev pub numberAt : List ℕ → ℕ → ℕ
 numberAt bytes i = getD bytes i 0 + 256 * getD bytes (i + 1) 0
 
@@ -18,16 +18,20 @@ numberAt bytes i = getD bytes i 0 + 256 * getD bytes (i + 1) 0
 abbrev pub countsAt : List ℕ → Counts
 countsAt image = record { states = numberAt image 2; transitions = numberAt image 8; initial = numberAt image 14 }
 
--- "a count above 96, 12,288 or 96"
+-- whether 10 lets counts pass: there are at most 96 states, 12,288 transitions and 96 initial numbers (01, Numbers
+-- that come from the input, 10)
 unfoldable pub countsFit : Counts → Bool
 countsFit c = leb (c .states) 96 && (leb (c .transitions) 12288 && leb (c .initial) 96)
 
--- "10: image under 18 bytes, wrong kinds, a count above 96, 12,288 or 96, a wrong offset or length. Place 0."
+-- 10, at place 0: an image too short for the 18 bytes of contents, one whose contents have other kinds than 1, 2, 3,
+-- counts that do not fit or offsets that are not where the bodies begin, or one that does not end with its last body
+-- (01, Numbers that come from the input, 10)
 unfoldable pub contentsCheck : List ℕ → Check
 contentsCheck image =
     require (leb 18 (length image) && ((eqb (numberAt image 0) 1 && (eqb (numberAt image 6) 2 && eqb (numberAt image 12) 3)) && (countsFit (countsAt image) && ((eqb (numberAt image 4) 18 && (eqb (numberAt image 10) (transitionsAt (countsAt image)) && eqb (numberAt image 16) (initialAt (countsAt image)))) && eqb (length image) (imageLength (countsAt image)))))) 10 0
 
--- "11: state record with a wrong byte or a count above 128"
+-- 11, at place i: state record i counts more than 128 transitions, has neither 0 nor 1 as its accepting byte, or does
+-- not end in 0 (01, Numbers that come from the input, 11)
 unfoldable pub stateCheck : List ℕ → ℕ → Check
 stateCheck states i =
     require (leb (numberAt states (4 * i)) 128 && (leb (getD states (4 * i + 2) 0) 1 && eqb (getD states (4 * i + 3) 0) 0)) 11 i
@@ -37,22 +41,25 @@ unfoldable pub countSum : List ℕ → ℕ → ℕ
 countSum states zero = 0
 countSum states (suc n) = countSum states n + numberAt states (4 * n)
 
--- "or (place: the number of states) counts that don't add up"
+-- 11, at the place behind the last state: the states' transition counts have another sum than the count of all
+-- transitions (01, Numbers that come from the input, 11)
 abbrev pub sumCheck : Counts → List ℕ → Check
 sumCheck c states = require (eqb (countSum states (c .states)) (c .transitions)) 11 (c .states)
 
--- "12: target not a state, or must and not share a mark."
+-- 12, at place i: transition record i leads to no state, or asks for a proposition that it forbids (01, Numbers that
+-- come from the input, 12)
 unfoldable pub transitionCheck : (stateCount : ℕ) → List ℕ → ℕ → Check
 transitionCheck stateCount transitions i =
     require (ltb (numberAt transitions (4 * i + 2)) stateCount && eqb (bitAnd (getD transitions (4 * i) 0) (getD transitions (4 * i + 1) 0)) 0) 12 i
 
--- "13: initial number out of range or not above the one before."
+-- 13, at place i: initial number i is no state's, or the one before it is as high or higher (01, Numbers that come
+-- from the input, 13)
 unfoldable pub initialCheck : (stateCount : ℕ) → List ℕ → ℕ → Check
 initialCheck stateCount initial zero = require (ltb (numberAt initial 0) stateCount) 13 0
 initialCheck stateCount initial (suc i) =
     require (ltb (numberAt initial (2 * suc i)) stateCount && ltb (numberAt initial (2 * i)) (numberAt initial (2 * suc i))) 13 (suc i)
 
--- 11 to 13 of three tables, "Place the lowest such entry."
+-- 11 to 13 of three tables: one number after another, each at the lowest record that it refuses
 unfoldable pub recordsCheck : Counts → (states transitions initial : List ℕ) → Check
 recordsCheck c states transitions initial =
     andThen (lowest (stateCheck states) (c .states))
@@ -65,7 +72,8 @@ transitionsFrom zero bytes = []
 transitionsFrom (suc n) bytes =
     record { must = getD bytes 0 0; mustNot = getD bytes 1 0; target = numberAt bytes 2 } ∷ transitionsFrom n (drop 4 bytes)
 
--- the first n state records, each with its transitions: "Transitions, grouped by state"
+-- the first n state records, each with its transitions, which lie behind those of the states before it (01, The
+-- image, sentence 6)
 unfoldable pub statesFrom : ℕ → (states transitions : List ℕ) → List State
 statesFrom zero states transitions = []
 statesFrom (suc n) states transitions =

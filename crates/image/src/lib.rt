@@ -227,7 +227,7 @@ fn kinds_fit(image: &[u8]) -> bool
     number_at(image, 12) == 3
 }
 
-// The offsets of the three entries against 10: bodies without gaps.
+// The offsets of the three entries against 10: each body begins where the one before ends.
 fn offsets_fit(image: &[u8], transitions_at: usize, initial_at: usize) -> bool
     requires { ⌜ 18 ≤ length (now image) ⌝ }
     ensures { λ r. ⌜ r ≡ (eqb (numberAt (now (image .entry)) 4) 18 && (eqb (numberAt (now (image .entry)) 10) «transitions_at» && eqb (numberAt (now (image .entry)) 16) «initial_at»)) ⌝ }
@@ -389,7 +389,7 @@ fn write_contents(image: &mut [u8], states: usize, transitions: usize, initial: 
     write_entry(&mut image[12..], 3, initial, initial_at);
 }
 
-// The contents first, then each body in the part of the buffer that begins where it lies; the image's length.
+// The contents, then each body, for which the buffer is lent from the body's offset on; the image's length.
 fn write_image(
     states: &[u8],
     state_count: usize,

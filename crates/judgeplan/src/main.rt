@@ -1,5 +1,5 @@
-// Judges the plan on standard input: an image's length in two bytes, the image, the stem's length in two bytes, the
-// stem, and the rest is the cycle. Lengths have the low byte first.
+// Judges the lasso on standard input, which has an image, the stem and the cycle one after another. Before the image
+// and before the stem stands its length, two bytes with the low one first; the cycle goes to the end.
 use judge::Judged;
 use judge::WORK_BYTES;
 use libc::STDIN_FILENO;

@@ -9,7 +9,8 @@ use lib.Bits.{bitAnd, bitOr}
 
 -- sets of A, rising by less
 module _ {A : Type 0} (less : A → A → Bool) where
-  -- "Equal terms count once."
+  -- the set with x at its place; a member that is there already is not added again (01, Duties, covers and terms,
+  -- sentence 5)
   unfoldable pub insert : A → List A → List A
   insert x [] = x ∷ []
   insert x (y ∷ ys) = cond (less x y) (x ∷ (y ∷ ys)) (cond (less y x) (y ∷ insert x ys) (y ∷ ys))
@@ -21,7 +22,7 @@ module _ {A : Type 0} (less : A → A → Bool) where
 
   -- how two elements are joined, and which joins are kept
   module _ (joined : A → A → A) (consistent : A → Bool) where
-    -- "Joining two terms takes the union of each part; a term whose must and not share a mark is dropped."
+    -- ws with the join of x and y, if that is consistent; else ws alone (01, Duties, covers and terms, sentence 4)
     unfoldable pub insertJoin : A → A → List A → List A
     insertJoin x y ws = cond (consistent (joined x y)) (insert (joined x y) ws) ws
 
@@ -29,7 +30,8 @@ module _ {A : Type 0} (less : A → A → Bool) where
     insertJoins x [] ws = ws
     insertJoins x (y ∷ ys) ws = insertJoin x y (insertJoins x ys ws)
 
-    -- "The product of two lists is all their joins.", here together with ws
+    -- ws with every consistent join of one of xs and one of ys, the product of the two lists (01, Duties, covers and
+    -- terms, sentence 6)
     unfoldable pub insertProduct : (xs ys ws : List A) → List A
     insertProduct [] ys ws = ws
     insertProduct (x ∷ xs) ys ws = insertJoins x ys (insertProduct xs ys ws)

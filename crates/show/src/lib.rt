@@ -28,7 +28,7 @@ pub fn print_refusal(number: u8, place: usize) {
     print(b"\n");
 }
 
-// A hexadecimal digit, A to F as capitals.
+// A hexadecimal digit, a capital above 9.
 fn digit(n: u8) -> u8
     requires { ⌜ n < 16 ⌝ }
 {
@@ -43,7 +43,7 @@ pub fn number_of(low: u8, high: u8) -> usize
     (low as usize) + high * 256
 }
 
-// must and must_not in two hexadecimal digits each, then the target.
+// A transition's line: must and must_not as hexadecimal bytes, and the target.
 fn print_transition(must: u8, must_not: u8, target: usize) {
     let line = [
         digit(must / 16),

@@ -1,4 +1,4 @@
--- How terms lie in memory: each as one number, a node's terms as a count with 64 places.
+-- How terms lie in memory: each as one number, those of a node in 64 places with a count.
 use Prim.Native.Nat.{ℕ, suc, _+_, _*_, _≤_, min}
 use mathlib.Core.Path.{_≡_}
 use mathlib.Core.List.{List, map}
@@ -19,7 +19,8 @@ pub record Carries (capacity : ℕ) (places : List ℕ) (n : ℕ) (ws : List ℕ
   pub count : n ≡ min (suc capacity) (length ws)
   pub items : length ws ≤ capacity → take n places ≡ ws
 
--- "A node's terms travel as one value, a count with 64 places."
+-- the value in which a node's terms, or its cover, are handed on: 64 places and how many of them are used (01,
+-- Duties, covers and terms, sentence 10)
 abbrev pub IsPacked : Terms → List ℕ → Type 0
 IsPacked ts ws = Carries 64 (ts .items) (ts .count) ws
 

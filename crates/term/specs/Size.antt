@@ -11,12 +11,14 @@ use Rattle.formula.specs.Rule
 use Rattle.formula.specs.Formula.{tree}
 use Rattle.term.specs.Term.{cover, terms}
 
--- "20: a node has over 64 terms or cover sets; place the lowest node."
+-- 20, at place n: the terms of node n, or the sets of its cover, are more than 64 (01, Numbers that come from the
+-- state, 20)
 unfoldable pub sizeCheck : List ℕ → ℕ → Check
 sizeCheck rule n =
     require (leb (length (terms (tree rule n))) 64 && leb (length (cover (tree rule n))) 64) 20 n
 
--- "Order: 1 to 7, then 20": "All nodes are looked at before the first walk."
+-- 1 to 7, then 20 at the lowest node that has it; a rule that passes can be walked (01, Numbers that come from the
+-- state, 20, and the order in Numbers that come from the input)
 unfoldable pub checked : List ℕ → Check
 checked rule = andThen (Rule.checked rule) (λ _. lowest (sizeCheck rule) (nodeCount rule))
 

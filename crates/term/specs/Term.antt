@@ -1,5 +1,5 @@
--- Obligations, covers and terms (document 01, "Duties, covers and terms"). A list of them is a set: it rises and has
--- no repeats. An obligation is document 01's duty.
+-- Obligations, covers and terms (01, Duties, covers and terms). A list of sets or terms is a set itself: it rises and
+-- has no repeats. An obligation is document 01's duty: a node that is owed from the next letter on.
 use Prim.Native.Nat.{ℕ, _/_, _%_, _^_}
 use mathlib.Core.Path.{_≡_}
 use mathlib.Core.List.{List, [], _∷_, map}
@@ -9,7 +9,8 @@ use lib.Bits.{bitAnd, bitOr}
 use Rattle.sets.specs.Sets.{union, insertProduct}
 use Rattle.formula.specs.Formula.{Formula, bottom, top, proposition, negation, conjunction, disjunction, next, until, release}
 
--- "A duty set is a 32-bit number with bit n for node n."
+-- whether node n is one of the obligations: a set of nodes is a number, and bit n stands for node n (01, Duties,
+-- covers and terms, sentence 2)
 abbrev pub has : (obligations n : ℕ) → Bool
 has obligations n = eqb (obligations / 2 ^ n % 2) 1
 
@@ -17,7 +18,8 @@ has obligations n = eqb (obligations / 2 ^ n % 2) 1
 pub record Has (d n : ℕ) : Type 0 where
   pub set : d / 2 ^ n % 2 ≡ 1
 
--- "A term is (must, not, duties): two mark bytes and a duty set."
+-- a term: the propositions that a letter must have and those that it must not have, a bit each, and the obligations
+-- that then follow (01, Duties, covers and terms, sentence 3)
 pub record Term : Type 0 where
   pub must : ℕ
   pub mustNot : ℕ
@@ -30,29 +32,32 @@ term must mustNot obligations = record { must = must; mustNot = mustNot; obligat
 abbrev pub lessThen : (x y : ℕ) → Bool → Bool
 lessThen x y rest = cond (ltb x y) true (cond (ltb y x) false rest)
 
--- "sorted by duties, then must, then not"
+-- the order of terms: obligations come first, must decides between equal ones, mustNot last (01, First walk and
+-- second walk, sentence 5)
 abbrev pub less : Term → Term → Bool
 less x y = lessThen (x .obligations) (y .obligations) (lessThen (x .must) (y .must) (ltb (x .mustNot) (y .mustNot)))
 
--- "Joining two terms takes the union of each part;"
+-- the join of two terms: what either of them asks, forbids or owes (01, Duties, covers and terms, sentence 4)
 abbrev pub joined : Term → Term → Term
 joined x y =
     term (bitOr (x .must) (y .must)) (bitOr (x .mustNot) (y .mustNot)) (bitOr (x .obligations) (y .obligations))
 
--- "a term whose must and not share a mark is dropped."
+-- whether no proposition is asked for and forbidden at once; a join that is not so is left out (01, Duties, covers
+-- and terms, sentence 4)
 abbrev pub consistent : Term → Bool
 consistent t = eqb (bitAnd (t .must) (t .mustNot)) 0
 
--- "The product of two lists is all their joins."
+-- every consistent join of a term of ts and a term of us (01, Duties, covers and terms, sentence 6)
 abbrev pub product : List Term → List Term → List Term
 product ts us = insertProduct less joined consistent ts us []
 
--- all unions of one set from each
+-- every union of a set of cs and a set of ds
 abbrev pub unions : List ℕ → List ℕ → List ℕ
 unions cs ds = insertProduct ltb bitOr (λ _. true) cs ds []
 
--- "Cover of a node: false none; true the empty set; a duty the set of itself alone; or, the union of both covers; and,
--- all unions of one set from each."
+-- the cover of a formula: the sets of obligations, any one of which is enough for it. None is for bottom, and for top
+-- nothing need be owed; what can be an obligation owes itself. An or has the sets of either side, an and every union
+-- of a left and a right set (01, Duties, covers and terms, sentence 7)
 unfoldable pub cover : Formula → List ℕ
 cover bottom = []
 cover top = 0 ∷ []
@@ -64,10 +69,10 @@ cover (next n a) = 2 ^ n ∷ []
 cover (until n a b) = 2 ^ n ∷ []
 cover (release n a b) = 2 ^ n ∷ []
 
--- "Terms of a node: false none; true (0, 0, empty); mark m (bit m, 0, empty); negated mark (0, bit m, empty); and, the
--- product; or, the union; next a, one (0, 0, c) per c in the cover of a; a until b, the terms of b together with the
--- terms of a joined to (0, 0, this node); a release b, the product of the terms of b with (the terms of a together
--- with (0, 0, this node))."
+-- the terms of a formula: the ways in which one letter and the obligations behind it make it hold. Constants and
+-- propositions owe nothing; an and joins a left and a right term, an or has those of either side. A next owes a set
+-- of its operand's cover. An until takes its right side, or its left side and owes itself; a release takes its right
+-- side, and with it its left side or owes itself (01, Duties, covers and terms, sentence 8)
 unfoldable pub terms : Formula → List Term
 terms bottom = []
 terms top = term 0 0 0 ∷ []

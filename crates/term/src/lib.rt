@@ -1,5 +1,5 @@
-// Covers and terms of a rule's nodes, found by descending from a node to its children, and refusal 20. A term is
-// packed into one number, so that the order of terms is the order of numbers and a join is one `|`.
+// Covers and terms of a rule's nodes, each by recursion into the node's children, and refusal 20. A term is packed
+// into one number, so that the order of terms is the order of numbers and a join is one `|`.
 use formula::Checked;
 ghost use mathlib.Core.Path.{_≡_};
 ghost use mathlib.Core.List.{List, [], _∷_};
@@ -16,7 +16,7 @@ ghost use Rattle.term.specs.Packed.{IsPacked, IsTerms, IsCover};
 // The number of document 01 by which a rule with too many terms or cover sets is refused.
 pub const TOO_MANY_TERMS: u8 = 20;
 
-// A node has at most 64 terms and at most 64 cover sets.
+// The most terms of a node, and the most sets of its cover, that 20 lets pass.
 pub const MAX_TERMS: usize = 64;
 
 // A packed term: obligations * 65536 + must * 256 + must_not.
