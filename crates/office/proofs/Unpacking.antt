@@ -12,14 +12,15 @@ use Rattle.formula.proofs.Checks.{require-fine}
 use Rattle.automaton.specs.Automaton.{Automaton, AcceptingPass}
 use Rattle.automaton.specs.Degeneralized.{translation}
 use Rattle.automaton.specs.Translate.{Counts, counts, tableCheck, stored, unless, translated}
-use Rattle.image.specs.Image.{imageBytes, imageLength}
+use Rattle.image.specs.Image.{imageLength}
 use Rattle.image.specs.Reader.{countsFit, recordsCheck, automatonFrom, readTables, readImage}
 use Rattle.image.specs.Calls.{countsOf, buffer, bufferCheck, writes, loaded, reads, checks}
 use Rattle.image.proofs.Before.{not-both, follows, passes}
 use Rattle.image.proofs.Tests.{Small, counts-small}
 use Rattle.image.proofs.Contents.{checks-sized}
-use Rattle.image.proofs.Tables.{Bytes, image-back, image-length}
-use Rattle.image.proofs.Answers.{writes-of, long-fine, long-passed}
+use Rattle.image.proofs.Sizes.{image-size}
+use Rattle.image.proofs.Tables.{counts-back}
+use Rattle.image.proofs.Answers.{writes-of}
 use Rattle.judge.specs.declared.Judged.{Judged}
 use Rattle.judge.specs.declared.Judged.the-variants.{Kept, Broken, Refused}
 use Rattle.judge.specs.Judge.{judgeable, Says}
@@ -90,9 +91,9 @@ reads-small image s t i c e = first (tableCheck s t i) e
     first (refused number place) e = not-both e
 
 -- of an accepted write, ZIMBORALO_IMAGE_BYTES
-pub writes-small : (c : Counts) (s t i image : List ℕ) (n : ℕ) → Bytes s → Bytes t → Bytes i → writes c s t i image .answer ≡ accepted n → n ≤ 49746
+pub writes-small : (c : Counts) (s t i image : List ℕ) (n : ℕ) → writes c s t i image .answer ≡ accepted n → n ≤ 49746
 unfolding writes readTables
-writes-small c s t i image n bs bt bi e =
+writes-small c s t i image n e =
     let whole = andThen (tableCheck s t i) (λ _. andThen (bufferCheck image) (λ _. andThen (require (countsFit c) 10 0) (λ _. readTables c s t i))) in
     let done = writes-of whole n image (writes c s t i image .image) (ap (λ (r : Result ℕ). buffer r (writes c s t i image .image)) e) in
     let a = done .automaton in
@@ -101,8 +102,7 @@ writes-small c s t i image n bs bt bi e =
     let counted = follows (require (countsFit c) 10 0) _ a (room .answer) in
     let small = counts-small c (require-fine (countsFit c) 10 0 (counted .passed)) in
     let answer = passes (recordsCheck c s t i) a (automatonFrom c s t i) (sym (counted .answer)) in
-    let passed = long-passed s t i c small (long-fine s t i (tables .passed)) bs bt bi (answer .passed) in
-    let size : n ≡ imageLength c = done .size ∙ ap (λ (a : Automaton). length (imageBytes a)) (answer .same) ∙ ap length (image-back c s t i passed) ∙ image-length c s t i passed in
+    let size : n ≡ imageLength c = done .size ∙ image-size a ∙ ap (λ (a : Automaton). imageLength (counts a)) (answer .same) ∙ ap imageLength (counts-back c s t i (answer .passed)) in
     omega (arith, size, small .states, small .transitions, small .initial)
 
 -- ---- what C reads off
@@ -205,10 +205,9 @@ translate-unpacks rule s t i = counts-unpack (translated rule s t i .answer) (tr
 pub read-unpacks : (image s t i : List ℕ) → Unpacks CountsRead (packCounts (reads image s t i .answer)) (reads image s t i .answer)
 read-unpacks image s t i = counts-unpack (reads image s t i .answer) (reads-proper image s t i) (reads-small image s t i)
 
--- zimboralo_write, of tables that are bytes, as those that C lends are
-pub write-unpacks : (c : Counts) (s t i image : List ℕ) → Bytes s → Bytes t → Bytes i → Unpacks LengthRead (packLength (writes c s t i image .answer)) (writes c s t i image .answer)
-write-unpacks c s t i image bs bt bi =
-    length-unpacks (writes c s t i image .answer) (writes-proper c s t i image) (λ n e. writes-small c s t i image n bs bt bi e)
+-- zimboralo_write
+pub write-unpacks : (c : Counts) (s t i image : List ℕ) → Unpacks LengthRead (packLength (writes c s t i image .answer)) (writes c s t i image .answer)
+write-unpacks c s t i image = length-unpacks (writes c s t i image .answer) (writes-proper c s t i image) (writes-small c s t i image)
 
 -- zimboralo_judge, of any answer that its contract allows
 pub judge-unpacks : (image stem cycle work : List ℕ) (answer : ℕ) → SaysPacked answer (judgeable image stem cycle work) stem cycle
