@@ -21,16 +21,16 @@ use Rattle.image.proofs.Agree.{longer, longer-agrees, longer-bytes, lon
 use Rattle.image.proofs.Answers.{writes-of, written-front, reads-of, filled-long, long-fine, fine-long, long-passed, body-passed}
 use Rattle.image.proofs.Images.{joined-read, whole-image}
 
--- Demand 2, "Its image is one fixed byte string; write and read are inverse": reading an image and writing what was
--- read gives that image again, byte by byte. So no two images are read as one automaton.
+-- Demand 2, its second half: reading an image and writing what was read gives that image again, byte by byte. So no two
+-- images are read as one automaton.
 pub write-read : (image : List ℕ) (a : Automaton) → Bytes image → readImage image ≡ accepted a → imageBytes a ≡ image
 write-read image a bytes e =
     let read = read-of image a e in
     let fits = contents-fine image (read .contents) in
     ap imageBytes (read .automaton) ∙ image-back _ _ _ _ (body-passed image fits bytes (read .bodies)) ∙ whole-image image bytes fits
 
--- "Reading back what was written gives the same counts and used entries": the image of an automaton whose tables pass
--- 10 (counts only) to 13 is read as that automaton, and so with its counts and its entries.
+-- 01, The image, sentence 8: the image of an automaton whose tables pass 10 (counts only) to 13 is read as that
+-- automaton, and so with its counts and its entries.
 pub read-write : (c : Counts) (s t i : List ℕ) (a : Automaton) → Bytes s → Bytes t → Bytes i → countsFit c ≡ true → readTables c s t i ≡ accepted a → readImage (imageBytes a) ≡ accepted a
 unfolding readTables
 read-write c s t i a bs bt bi fit e =
