@@ -2,19 +2,20 @@
 use mathlib.Core.Path.{_≡_, refl, sym, ap, _∙_}
 use mathlib.Core.Bool.{Bool, true, false, not, _&&_, and-eq-true-iff}
 use mathlib.Core.List.{List, _++_}
-use Prim.Native.Nat.{ℕ, _≤_, _<_}
+use Prim.Native.Nat.{ℕ, _-_, _≤_, _<_}
 use native.Mathlib.Omega.{arith}
-use lib.ListN.{length, take, drop, length-drop}
+use lib.ListN.{length, take, drop, replicate, length-append, length-drop, length-replicate}
 use lib.Seq.{take-append-seam}
 use lib.Dec.{leb}
 use borrow.Author.Tests.{leb-true, le-leb, lt-leb, not-true, not-false}
 use Rattle.formula.specs.Result.{Result, accepted, refused, fine}
 use Rattle.formula.proofs.Checks.{require-fine}
 use Rattle.automaton.specs.Automaton.{Automaton}
-use Rattle.automaton.specs.Translate.{Counts, outcome, tableCheck}
+use Rattle.automaton.specs.Records.{stateRecords, transitionRecords, initialRecords}
+use Rattle.automaton.specs.Translate.{Counts, counts, Outcome, outcome, tableCheck, filled}
 use Rattle.image.specs.Image.{transitionsAt, initialAt, imageBytes}
 use Rattle.image.specs.Reader.{countsAt, countsFit, recordsCheck, readTables}
-use Rattle.image.specs.Calls.{Buffer, buffer, written, writes, reads, checks}
+use Rattle.image.specs.Calls.{Buffer, buffer, written, writes, loaded, reads, checks}
 use Rattle.image.specs.Steps.{joinedOver, Loads}
 use Rattle.image.proofs.Before.{not-both}
 use Rattle.image.proofs.Tests.{Small, counts-small}
@@ -45,6 +46,10 @@ module _ (s t i : List ℕ) where
       let tests = and-eq-true-iff (leb 384 (length s)) _ .0 (require-fine sizes 25 0 e) in
       let rest = and-eq-true-iff (leb 49152 (length t)) _ .0 (tests .1) in
       record { states = leb-true 384 (length s) (tests .0); transitions = leb-true 49152 (length t) (rest .0); initial = leb-true 192 (length i) (rest .1) }
+
+  pub fine-long : Long s t i → tableCheck s t i ≡ fine
+  unfolding tableCheck
+  fine-long long = rw (le-leb 384 (length s) (long .states), le-leb 49152 (length t) (long .transitions), le-leb 192 (length i) (long .initial))
 
   pub tables-long : {r : Bool} → r ≡ sizes → not r ≡ false → Long s t i
   tables-long e f = long-fine (tables-fine e f)
@@ -106,6 +111,39 @@ pub written-front : {r : Result Automaton} {n : ℕ} {before after : List ℕ} (
 written-front {before = before} done =
     let a = done .automaton in
     rw (done .size, done .bytes) (take-append-seam (imageBytes a) (drop (length (imageBytes a)) before))
+
+-- what is read when counts are answered
+pub record Reads (r : Result Automaton) (c : Counts) (s t i s₁ t₁ i₁ : List ℕ) : Type 0 where
+  pub automaton : Automaton
+  pub answer : r ≡ accepted automaton
+  pub counted : c ≡ counts automaton
+  pub states-are : s₁ ≡ filled s (stateRecords automaton)
+  pub transitions-are : t₁ ≡ filled t (transitionRecords automaton)
+  pub initial-are : i₁ ≡ filled i (initialRecords automaton)
+
+pub reads-of : (r : Result Automaton) (c : Counts) (s t i s₁ t₁ i₁ : List ℕ) → loaded r s t i ≡ outcome (accepted c) s₁ t₁ i₁ → Reads r c s t i s₁ t₁ i₁
+reads-of (accepted a) c s t i s₁ t₁ i₁ e =
+    let same : accepted (counts a) ≡ accepted c = ap (λ (o : Outcome). o .answer) e in
+    record {
+      automaton = a;
+      answer = refl;
+      counted = cc;
+      states-are = sym (ap (λ (o : Outcome). o .states) e);
+      transitions-are = sym (ap (λ (o : Outcome). o .transitions) e);
+      initial-are = sym (ap (λ (o : Outcome). o .initial) e);
+    }
+reads-of (refused number place) c s t i s₁ t₁ i₁ e = not-both (ap (λ (o : Outcome). o .answer) e)
+
+-- a table that was filled is no shorter
+filled-longer : (table bytes : List ℕ) → length table ≤ length (filled table bytes)
+filled-longer table bytes = rw (length-append bytes (replicate (length table - length bytes) 0), length-replicate {A = ℕ} (length table - length bytes) 0) (omega arith)
+
+pub filled-long : (s t i x y z : List ℕ) → Long s t i → Long (filled s x) (filled t y) (filled i z)
+filled-long s t i x y z long = record {
+  states = omega (arith, long .states, filled-longer s x);
+  transitions = omega (arith, long .transitions, filled-longer t y);
+  initial = omega (arith, long .initial, filled-longer i z);
+}
 
 -- the bodies of an image, as three tables
 pub body-passed : (image : List ℕ) → Contents image → Bytes image → bodiesCheck (countsAt image) image ≡ fine

@@ -5,6 +5,7 @@ pub mod Sums
 pub mod Rising
 pub mod Stores
 pub mod Contents
+pub mod Sizes
 pub mod Tables
 pub mod Answers
 pub mod Agree

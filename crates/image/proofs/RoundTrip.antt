@@ -1,34 +1,36 @@
--- Write and read are inverse.
+-- Write and read are inverse: of an automaton and its image, and of the two calls with every byte that is lent.
+-- Assumes nothing.
 use mathlib.Core.Path.{_≡_, sym, ap, _∙_}
 use mathlib.Core.Bool.{true}
-use mathlib.Core.List.{List}
+use mathlib.Core.List.{List, _++_}
 use Prim.Native.Nat.{ℕ, _*_}
-use lib.ListN.{take}
+use lib.ListN.{length, take, drop}
 use Rattle.formula.specs.Result.{accepted, fine, require}
 use Rattle.formula.proofs.Checks.{require-fine}
 use Rattle.automaton.specs.Automaton.{Automaton}
-use Rattle.automaton.specs.Translate.{Counts, outcome, tableCheck, filled}
-use Rattle.image.specs.Image.{imageBytes}
-use Rattle.image.specs.Reader.{countsFit, recordsCheck, automatonFrom, readTables, readImage}
+use Rattle.automaton.specs.Records.{stateRecords, transitionRecords, initialRecords}
+use Rattle.automaton.specs.Translate.{Counts, counts, outcome, tableCheck, filled}
+use Rattle.image.specs.Image.{transitionsAt, initialAt, imageBytes}
+use Rattle.image.specs.Reader.{countsAt, countsFit, contentsCheck, recordsCheck, automatonFrom, readTables, readImage}
 use Rattle.image.specs.Calls.{buffer, bufferCheck, writes, reads}
 use Rattle.image.proofs.Before.{follows, passes}
-use Rattle.image.proofs.Tests.{counts-small}
+use Rattle.image.proofs.Tests.{counts-small, small-fits}
 use Rattle.image.proofs.Contents.{read-of, contents-fine}
 use Rattle.image.proofs.Tables.{Bytes, Passed, counts-back, states-back, transitions-back, initial-back, image-back}
-use Rattle.image.proofs.Agree.{longer, longer-agrees, longer-bytes, longer-room, tables-agree}
-use Rattle.image.proofs.Answers.{writes-of, written-front, long-fine, long-passed, body-passed}
+use Rattle.image.proofs.Agree.{longer, longer-agrees, longer-bytes, longer-room, front-agrees, tables-agree}
+use Rattle.image.proofs.Answers.{writes-of, written-front, reads-of, filled-long, long-fine, fine-long, long-passed, body-passed}
 use Rattle.image.proofs.Images.{joined-read, whole-image}
 
--- Demand 2, "Its image is one fixed byte string; write and read are inverse": reading an image and writing what was
--- read gives that image again, byte by byte. So no two images are read as one automaton.
+-- Demand 2, its second half: reading an image and writing what was read gives that image again, byte by byte. So no two
+-- images are read as one automaton.
 pub write-read : (image : List ℕ) (a : Automaton) → Bytes image → readImage image ≡ accepted a → imageBytes a ≡ image
 write-read image a bytes e =
     let read = read-of image a e in
     let fits = contents-fine image (read .contents) in
     ap imageBytes (read .automaton) ∙ image-back _ _ _ _ (body-passed image fits bytes (read .bodies)) ∙ whole-image image bytes fits
 
--- "Reading back what was written gives the same counts and used entries": the image of an automaton whose tables pass
--- 10 (counts only) to 13 is read as that automaton, and so with its counts and its entries.
+-- 01, The image, sentence 8: the image of an automaton whose tables pass 10 (counts only) to 13 is read as that
+-- automaton, and so with its counts and its entries.
 pub read-write : (c : Counts) (s t i : List ℕ) (a : Automaton) → Bytes s → Bytes t → Bytes i → countsFit c ≡ true → readTables c s t i ≡ accepted a → readImage (imageBytes a) ≡ accepted a
 unfolding readTables
 read-write c s t i a bs bt bi fit e =
@@ -65,3 +67,48 @@ reading-back c s t i before after n bs bt bi e s₁ t₁ i₁ long =
     let answer = passes (recordsCheck c s t i) a (automatonFrom c s t i) (sym (counted .answer)) in
     let passed = long-passed s t i c (counts-small c fit) (long-fine s t i (tables .passed)) bs bt bi (answer .passed) in
     rw (written-front done, long, read-write c s t i a bs bt bi fit (counted .answer), answer .same, counts-back c s t i (answer .passed), states-back c s t i passed, transitions-back c s t i passed, initial-back c s t i passed)
+
+-- the tables that a reader filled are read and written as the image, whatever stood in them before
+module _ (image s t i : List ℕ) (a : Automaton) (bytes : Bytes image) (e : readImage image ≡ accepted a) where
+  abbrev c : Counts
+  c = countsAt image
+
+  abbrev s₁ : List ℕ
+  s₁ = filled s (stateRecords a)
+
+  abbrev t₁ : List ℕ
+  t₁ = filled t (transitionRecords a)
+
+  abbrev i₁ : List ℕ
+  i₁ = filled i (initialRecords a)
+
+  filled-read : readTables c s₁ t₁ i₁ ≡ accepted a
+  unfolding readImage
+  filled-read =
+      let read = read-of image a e in
+      let passed = body-passed image (contents-fine image (read .contents)) bytes (read .bodies) in
+      let states : stateRecords a ≡ take (4 * c .states) (drop 18 image) = ap stateRecords (read .automaton) ∙ states-back _ _ _ _ passed in
+      let transitions : transitionRecords a ≡ take (4 * c .transitions) (drop (transitionsAt c) image) = ap transitionRecords (read .automaton) ∙ transitions-back _ _ _ _ passed in
+      let initial : initialRecords a ≡ take (2 * c .initial) (drop (initialAt c) image) = ap initialRecords (read .automaton) ∙ initial-back _ _ _ _ passed in
+      rw (states, transitions, initial)
+      (tables-agree c _ _ _ _ _ _ (front-agrees (4 * c .states) _ _ (passed .state-room)) (front-agrees (4 * c .transitions) _ _ (passed .transition-room)) (front-agrees (2 * c .initial) _ _ (passed .initial-room)) a (follows (contentsCheck image) _ a e .answer))
+
+  filled-written : (before : List ℕ) → tableCheck s t i ≡ fine → bufferCheck before ≡ fine → writes c s₁ t₁ i₁ before ≡ buffer (accepted (length image)) (image ++ drop (length image) before)
+  unfolding writes
+  filled-written before long room =
+      let fits = contents-fine image (read-of image a e .contents) in
+      rw (fine-long s₁ t₁ i₁ (filled-long s t i (stateRecords a) (transitionRecords a) (initialRecords a) (long-fine s t i long)), room, small-fits c (fits .small), filled-read, write-read image a bytes e)
+
+-- The twin for the two calls: where read answers counts, writing the tables that it left into any buffer that is long
+-- enough answers the image's length, puts the image's own bytes first, and leaves what stood behind them.
+pub writing-back : (image s t i s₁ t₁ i₁ : List ℕ) (c : Counts) → Bytes image → reads image s t i ≡ outcome (accepted c) s₁ t₁ i₁
+    → (before : List ℕ) → bufferCheck before ≡ fine
+    → writes c s₁ t₁ i₁ before ≡ buffer (accepted (length image)) (image ++ drop (length image) before)
+unfolding reads
+writing-back image s t i s₁ t₁ i₁ c bytes e before room =
+    let done = reads-of _ c s t i s₁ t₁ i₁ e in
+    let a = done .automaton in
+    let tables = follows (tableCheck s t i) _ a (done .answer) in
+    let read = read-of image a (tables .answer) in
+    let counted : c ≡ countsAt image = done .counted ∙ ap counts (read .automaton) ∙ counts-back _ _ _ _ (read .bodies) in
+    cc (done .states-are, done .transitions-are, done .initial-are, counted, filled-written image s t i a bytes (tables .answer) before (tables .passed) room)

@@ -1,11 +1,11 @@
 -- The records of an automaton that was read from three tables are the tables' own bytes.
 use mathlib.Core.Path.{_≡_, refl, sym, ap, _∙_}
 use mathlib.Core.Bool.{cond}
-use mathlib.Core.List.{List, [], _∷_, _++_}
+use mathlib.Core.List.{List, [], _∷_}
 use Prim.Native.Nat.{ℕ, zero, suc, _+_, _*_, _/_, _%_, _≤_, _<_}
 use native.Mathlib.Omega.{arith}
-use lib.ListN.{length, getD, take, drop, length-append, length-drop}
-use lib.Seq.{getD-drop, take-add, length-take-le}
+use lib.ListN.{length, getD, take, drop, length-drop}
+use lib.Seq.{getD-drop, take-add}
 use lib.Dec.{eqb}
 use borrow.Author.Tests.{eqb-true}
 use Rattle.formula.specs.Result.{fine, lowest}
@@ -13,10 +13,11 @@ use Rattle.formula.proofs.Lowest.{fine-first, fine-second, lowest-each}
 use Rattle.formula.proofs.Checks.{require-fine}
 use Rattle.automaton.specs.Records.{records, twoBytes, stateRecord, transitionRecord, stateRecords, transitionRecords, initialRecords}
 use Rattle.automaton.specs.Translate.{Counts, counts, transitionCount}
-use Rattle.image.specs.Image.{entry, imageLength, contents, imageBytes}
+use Rattle.image.specs.Image.{imageLength, imageBytes}
 use Rattle.image.specs.Steps.{joined}
 use Rattle.image.specs.Reader.{numberAt, stateCheck, countSum, sumCheck, recordsCheck, transitionsFrom, statesFrom, numbersFrom, automatonFrom}
 use Rattle.image.proofs.Sums.{StateFits, state-fine}
+use Rattle.image.proofs.Sizes.{image-size}
 
 -- a list of bytes
 abbrev pub Bytes : List ℕ → Type 0
@@ -179,6 +180,4 @@ module _ (c : Counts) (s t i : List ℕ) (passed : Passed c s t i) where
   image-back = rw (counts-back c s t i (passed .checked), states-back, transitions-back, initial-back)
 
   pub image-length : length (joined c s t i) ≡ imageLength c
-  unfolding contents entry twoBytes
-  image-length =
-      rw (length-append (take (4 * c .states) s) (take (4 * c .transitions) t ++ take (2 * c .initial) i), length-append (take (4 * c .transitions) t) (take (2 * c .initial) i), length-take-le (4 * c .states) s (passed .state-room), length-take-le (4 * c .transitions) t (passed .transition-room), length-take-le (2 * c .initial) i (passed .initial-room)) (omega arith)
+  image-length = ap length (sym image-back) ∙ image-size (automatonFrom c s t i) ∙ ap imageLength (counts-back c s t i (passed .checked))

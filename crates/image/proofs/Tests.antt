@@ -50,6 +50,10 @@ counts-small c e =
     let rest = and-eq-true-iff _ _ .0 (tests .1) in
     record { states = leb-true (c .states) 96 (tests .0); transitions = leb-true (c .transitions) 12288 (rest .0); initial = leb-true (c .initial) 96 (rest .1) }
 
+pub small-fits : (c : Counts) → Small c → countsFit c ≡ true
+unfolding countsFit
+small-fits c small = rw (le-leb (c .states) 96 (small .states), le-leb (c .transitions) 12288 (small .transitions), le-leb (c .initial) 96 (small .initial))
+
 -- the contents of an image, by the tests in their order
 module _ (image : List ℕ) where
   abbrev kinds : Bool

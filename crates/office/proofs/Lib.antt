@@ -1,3 +1,4 @@
 -- Lemmas for the calls for C.
 pub mod Packed
+pub mod Refusals
 pub mod Unpacking

@@ -1,37 +1,31 @@
 -- What C reads off a packed answer by include/zimboralo.h is the answer: the lowest byte is 0 exactly where nothing was
--- refused, no count or length is cut off, and a place is whole where it is below 2 ^ 32. Assumes nothing.
-use Prim.Native.Nat.{ℕ, zero, suc, _+_, _*_, _/_, _%_, _^_, _≤_, _<_}
+-- refused, and no count, length or place is cut off. Assumes nothing.
+use Prim.Native.Nat.{ℕ, _+_, _*_, _/_, _%_, _^_, _≤_, _<_}
 use mathlib.Core.Path.{_≡_, refl, sym, _∙_, ap, subst, subst₂}
 use mathlib.Core.Logic.{_↔_}
-use mathlib.Core.Bool.{Bool, true, false, _&&_, and-eq-true-iff}
-use mathlib.Core.List.{List, [], _∷_, _++_}
-use native.Mathlib.Nat.{mod-eq-of-lt}
+use mathlib.Core.List.{List}
 use native.Mathlib.Omega.{arith}
-use lib.ListN.{getD, length}
-use lib.Dec.{ltb}
-use borrow.Author.Tests.{ltb-true}
-use Rattle.formula.specs.Result.{Result, accepted, refused, andThen, Check, require, lowest}
-use Rattle.formula.specs.Rule.{lengthCheck, nodeCheck, placeCheck, untilCheck}
+use lib.ListN.{length}
+use Rattle.formula.specs.Result.{Result, accepted, refused, andThen, Check, require}
 use Rattle.formula.specs.Rule
 use Rattle.formula.proofs.Checks.{require-fine}
-use Rattle.term.specs.Size.{sizeCheck, checked}
-use Rattle.generalized.specs.Explore.{find, meet, meetAll, explore}
-use Rattle.generalized.specs.Generalized.{productCheck, generalized}
 use Rattle.automaton.specs.Automaton.{Automaton, AcceptingPass}
-use Rattle.automaton.specs.Degeneralized.{degeneralized, translation}
-use Rattle.automaton.specs.Translate.{Counts, counts, Outcome, tableCheck, stored, unless, translated}
-use Rattle.image.specs.Image.{imageBytes, imageLength}
-use Rattle.image.specs.Reader.{countsFit, contentsCheck, stateCheck, transitionCheck, initialCheck, recordsCheck, automatonFrom, readTables, readImage}
-use Rattle.image.specs.Calls.{countsOf, buffer, bufferCheck, written, writes, loaded, reads, checks}
+use Rattle.automaton.specs.Degeneralized.{translation}
+use Rattle.automaton.specs.Translate.{Counts, counts, tableCheck, stored, unless, translated}
+use Rattle.image.specs.Image.{imageLength}
+use Rattle.image.specs.Reader.{countsFit, recordsCheck, automatonFrom, readTables, readImage}
+use Rattle.image.specs.Calls.{countsOf, buffer, bufferCheck, writes, loaded, reads, checks}
 use Rattle.image.proofs.Before.{not-both, follows, passes}
 use Rattle.image.proofs.Tests.{Small, counts-small}
 use Rattle.image.proofs.Contents.{checks-sized}
-use Rattle.image.proofs.Tables.{Bytes, image-back, image-length}
-use Rattle.image.proofs.Answers.{writes-of, long-fine, long-passed}
+use Rattle.image.proofs.Sizes.{image-size}
+use Rattle.image.proofs.Tables.{counts-back}
+use Rattle.image.proofs.Answers.{writes-of}
 use Rattle.judge.specs.declared.Judged.{Judged}
 use Rattle.judge.specs.declared.Judged.the-variants.{Kept, Broken, Refused}
-use Rattle.judge.specs.Judge.{lassoCheck, judgeable, Says}
+use Rattle.judge.specs.Judge.{judgeable, Says}
 use Rattle.correctness.proofs.WellFormed.{few-together, translation-well-formed}
+use Rattle.office.proofs.Refusals.{Refusal, Proper, translated-proper, reads-proper, writes-proper, judgeable-proper}
 use Rattle.office.specs.Packing.{packRefusal, packThree, packCounts, packLength, packJudged, SaysPacked}
 
 -- ---- the parts of an answer, as the header reads them
@@ -63,172 +57,6 @@ lengthOf answer = answer / 256 % 2 ^ 32
 -- zimboralo_kept: answer >> 8 & 1
 abbrev pub keptOf : ℕ → ℕ
 keptOf answer = answer / 256 % 2
-
--- ---- the refusals' numbers
-
--- a number that a byte holds, and not 0, ZIMBORALO_ACCEPTED
-pub record Number (n : ℕ) : Type 0 where
-  pub some : 0 < n
-  pub byte : n < 256
-
-numbered : {n : ℕ} → (ltb 0 n && ltb n 256) ≡ true → Number n
-numbered {n} e = let tests = and-eq-true-iff (ltb 0 n) (ltb n 256) .0 e in record { some = ltb-true 0 n (tests .0); byte = ltb-true n 256 (tests .1) }
-
--- an answer that is refused by no other number
-pub record Proper {A : Type 0} (answer : Result A) : Type 0 where
-  pub refusal : (number place : ℕ) → answer ≡ refused number place → Number number
-
-accepts : {A : Type 0} {a : A} → Proper (accepted a)
-accepts = record { refusal = λ number place e. not-both (sym e) }
-
-refuses : {A : Type 0} {number place : ℕ} → Number number → Proper {A = A} (refused number place)
-refuses {number = number} h = record { refusal = λ n p e. let same : number ≡ n = cc in subst Number same h }
-
-then-proper : {A B : Type 0} (r : Result A) (next : A → Result B) → Proper r → ((a : A) → Proper (next a)) → Proper (andThen r next)
-then-proper (accepted a) next p q = q a
-then-proper (refused number place) next p q = refuses (p .refusal number place refl)
-
-require-proper : (test : Bool) (number place : ℕ) → Number number → Proper (require test number place)
-require-proper true number place n = accepts
-require-proper false number place n = refuses n
-
-either-proper : {A : Type 0} (test : Bool) (r s : Result A) → Proper r → Proper s → Proper {A = A} (elim test [ true ↦ r | false ↦ s ])
-either-proper true r s p q = p
-either-proper false r s p q = q
-
-lowest-proper : (check : ℕ → Check) → ((k : ℕ) → Proper (check k)) → (n : ℕ) → Proper (lowest check n)
-unfolding lowest
-lowest-proper check each zero = accepts
-lowest-proper check each (suc n) = then-proper (lowest check n) (λ _. check n) (lowest-proper check each n) (λ _. each n)
-
-module _ {A : Type 0} (same : A → A → Bool) (limit full : ℕ) (number : Number full) where
-  meet-proper : (place : ℕ) (x : A) (xs : List A) → Proper (meet same limit full place x xs)
-  unfolding meet
-  meet-proper place x xs =
-      either-proper (ltb (find same x xs) (length xs)) (accepted xs) _ accepts (either-proper (ltb (length xs) limit) (accepted (xs ++ (x ∷ []))) (refused full place) accepts (refuses number))
-
-  module _ (each : (place count : ℕ) → Check) (each-is : (place count : ℕ) → Proper (each place count)) where
-    meetAll-proper : (place : ℕ) (targets : List A) (count : ℕ) (xs : List A) → Proper (meetAll same limit full each place targets count xs)
-    unfolding meetAll
-    meetAll-proper place [] count xs = accepts
-    meetAll-proper place (y ∷ ys) count xs =
-        then-proper (each place count) _ (each-is place count) (λ _. then-proper (meet same limit full place y xs) _ (meet-proper place y xs) (λ more. meetAll-proper place ys (suc count) more))
-
-    module _ (none : A) (targets : A → List A) (before : ℕ → A → Check) (before-is : (place : ℕ) (x : A) → Proper (before place x)) where
-      explore-proper : (fuel place count : ℕ) (xs : List A) → Proper (explore same limit full each none targets before fuel place count xs)
-      unfolding explore
-      explore-proper zero place count xs = accepts
-      explore-proper (suc fuel) place count xs =
-          let here = getD xs place none in
-          either-proper (ltb place (length xs)) _ (accepted xs)
-          (then-proper (before place here) _ (before-is place here) (λ _. then-proper (meetAll same limit full each place (targets here) count xs) _ (meetAll-proper place (targets here) count xs) (λ more. explore-proper fuel (suc place) (count + length (targets here)) more)))
-          accepts
-
--- the closure laws, for search: a numeral is a refusal's number by computation
-ruleset proper = (accepts, then-proper, require-proper, lowest-proper, numbered, refl)
-
--- 3 to 5
-node-proper : (rule : List ℕ) (n : ℕ) → Proper (nodeCheck rule n)
-unfolding nodeCheck
-node-proper rule n = search proper
-
-place-proper : (rule : List ℕ) (n : ℕ) → Proper (placeCheck rule n)
-unfolding placeCheck
-place-proper rule n = search proper
-
--- 1 to 7
-rule-proper : (rule : List ℕ) → Proper (Rule.checked rule)
-unfolding Rule.checked lengthCheck untilCheck
-rule-proper rule = search (proper, node-proper, place-proper) depth 7
-
-size-proper : (rule : List ℕ) (n : ℕ) → Proper (sizeCheck rule n)
-unfolding sizeCheck
-size-proper rule n = search proper
-
-product-proper : (rule : List ℕ) (place state : ℕ) → Proper (productCheck rule place state)
-unfolding productCheck
-product-proper rule place state = search proper
-
--- 21 to 23
-generalized-proper : (rule : List ℕ) → Proper (generalized rule)
-unfolding generalized
-generalized-proper rule = search (proper, explore-proper, product-proper)
-
--- 24
-degeneralized-proper : (rule states : List ℕ) → Proper (degeneralized rule states)
-unfolding degeneralized
-degeneralized-proper rule states = search (proper, explore-proper)
-
--- 1 to 7 and 20 to 24
-pub translation-proper : (rule : List ℕ) → Proper (translation rule)
-unfolding translation checked
-translation-proper rule = search (proper, rule-proper, size-proper, generalized-proper, degeneralized-proper) depth 7
-
--- 25, of three tables
-tables-proper : (s t i : List ℕ) → Proper (tableCheck s t i)
-unfolding tableCheck
-tables-proper s t i = search proper
-
--- 25, 1 to 7 and 20 to 24
-pub translated-proper : (rule s t i : List ℕ) → Proper (translated rule s t i .answer)
-unfolding translated stored
-translated-proper rule s t i =
-    first (andThen (tableCheck s t i) (λ _. Rule.checked rule)) (stored (translation rule) s t i) (search (proper, tables-proper, rule-proper)) (second (translation rule) (translation-proper rule))
-  where
-    first : (check : Check) (rest : Outcome) → Proper check → Proper (rest .answer) → Proper (unless check rest s t i .answer)
-    first (accepted u) rest p q = q
-    first (refused number place) rest p q = refuses (p .refusal number place refl)
-
-    second : (r : Result Automaton) → Proper r → Proper (stored r s t i .answer)
-    second (accepted a) p = accepts
-    second (refused number place) p = refuses (p .refusal number place refl)
-
-state-proper : (s : List ℕ) (k : ℕ) → Proper (stateCheck s k)
-unfolding stateCheck
-state-proper s k = search proper
-
-transition-proper : (states : ℕ) (t : List ℕ) (k : ℕ) → Proper (transitionCheck states t k)
-unfolding transitionCheck
-transition-proper states t k = search proper
-
-initial-proper : (states : ℕ) (i : List ℕ) (k : ℕ) → Proper (initialCheck states i k)
-unfolding initialCheck
-initial-proper states i zero = search proper
-initial-proper states i (suc k) = search proper
-
--- 11 to 13
-records-proper : (c : Counts) (s t i : List ℕ) → Proper (readTables c s t i)
-unfolding readTables recordsCheck
-records-proper c s t i = search (proper, state-proper, transition-proper, initial-proper) depth 8
-
--- 10 to 13
-image-proper : (image : List ℕ) → Proper (readImage image)
-unfolding readImage contentsCheck
-image-proper image = search (proper, records-proper)
-
--- 25 and 10 to 13
-pub reads-proper : (image s t i : List ℕ) → Proper (reads image s t i .answer)
-unfolding reads
-reads-proper image s t i = go (andThen (tableCheck s t i) (λ _. readImage image)) (search (proper, tables-proper, image-proper))
-  where
-    go : (r : Result Automaton) → Proper r → Proper (loaded r s t i .answer)
-    go (accepted a) p = accepts
-    go (refused number place) p = refuses (p .refusal number place refl)
-
--- 25 and 10 to 13
-pub writes-proper : (c : Counts) (s t i image : List ℕ) → Proper (writes c s t i image .answer)
-unfolding writes
-writes-proper c s t i image =
-    go (andThen (tableCheck s t i) (λ _. andThen (bufferCheck image) (λ _. andThen (require (countsFit c) 10 0) (λ _. readTables c s t i)))) (search (proper, tables-proper, records-proper) depth 7)
-  where
-    go : (r : Result Automaton) → Proper r → Proper (written r image .answer)
-    go (accepted a) p = accepts
-    go (refused number place) p = refuses (p .refusal number place refl)
-
--- 25, 10 to 13, 8 and 9
-pub judgeable-proper : (image stem cycle work : List ℕ) → Proper (judgeable image stem cycle work)
-unfolding judgeable lassoCheck
-judgeable-proper image stem cycle work = search (proper, image-proper) depth 7
 
 -- ---- values that fit
 
@@ -263,9 +91,9 @@ reads-small image s t i c e = first (tableCheck s t i) e
     first (refused number place) e = not-both e
 
 -- of an accepted write, ZIMBORALO_IMAGE_BYTES
-pub writes-small : (c : Counts) (s t i image : List ℕ) (n : ℕ) → Bytes s → Bytes t → Bytes i → writes c s t i image .answer ≡ accepted n → n ≤ 49746
+pub writes-small : (c : Counts) (s t i image : List ℕ) (n : ℕ) → writes c s t i image .answer ≡ accepted n → n ≤ 49746
 unfolding writes readTables
-writes-small c s t i image n bs bt bi e =
+writes-small c s t i image n e =
     let whole = andThen (tableCheck s t i) (λ _. andThen (bufferCheck image) (λ _. andThen (require (countsFit c) 10 0) (λ _. readTables c s t i))) in
     let done = writes-of whole n image (writes c s t i image .image) (ap (λ (r : Result ℕ). buffer r (writes c s t i image .image)) e) in
     let a = done .automaton in
@@ -274,17 +102,16 @@ writes-small c s t i image n bs bt bi e =
     let counted = follows (require (countsFit c) 10 0) _ a (room .answer) in
     let small = counts-small c (require-fine (countsFit c) 10 0 (counted .passed)) in
     let answer = passes (recordsCheck c s t i) a (automatonFrom c s t i) (sym (counted .answer)) in
-    let passed = long-passed s t i c small (long-fine s t i (tables .passed)) bs bt bi (answer .passed) in
-    let size : n ≡ imageLength c = done .size ∙ ap (λ (a : Automaton). length (imageBytes a)) (answer .same) ∙ ap length (image-back c s t i passed) ∙ image-length c s t i passed in
+    let size : n ≡ imageLength c = done .size ∙ image-size a ∙ ap (λ (a : Automaton). imageLength (counts a)) (answer .same) ∙ ap imageLength (counts-back c s t i (answer .passed)) in
     omega (arith, size, small .states, small .transitions, small .initial)
 
 -- ---- what C reads off
 
--- of a refusal: the number, which is not 0, and the place, where 32 bits hold it
+-- of a refusal: the number, which is not 0, and the place
 pub record RefusalRead (packed number place : ℕ) : Type 0 where
   pub number-read : numberOf packed ≡ number
   pub not-zero : 0 < numberOf packed
-  pub place-read : place < 2 ^ 32 → placeOf packed ≡ place
+  pub place-read : placeOf packed ≡ place
 
 -- of any answer: the lowest byte is 0 exactly where it is accepted, and then the value is read off, else the refusal
 pub record Unpacks {A : Type 0} (Read : ℕ → A → Type 0) (packed : ℕ) (answer : Result A) : Type 0 where
@@ -313,10 +140,11 @@ pub record VerdictRead (stem cycle : List ℕ) (packed : ℕ) (a : Automaton) : 
 above-byte : (low high : ℕ) → low < 256 → (low + 256 * high) / 256 ≡ high
 above-byte low high lt = omega arith
 
-refusal-unpacks : (number place : ℕ) → Number number → RefusalRead (packRefusal number place) number place
+refusal-unpacks : (number place : ℕ) → Refusal number place → RefusalRead (packRefusal number place) number place
 refusal-unpacks number place h =
     let read : packRefusal number place % 256 ≡ number = omega (arith, h .byte) in
-    record { number-read = read; not-zero = omega (arith, h .some); place-read = λ lt. rw (above-byte number (place % 2 ^ 32) (h .byte), mod-eq-of-lt lt, mod-eq-of-lt lt) }
+    let whole : place % 2 ^ 32 ≡ place = omega (arith, h .near) in
+    record { number-read = read; not-zero = omega (arith, h .some); place-read = rw (above-byte number (place % 2 ^ 32) (h .byte), whole, whole) }
 
 unpacks-accepted : {A : Type 0} {Read : ℕ → A → Type 0} (packed : ℕ) (a : A) → numberOf packed ≡ 0 → Read packed a → Unpacks Read packed (accepted a)
 unpacks-accepted {A} {Read} packed a z read = record {
@@ -326,7 +154,7 @@ unpacks-accepted {A} {Read} packed a z read = record {
   refusal-read = λ number place e. not-both (sym e);
 }
 
-unpacks-refused : {A : Type 0} {Read : ℕ → A → Type 0} (number place : ℕ) → Number number → Unpacks Read (packRefusal number place) (refused number place)
+unpacks-refused : {A : Type 0} {Read : ℕ → A → Type 0} (number place : ℕ) → Refusal number place → Unpacks Read (packRefusal number place) (refused number place)
 unpacks-refused number place h = record {
   zero-accepted = λ z. absurd (omega (arith, refusal-unpacks number place h .not-zero));
   accepted-zero = λ a e. not-both e;
@@ -377,10 +205,9 @@ translate-unpacks rule s t i = counts-unpack (translated rule s t i .answer) (tr
 pub read-unpacks : (image s t i : List ℕ) → Unpacks CountsRead (packCounts (reads image s t i .answer)) (reads image s t i .answer)
 read-unpacks image s t i = counts-unpack (reads image s t i .answer) (reads-proper image s t i) (reads-small image s t i)
 
--- zimboralo_write, of tables that are bytes, as those that C lends are
-pub write-unpacks : (c : Counts) (s t i image : List ℕ) → Bytes s → Bytes t → Bytes i → Unpacks LengthRead (packLength (writes c s t i image .answer)) (writes c s t i image .answer)
-write-unpacks c s t i image bs bt bi =
-    length-unpacks (writes c s t i image .answer) (writes-proper c s t i image) (λ n e. writes-small c s t i image n bs bt bi e)
+-- zimboralo_write
+pub write-unpacks : (c : Counts) (s t i image : List ℕ) → Unpacks LengthRead (packLength (writes c s t i image .answer)) (writes c s t i image .answer)
+write-unpacks c s t i image = length-unpacks (writes c s t i image .answer) (writes-proper c s t i image) (writes-small c s t i image)
 
 -- zimboralo_judge, of any answer that its contract allows
 pub judge-unpacks : (image stem cycle work : List ℕ) (answer : ℕ) → SaysPacked answer (judgeable image stem cycle work) stem cycle

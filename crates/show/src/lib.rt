@@ -4,12 +4,12 @@ use automaton::STATES_BYTES;
 use automaton::TRANSITIONS_BYTES;
 use automaton::Translated;
 use libc::STDOUT_FILENO;
+ghost use mathlib.Core.Path.{_≡_};
 ghost use Prim.Native.Nat.{_≤_, _<_};
+ghost use Rattle.show.specs.Shown.{number, digit, label, rowEnd};
 
-// The most transitions that an automaton has, and the most that a number of two bytes says.
+// The most transitions that an automaton has.
 const MAX_TRANSITIONS: usize = 12288;
-
-const MAX_NUMBER: usize = 65535;
 
 fn print(text: &[u8]) {
     io::write_all(STDOUT_FILENO, text);
@@ -31,42 +31,48 @@ pub fn print_refusal(number: u8, place: usize) {
 // A hexadecimal digit, a capital above 9.
 fn digit(n: u8) -> u8
     requires { ⌜ n < 16 ⌝ }
+    ensures { λ r. ⌜ r ≡ digit n ⌝ }
 {
     if n < 10 { 48 + n } else { 55 + n }
 }
 
 // A number in two bytes, low byte first.
 pub fn number_of(low: u8, high: u8) -> usize
-    ensures { λ r. ⌜ r ≤ 65535 ⌝ }
+    ensures value { λ r. ⌜ r ≡ number low high ⌝ }
+    ensures within { λ r. ⌜ r ≤ 65535 ⌝ }
 {
     let high = high as usize;
     (low as usize) + high * 256
 }
 
-// A transition's line: must and must_not as hexadecimal bytes, and the target.
-fn print_transition(must: u8, must_not: u8, target: usize) {
-    let line = [
+// must and must_not in two hexadecimal digits each, a space after each.
+fn label(must: u8, must_not: u8) -> [u8; 6]
+    ensures { λ r. ⌜ r ≡ label must «must_not» ⌝ }
+{
+    [
         digit(must / 16),
         digit(must % 16),
         b' ',
         digit(must_not / 16),
         digit(must_not % 16),
         b' ',
-    ];
-    print(&line);
+    ]
+}
+
+// The label, then the target.
+fn print_transition(must: u8, must_not: u8, target: usize) {
+    let shown = label(must, must_not);
+    print(&shown);
     print_number(target);
     print(b"\n");
 }
 
 // Transition record k.
 fn print_record(transitions: &[u8], k: usize) {
-    if MAX_TRANSITIONS <= k {
+    if transitions.len() / 4 <= k {
         return;
     }
     let at = k * 4;
-    if transitions.len() < at + 4 {
-        return;
-    }
     print_transition(
         transitions[at],
         transitions[at + 1],
@@ -99,17 +105,16 @@ fn print_state(place: usize, accepting: u8, count: usize) {
 }
 
 // State record i and its transitions, which begin at `from`; where they end.
-fn print_row(states: &[u8], i: usize, transitions: &[u8], from: usize) -> usize {
+fn print_row(states: &[u8], i: usize, transitions: &[u8], from: usize) -> usize
+    ensures { λ r. ⌜ r ≡ rowEnd (now (states .entry)) i from ⌝ }
+{
     if MAX_TRANSITIONS < from {
         return from;
     }
-    if MAX_TRANSITIONS <= i {
+    if states.len() / 4 <= i {
         return from;
     }
     let at = i * 4;
-    if states.len() < at + 4 {
-        return from;
-    }
     let count = number_of(states[at], states[at + 1]);
     print_state(i, states[at + 2], count);
     print_transitions(transitions, from, count);

@@ -1,0 +1,245 @@
+-- Every refusal of the calls has a number that a byte holds and that is not 0, and a place of at most 12,288: so does each
+-- check, and what follows a check is looked at only where it passed. Assumes nothing.
+use Prim.Native.Nat.{ℕ, zero, suc, _+_, _≤_, _<_}
+use mathlib.Core.Path.{_≡_, refl, sym, subst₂}
+use mathlib.Core.Bool.{Bool, true, false, _&&_, and-eq-true-iff}
+use mathlib.Core.List.{List, [], _∷_, _++_}
+use native.Mathlib.Omega.{arith}
+use lib.ListN.{getD, length}
+use lib.Dec.{leb, ltb}
+use borrow.Author.Tests.{leb-true, ltb-true}
+use Rattle.formula.specs.Result.{Result, accepted, refused, andThen, Check, fine, require, lowest}
+use Rattle.formula.specs.Rule.{nodeCount, lengthCheck, nodeCheck, placeCheck, untilCheck}
+use Rattle.formula.specs.Rule
+use Rattle.formula.proofs.Lowest.{fine-first}
+use Rattle.formula.proofs.Checks.{require-fine, required}
+use Rattle.term.specs.Size.{sizeCheck, checked}
+use Rattle.generalized.specs.Explore.{find, meet, meetAll, explore}
+use Rattle.generalized.specs.Generalized.{productCheck, generalized}
+use Rattle.automaton.specs.Automaton.{Automaton}
+use Rattle.automaton.specs.Degeneralized.{degeneralized, translation}
+use Rattle.automaton.specs.Translate.{Counts, Outcome, tableCheck, stored, unless, translated}
+use Rattle.image.specs.Reader.{countsAt, countsFit, contentsCheck, stateCheck, transitionCheck, initialCheck, recordsCheck, readTables, readImage}
+use Rattle.image.specs.Calls.{bufferCheck, written, writes, loaded, reads}
+use Rattle.image.proofs.Before.{not-both}
+use Rattle.image.proofs.Tests.{Small, counts-small}
+use Rattle.image.proofs.Contents.{contents-fine}
+use Rattle.judge.specs.Judge.{lassoCheck, judgeable}
+
+-- a number that a byte holds, and not 0, ZIMBORALO_ACCEPTED; a place among at most 12,288
+pub record Refusal (number place : ℕ) : Type 0 where
+  pub some : 0 < number
+  pub byte : number < 256
+  pub near : place ≤ 12288
+
+numbered : {number place : ℕ} → (ltb 0 number && ltb number 256) ≡ true → place ≤ 12288 → Refusal number place
+numbered {number} e le =
+    let tests = and-eq-true-iff (ltb 0 number) (ltb number 256) .0 e in
+    record { some = ltb-true 0 number (tests .0); byte = ltb-true number 256 (tests .1); near = le }
+
+at-most : {place : ℕ} → leb place 12288 ≡ true → place ≤ 12288
+at-most {place} e = leb-true place 12288 e
+
+nearer : {k n : ℕ} → k < n → n ≤ 12288 → k ≤ 12288
+nearer lt le = omega arith
+
+-- an answer that is refused in no other way
+pub record Proper {A : Type 0} (answer : Result A) : Type 0 where
+  pub refusal : (number place : ℕ) → answer ≡ refused number place → Refusal number place
+
+accepts : {A : Type 0} {a : A} → Proper (accepted a)
+accepts = record { refusal = λ number place e. not-both (sym e) }
+
+refuses : {A : Type 0} {number place : ℕ} → Refusal number place → Proper {A = A} (refused number place)
+refuses {number = number} {place = place} h = record {
+  refusal = λ n p e.
+      let same-number : number ≡ n = cc in
+      let same-place : place ≡ p = cc in
+      subst₂ Refusal same-number same-place h;
+}
+
+then-proper : {A B : Type 0} (r : Result A) (next : A → Result B) → Proper r → ((a : A) → r ≡ accepted a → Proper (next a)) → Proper (andThen r next)
+then-proper (accepted a) next p q = q a refl
+then-proper (refused number place) next p q = refuses (p .refusal number place refl)
+
+require-proper : (test : Bool) (number place : ℕ) → Refusal number place → Proper (require test number place)
+require-proper true number place h = accepts
+require-proper false number place h = refuses h
+
+either-proper : {A : Type 0} (test : Bool) (r s : Result A) → Proper r → Proper s → Proper {A = A} (elim test [ true ↦ r | false ↦ s ])
+either-proper true r s p q = p
+either-proper false r s p q = q
+
+lowest-proper : (check : ℕ → Check) (n : ℕ) → ((k : ℕ) → k < n → Proper (check k)) → Proper (lowest check n)
+unfolding lowest
+lowest-proper check zero each = accepts
+lowest-proper check (suc n) each =
+    then-proper (lowest check n) (λ _. check n) (lowest-proper check n (λ k lt. each k (omega arith))) (λ _ _. each n (omega arith))
+
+-- a walk, which takes at most its fuel of states
+module _ {A : Type 0} (same : A → A → Bool) (limit full : ℕ) (over : (place : ℕ) → place ≤ 12288 → Refusal full place) where
+  meet-proper : (place : ℕ) (x : A) (xs : List A) → place ≤ 12288 → Proper (meet same limit full place x xs)
+  unfolding meet
+  meet-proper place x xs le =
+      either-proper (ltb (find same x xs) (length xs)) (accepted xs) _ accepts (either-proper (ltb (length xs) limit) (accepted (xs ++ (x ∷ []))) (refused full place) accepts (refuses (over place le)))
+
+  module _ (each : (place count : ℕ) → Check) (each-is : (place count : ℕ) → place ≤ 12288 → Proper (each place count)) where
+    meetAll-proper : (place : ℕ) (targets : List A) (count : ℕ) (xs : List A) → place ≤ 12288 → Proper (meetAll same limit full each place targets count xs)
+    unfolding meetAll
+    meetAll-proper place [] count xs le = accepts
+    meetAll-proper place (y ∷ ys) count xs le =
+        then-proper (each place count) _ (each-is place count le) (λ _ _. then-proper (meet same limit full place y xs) _ (meet-proper place y xs le) (λ more _. meetAll-proper place ys (suc count) more le))
+
+    module _ (none : A) (targets : A → List A) (before : ℕ → A → Check) (before-is : (place : ℕ) (x : A) → place ≤ 12288 → Proper (before place x)) where
+      explore-proper : (fuel place count : ℕ) (xs : List A) → fuel + place ≤ 12288 → Proper (explore same limit full each none targets before fuel place count xs)
+      unfolding explore
+      explore-proper zero place count xs le = accepts
+      explore-proper (suc fuel) place count xs le =
+          let here = getD xs place none in
+          let near : place ≤ 12288 = omega arith in
+          let next : fuel + suc place ≤ 12288 = omega arith in
+          either-proper (ltb place (length xs)) _ (accepted xs)
+          (then-proper (before place here) _ (before-is place here near) (λ _ _. then-proper (meetAll same limit full each place (targets here) count xs) _ (meetAll-proper place (targets here) count xs near) (λ more _. explore-proper fuel (suc place) (count + length (targets here)) more next)))
+          accepts
+
+-- the closure laws, for search: a numeral is a refusal's number, or a place, by computation
+ruleset proper = (accepts, then-proper, require-proper, lowest-proper, numbered, at-most, nearer, refl)
+
+-- 1 and 2
+length-proper : (rule : List ℕ) → Proper (lengthCheck rule)
+unfolding lengthCheck
+length-proper rule = search proper
+
+-- a rule that 1 lets pass has few nodes
+few-nodes : (rule : List ℕ) → lengthCheck rule ≡ fine → nodeCount rule ≤ 12288
+unfolding lengthCheck
+few-nodes rule e = omega (arith, leb-true (length rule) 96 (required _ 1 0 _ e .0))
+
+-- 3 to 5
+node-proper : (rule : List ℕ) (n : ℕ) → n ≤ 12288 → Proper (nodeCheck rule n)
+unfolding nodeCheck
+node-proper rule n le = search proper
+
+-- 6
+place-proper : (rule : List ℕ) (n : ℕ) → n ≤ 12288 → Proper (placeCheck rule n)
+unfolding placeCheck
+place-proper rule n le = search proper
+
+-- 1 to 7
+rule-proper : (rule : List ℕ) → Proper (Rule.checked rule)
+unfolding Rule.checked untilCheck
+rule-proper rule =
+    then-proper (lengthCheck rule) _ (length-proper rule)
+    (λ u e. let few : nodeCount rule ≤ 12288 = few-nodes rule e in search (proper, node-proper, place-proper) depth 7)
+
+-- 20
+size-proper : (rule : List ℕ) (n : ℕ) → n ≤ 12288 → Proper (sizeCheck rule n)
+unfolding sizeCheck
+size-proper rule n le = search proper
+
+sizes-proper : (rule : List ℕ) → Proper (checked rule)
+unfolding checked Rule.checked
+sizes-proper rule =
+    then-proper (Rule.checked rule) _ (rule-proper rule)
+    (λ u e. let few : nodeCount rule ≤ 12288 = few-nodes rule (fine-first (lengthCheck rule) _ e) in search (proper, size-proper))
+
+-- 21
+product-proper : (rule : List ℕ) (place state : ℕ) → place ≤ 12288 → Proper (productCheck rule place state)
+unfolding productCheck
+product-proper rule place state le = search proper
+
+-- 21 to 23
+generalized-proper : (rule : List ℕ) → Proper (generalized rule)
+unfolding generalized
+generalized-proper rule = search (proper, explore-proper, product-proper)
+
+-- 24
+degeneralized-proper : (rule states : List ℕ) → Proper (degeneralized rule states)
+unfolding degeneralized
+degeneralized-proper rule states = search (proper, explore-proper)
+
+-- 1 to 7 and 20 to 24
+pub translation-proper : (rule : List ℕ) → Proper (translation rule)
+unfolding translation
+translation-proper rule = search (proper, sizes-proper, generalized-proper, degeneralized-proper) depth 7
+
+-- 25, of three tables
+tables-proper : (s t i : List ℕ) → Proper (tableCheck s t i)
+unfolding tableCheck
+tables-proper s t i = search proper
+
+-- 25, 1 to 7 and 20 to 24
+pub translated-proper : (rule s t i : List ℕ) → Proper (translated rule s t i .answer)
+unfolding translated stored
+translated-proper rule s t i =
+    first (andThen (tableCheck s t i) (λ _. Rule.checked rule)) (stored (translation rule) s t i) (search (proper, tables-proper, rule-proper)) (second (translation rule) (translation-proper rule))
+  where
+    first : (check : Check) (rest : Outcome) → Proper check → Proper (rest .answer) → Proper (unless check rest s t i .answer)
+    first (accepted u) rest p q = q
+    first (refused number place) rest p q = refuses (p .refusal number place refl)
+
+    second : (r : Result Automaton) → Proper r → Proper (stored r s t i .answer)
+    second (accepted a) p = accepts
+    second (refused number place) p = refuses (p .refusal number place refl)
+
+-- 11
+state-proper : (s : List ℕ) (k : ℕ) → k ≤ 12288 → Proper (stateCheck s k)
+unfolding stateCheck
+state-proper s k le = search proper
+
+-- 12
+transition-proper : (states : ℕ) (t : List ℕ) (k : ℕ) → k ≤ 12288 → Proper (transitionCheck states t k)
+unfolding transitionCheck
+transition-proper states t k le = search proper
+
+-- 13
+initial-proper : (states : ℕ) (i : List ℕ) (k : ℕ) → k ≤ 12288 → Proper (initialCheck states i k)
+unfolding initialCheck
+initial-proper states i zero le = search proper
+initial-proper states i (suc k) le = search proper
+
+-- 11 to 13, of counts that 10 lets pass
+records-proper : (c : Counts) (s t i : List ℕ) → Small c → Proper (readTables c s t i)
+unfolding readTables recordsCheck
+records-proper c s t i small =
+    let states : c .states ≤ 12288 = omega (arith, small .states) in
+    let initial : c .initial ≤ 12288 = omega (arith, small .initial) in
+    search (proper, state-proper, transition-proper, initial-proper, small .transitions) depth 8
+
+-- 10
+contents-proper : (image : List ℕ) → Proper (contentsCheck image)
+unfolding contentsCheck
+contents-proper image = search proper
+
+-- 10 to 13
+image-proper : (image : List ℕ) → Proper (readImage image)
+unfolding readImage
+image-proper image = then-proper (contentsCheck image) _ (contents-proper image) (λ u e. records-proper (countsAt image) _ _ _ (contents-fine image e .small))
+
+-- 25 and 10 to 13
+pub reads-proper : (image s t i : List ℕ) → Proper (reads image s t i .answer)
+unfolding reads
+reads-proper image s t i = go (andThen (tableCheck s t i) (λ _. readImage image)) (search (proper, tables-proper, image-proper))
+  where
+    go : (r : Result Automaton) → Proper r → Proper (loaded r s t i .answer)
+    go (accepted a) p = accepts
+    go (refused number place) p = refuses (p .refusal number place refl)
+
+-- 10 of counts alone, and 11 to 13
+counted-proper : (c : Counts) (s t i : List ℕ) → Proper (andThen (require (countsFit c) 10 0) (λ _. readTables c s t i))
+counted-proper c s t i = then-proper (require (countsFit c) 10 0) _ (search proper) (λ u e. records-proper c s t i (counts-small c (require-fine (countsFit c) 10 0 e)))
+
+-- 25 and 10 to 13
+pub writes-proper : (c : Counts) (s t i image : List ℕ) → Proper (writes c s t i image .answer)
+unfolding writes
+writes-proper c s t i image =
+    go (andThen (tableCheck s t i) (λ _. andThen (bufferCheck image) (λ _. andThen (require (countsFit c) 10 0) (λ _. readTables c s t i)))) (search (proper, tables-proper, counted-proper) depth 7)
+  where
+    go : (r : Result Automaton) → Proper r → Proper (written r image .answer)
+    go (accepted a) p = accepts
+    go (refused number place) p = refuses (p .refusal number place refl)
+
+-- 25, 10 to 13, 8 and 9
+pub judgeable-proper : (image stem cycle work : List ℕ) → Proper (judgeable image stem cycle work)
+unfolding judgeable lassoCheck
+judgeable-proper image stem cycle work = search (proper, image-proper) depth 7

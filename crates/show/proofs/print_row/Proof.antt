@@ -1,0 +1,81 @@
+-- `show::print_row` gives where the state's transitions end, by the definition's tests in their order.
+-- Assumes nothing.
+use Prim.Native.Nat.{ℕ, _+_, _*_, _/_, _≤_, _<_}
+use mathlib.Core.Path.{_≡_}
+use mathlib.Core.List.{List}
+use lib.ListN.{length, getD}
+use borrow.Author.Needs.{needs}
+use borrow.Author.Tests.{lt-ltb, le-ltb, le-leb, lt-leb}
+use Rattle.show.specs.Shown.{number, rowEnd}
+use Rattle.show.proofs.print_row.Statement.{statement}
+use Rattle.show.proofs.print_row.Tie as tie
+
+module _ (states : List ℕ) (i from : ℕ) where
+  past : 12288 < from → from ≡ rowEnd states i from
+  unfolding rowEnd
+  past lt = rw (lt-ltb 12288 from lt)
+
+  behind : from ≤ 12288 → length states / 4 ≤ i → from ≡ rowEnd states i from
+  unfolding rowEnd
+  behind le none = rw (le-ltb 12288 from le, le-leb (length states / 4) i none)
+
+  counted : {count : ℕ} → from ≤ 12288 → i < length states / 4 → count ≡ number (getD states (i * 4) 0) (getD states (i * 4 + 1) 0) → from + count ≡ rowEnd states i from
+  unfolding rowEnd
+  counted le there e = rw (le-ltb 12288 from le, lt-leb (length states / 4) i there, e)
+
+returns : tie.Need-returns
+returns c = past _ _ _ (search needs)
+
+returns-2 : tie.Need-returns-2
+returns-2 c = behind _ _ _ (search needs) (search needs)
+
+mul-at : tie.Need-mul-at
+mul-at c = search needs
+
+shared-slice-read-number-of : tie.Need-shared-slice-read-number-of
+shared-slice-read-number-of c = search needs
+
+add-number-of : tie.Need-add-number-of
+add-number-of c = search needs
+
+shared-slice-read-number-of-2 : tie.Need-shared-slice-read-number-of-2
+shared-slice-read-number-of-2 c = search needs
+
+number-of-requires : tie.Need-number-of-requires
+number-of-requires c κs = search needs
+
+add-print-state : tie.Need-add-print-state
+add-print-state c = search needs
+
+shared-slice-read-print-state : tie.Need-shared-slice-read-print-state
+shared-slice-read-print-state c = search needs
+
+print-state-requires : tie.Need-print-state-requires
+print-state-requires c κs = search needs
+
+print-transitions-requires : tie.Need-print-transitions-requires
+print-transitions-requires c κs = search needs
+
+add-result : tie.Need-add-result
+add-result c = search needs
+
+returns-3 : tie.Need-returns-3
+returns-3 c = counted _ _ _ (search needs) (search needs) (search needs)
+
+pub print-row-spec : {M : Type 1} → statement M
+print-row-spec =
+    tie.close
+    (tie.spec
+    returns
+    returns-2
+    mul-at
+    shared-slice-read-number-of
+    add-number-of
+    shared-slice-read-number-of-2
+    number-of-requires
+    add-print-state
+    shared-slice-read-print-state
+    print-state-requires
+    print-transitions-requires
+    add-result
+    returns-3)

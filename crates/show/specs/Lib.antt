@@ -1,0 +1,2 @@
+-- What is shown of an automaton's records.
+pub mod Shown

@@ -1,0 +1,26 @@
+-- What showwatch shows of the records of a table: numbers of two bytes, and bytes in hexadecimal (01, Watchers to hold
+-- against the definitions, the paragraph after P4's lines).
+use Prim.Native.Nat.{ℕ, _+_, _-_, _*_, _/_, _%_}
+use mathlib.Core.Bool.{cond}
+use mathlib.Core.List.{List, [], _∷_}
+use lib.ListN.{getD, length}
+use lib.Dec.{ltb, leb}
+
+-- a number in two bytes, low byte first (01, The image, sentence 2)
+abbrev pub number : (low high : ℕ) → ℕ
+number low high = low + 256 * high
+
+-- a hexadecimal digit in ASCII: 0 stands at 48, A at 65
+abbrev pub digit : ℕ → ℕ
+digit n = cond (ltb n 10) (48 + n) (65 + (n - 10))
+
+-- a label in two digits for must and two for must_not, a space (32) after each
+abbrev pub label : (must mustNot : ℕ) → List ℕ
+label must mustNot =
+    digit (must / 16) ∷ (digit (must % 16) ∷ (32 ∷ (digit (mustNot / 16) ∷ (digit (mustNot % 16) ∷ (32 ∷ [])))))
+
+-- where the transitions of state i end that begin at from: after as many as its record says. Past the 12,288
+-- transitions that a table holds, and past the last record, nothing is shown.
+unfoldable pub rowEnd : (states : List ℕ) (i from : ℕ) → ℕ
+rowEnd states i from =
+    cond (ltb 12288 from) from (cond (leb (length states / 4) i) from (from + number (getD states (i * 4) 0) (getD states (i * 4 + 1) 0)))
