@@ -1,11 +1,11 @@
 -- Translate, write and judge in a row: what each call hands to the next, and what the five buffers hold at each way out.
 -- Assumes nothing.
-use Prim.Native.Nat.{ℕ, _-_, _≤_}
+use Prim.Native.Nat.{ℕ, _≤_}
 use mathlib.Core.Path.{_≡_, refl, sym, _∙_, ap}
 use mathlib.Core.List.{List, _++_}
 use mathlib.Core.Bool.{Bool, true, false, not, _&&_, and-eq-true-iff}
 use native.Mathlib.Omega.{arith}
-use lib.ListN.{length, take, drop, replicate, length-append, length-replicate}
+use lib.ListN.{length, take, drop, length-append}
 use lib.Seq.{take-at}
 use lib.Dec.{leb}
 use borrow.Author.Tests.{leb-true, le-leb, not-true, not-false}
@@ -16,9 +16,10 @@ use Rattle.formula.proofs.Results.{never-both, then-accepted}
 use Rattle.automaton.specs.Automaton.{Automaton}
 use Rattle.automaton.specs.Degeneralized.{translation}
 use Rattle.automaton.specs.Records.{stateRecords, transitionRecords, initialRecords}
-use Rattle.automaton.specs.Translate.{Counts, counts, Outcome, outcome, tableCheck, zeros, filled, stored, translated}
+use Rattle.automaton.specs.Translate.{Counts, counts, Outcome, outcome, zeros, filled, stored, translated}
 use Rattle.image.specs.Image.{imageBytes}
 use Rattle.image.specs.Calls.{Buffer, buffer, writes}
+use Rattle.image.proofs.Answers.{Long, fine-long, filled-long}
 use Rattle.judge.specs.Judge.{Verdict, lassoCheck, verdict, judgement, judged}
 use Rattle.correctness.proofs.WellFormed.{translation-well-formed}
 use Rattle.demands.specs.Demand.{roomCheck, inputCheck, Decision, decision, concluded, decided}
@@ -34,21 +35,11 @@ fit states transitions initial image work =
 
 -- what 25, 1 to 7, 8 and 9 let pass
 record Passed (rule stem cycle states transitions initial image work : List ℕ) : Type 0 where
-  states-room : 384 ≤ length states
-  transitions-room : 49152 ≤ length transitions
-  initial-room : 192 ≤ length initial
+  tables-room : Long states transitions initial
   image-room : 49746 ≤ length image
   work-room : 12288 ≤ length work
   bytes : Rule.checked rule ≡ fine
   lasso : lassoCheck stem cycle ≡ fine
-
-tables-fine : (s t i : List ℕ) → 384 ≤ length s → 49152 ≤ length t → 192 ≤ length i → tableCheck s t i ≡ fine
-unfolding tableCheck
-tables-fine s t i a b c = rw (le-leb 384 (length s) a, le-leb 49152 (length t) b, le-leb 192 (length i) c)
-
--- a table that is filled is as long as before, or longer
-filled-long : (table bytes : List ℕ) → length table ≤ length (filled table bytes)
-filled-long table bytes = omega (arith, length-append bytes (replicate (length table - length bytes) 0), length-replicate {A = ℕ} (length table - length bytes) 0)
 
 -- ---- the three calls
 
@@ -63,9 +54,7 @@ module _ (rule stem cycle s t i image work : List ℕ) (passes : inputCheck rule
       let three = and-eq-true-iff (leb 192 (length i)) _ .0 (two .1) in
       let four = and-eq-true-iff (leb 49746 (length image)) _ .0 (three .1) in
       record {
-        states-room = leb-true 384 (length s) (one .0);
-        transitions-room = leb-true 49152 (length t) (two .0);
-        initial-room = leb-true 192 (length i) (three .0);
+        tables-room = record { states = leb-true 384 (length s) (one .0); transitions = leb-true 49152 (length t) (two .0); initial = leb-true 192 (length i) (three .0) };
         image-room = leb-true 49746 (length image) (four .0);
         work-room = leb-true 12288 (length work) (four .1);
         bytes = bytes;
@@ -75,7 +64,7 @@ module _ (rule stem cycle s t i image work : List ℕ) (passes : inputCheck rule
   -- translate stores what the translation comes to
   translated-stored : translated rule s t i ≡ stored (translation rule) s t i
   unfolding translated
-  translated-stored = rw (tables-fine s t i (passed .states-room) (passed .transitions-room) (passed .initial-room), passed .bytes)
+  translated-stored = rw (fine-long s t i (passed .tables-room), passed .bytes)
 
   -- the tables that it fills pass the writer's checks, and the image stands at the buffer's start
   image-written : (a : Automaton) → translation rule ≡ accepted a
@@ -83,8 +72,7 @@ module _ (rule stem cycle s t i image work : List ℕ) (passes : inputCheck rule
   unfolding writes
   image-written a e =
       let formed = translation-well-formed rule a e in
-      let long = tables-fine (filled s (stateRecords a)) (filled t (transitionRecords a)) (filled i (initialRecords a))
-      (omega (arith, filled-long s (stateRecords a), passed .states-room)) (omega (arith, filled-long t (transitionRecords a), passed .transitions-room)) (omega (arith, filled-long i (initialRecords a), passed .initial-room)) in
+      let long = fine-long _ _ _ (filled-long s t i (stateRecords a) (transitionRecords a) (initialRecords a) (passed .tables-room)) in
       rw (long, le-leb 49746 (length image) (passed .image-room), counts-fit a formed, tables-read a formed)
 
   module _ (s' t' i' : List ℕ) {told : Result Counts} (translates : outcome told s' t' i' ≡ translated rule s t i) where

@@ -24,7 +24,8 @@ use Rattle.image.specs.Calls.{bufferCheck, written, writes, loaded, reads}
 use Rattle.image.proofs.Before.{not-both}
 use Rattle.image.proofs.Tests.{Small, counts-small}
 use Rattle.image.proofs.Contents.{contents-fine}
-use Rattle.judge.specs.Judge.{lassoCheck, judgeable}
+use Rattle.judge.specs.Judge.{lassoCheck, judgeable, judgedBy, judged}
+use Rattle.demands.specs.Demand.{roomCheck, inputCheck, Decision, concluded, decidedBy, decided}
 
 -- a number that a byte holds, and not 0, ZIMBORALO_ACCEPTED; a place among at most 12,288
 pub record Refusal (number place : ℕ) : Type 0 where
@@ -239,7 +240,30 @@ writes-proper c s t i image =
     go (accepted a) p = accepts
     go (refused number place) p = refuses (p .refusal number place refl)
 
+-- 8 and 9
+lasso-proper : (stem cycle : List ℕ) → Proper (lassoCheck stem cycle)
+unfolding lassoCheck
+lasso-proper stem cycle = search proper
+
 -- 25, 10 to 13, 8 and 9
-pub judgeable-proper : (image stem cycle work : List ℕ) → Proper (judgeable image stem cycle work)
-unfolding judgeable lassoCheck
-judgeable-proper image stem cycle work = search (proper, image-proper) depth 7
+pub judged-proper : (image stem cycle work : List ℕ) → Proper (judged image stem cycle work .answer)
+unfolding judged judgeable
+judged-proper image stem cycle work = go (judgeable image stem cycle work) (search (proper, image-proper, lasso-proper) depth 7)
+  where
+    go : (r : Result Automaton) → Proper r → Proper (judgedBy r stem cycle work .answer)
+    go (accepted a) p = accepts
+    go (refused number place) p = refuses (p .refusal number place refl)
+
+-- 25, 1 to 9 and 20 to 24
+pub decided-proper : (rule stem cycle s t i image work : List ℕ) → Proper (decided rule stem cycle s t i image work .answer)
+unfolding decided inputCheck roomCheck
+decided-proper rule stem cycle s t i image work =
+    first (inputCheck rule stem cycle s t i image work) (concluded (translation rule) stem cycle s t i image work) (search (proper, rule-proper, lasso-proper) depth 7) (second (translation rule) (translation-proper rule))
+  where
+    second : (r : Result Automaton) → Proper r → Proper (concluded r stem cycle s t i image work .answer)
+    second (accepted a) p = accepts
+    second (refused number place) p = refuses (p .refusal number place refl)
+
+    first : (check : Check) (rest : Decision) → Proper check → Proper (rest .answer) → Proper (decidedBy check rest s t i image work .answer)
+    first (accepted u) rest p q = q
+    first (refused number place) rest p q = refuses (p .refusal number place refl)

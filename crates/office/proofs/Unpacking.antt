@@ -2,14 +2,13 @@
 -- refused, and no count, length or place is cut off. Assumes nothing.
 use Prim.Native.Nat.{ℕ, _+_, _*_, _/_, _%_, _^_, _≤_, _<_}
 use mathlib.Core.Path.{_≡_, refl, sym, _∙_, ap, subst, subst₂}
-use mathlib.Core.Logic.{_↔_}
 use mathlib.Core.List.{List}
 use native.Mathlib.Omega.{arith}
 use lib.ListN.{length}
 use Rattle.formula.specs.Result.{Result, accepted, refused, andThen, Check, require}
 use Rattle.formula.specs.Rule
 use Rattle.formula.proofs.Checks.{require-fine}
-use Rattle.automaton.specs.Automaton.{Automaton, AcceptingPass}
+use Rattle.automaton.specs.Automaton.{Automaton}
 use Rattle.automaton.specs.Degeneralized.{translation}
 use Rattle.automaton.specs.Translate.{Counts, counts, tableCheck, stored, unless, translated}
 use Rattle.image.specs.Image.{imageLength}
@@ -21,12 +20,11 @@ use Rattle.image.proofs.Contents.{checks-sized}
 use Rattle.image.proofs.Sizes.{image-size}
 use Rattle.image.proofs.Tables.{counts-back}
 use Rattle.image.proofs.Answers.{writes-of}
-use Rattle.judge.specs.declared.Judged.{Judged}
-use Rattle.judge.specs.declared.Judged.the-variants.{Kept, Broken, Refused}
-use Rattle.judge.specs.Judge.{judgeable, Says}
+use Rattle.judge.specs.Judge.{Verdict, kept, broken, judged}
+use Rattle.demands.specs.Demand.{decided}
 use Rattle.correctness.proofs.WellFormed.{few-together, translation-well-formed}
-use Rattle.office.proofs.Refusals.{Refusal, Proper, translated-proper, reads-proper, writes-proper, judgeable-proper}
-use Rattle.office.specs.Packing.{packRefusal, packThree, packCounts, packLength, packJudged, SaysPacked}
+use Rattle.office.proofs.Refusals.{Refusal, Proper, translated-proper, reads-proper, writes-proper, judged-proper, decided-proper}
+use Rattle.office.specs.Packing.{packRefusal, packThree, packCounts, packLength, packVerdict}
 
 -- ---- the parts of an answer, as the header reads them
 
@@ -130,10 +128,10 @@ pub record CountsRead (packed : ℕ) (c : Counts) : Type 0 where
 abbrev pub LengthRead : (packed n : ℕ) → Type 0
 LengthRead packed n = lengthOf packed ≡ n
 
--- kept, where the automaton has an accepting pass on the lasso, or broken, where it has none
-pub record VerdictRead (stem cycle : List ℕ) (packed : ℕ) (a : Automaton) : Type 0 where
-  pub kept : (keptOf packed ≡ 1) ↔ AcceptingPass a stem cycle
-  pub broken : (keptOf packed ≡ 0) ↔ (AcceptingPass a stem cycle → ⊥)
+-- the verdict: 1 for kept, 0 for broken
+abbrev pub VerdictRead : (packed : ℕ) → Verdict → Type 0
+VerdictRead packed kept = keptOf packed ≡ 1
+VerdictRead packed broken = keptOf packed ≡ 0
 
 -- ---- the packings
 
@@ -185,15 +183,11 @@ unfolding packLength
 length-unpacks (accepted n) p fits = unpacks-accepted _ n (omega arith) (omega (arith, fits n refl))
 length-unpacks (refused number place) p fits = unpacks-refused number place (p .refusal number place refl)
 
-verdict-unpacks : (verdict : Judged) (r : Result Automaton) (stem cycle : List ℕ) → Proper r → Says verdict r stem cycle → Unpacks (VerdictRead stem cycle) (packJudged verdict) r
-unfolding packJudged
-verdict-unpacks Kept (accepted a) stem cycle p pass = unpacks-accepted 256 a refl (record { kept = (λ _. pass, λ _. refl); broken = (λ e. absurd (omega arith), λ never. absurd (never pass)) })
-verdict-unpacks Kept (refused number place) stem cycle p none = absurd none
-verdict-unpacks Broken (accepted a) stem cycle p never = unpacks-accepted 0 a refl (record { kept = (λ e. absurd (omega arith), λ pass. absurd (never pass)); broken = (λ _. never, λ _. refl) })
-verdict-unpacks Broken (refused number place) stem cycle p none = absurd none
-verdict-unpacks (Refused n q) (accepted a) stem cycle p none = absurd none
-verdict-unpacks (Refused n q) (refused number place) stem cycle p same =
-    subst₂ (λ (n q : ℕ). Unpacks (VerdictRead stem cycle) (packRefusal n q) (refused number place)) (sym (same .0)) (sym (same .1)) (unpacks-refused number place (p .refusal number place refl))
+verdict-unpacks : (r : Result Verdict) → Proper r → Unpacks VerdictRead (packVerdict r) r
+unfolding packVerdict
+verdict-unpacks (accepted kept) p = unpacks-accepted 256 kept refl refl
+verdict-unpacks (accepted broken) p = unpacks-accepted 0 broken refl refl
+verdict-unpacks (refused number place) p = unpacks-refused number place (p .refusal number place refl)
 
 -- ---- the calls
 
@@ -209,8 +203,11 @@ read-unpacks image s t i = counts-unpack (reads image s t i .answer) (reads-prop
 pub write-unpacks : (c : Counts) (s t i image : List ℕ) → Unpacks LengthRead (packLength (writes c s t i image .answer)) (writes c s t i image .answer)
 write-unpacks c s t i image = length-unpacks (writes c s t i image .answer) (writes-proper c s t i image) (writes-small c s t i image)
 
--- zimboralo_judge, of any answer that its contract allows
-pub judge-unpacks : (image stem cycle work : List ℕ) (answer : ℕ) → SaysPacked answer (judgeable image stem cycle work) stem cycle
-    → Unpacks (VerdictRead stem cycle) answer (judgeable image stem cycle work)
-judge-unpacks image stem cycle work answer said =
-    rw (said .packed) (verdict-unpacks (said .verdict) (judgeable image stem cycle work) stem cycle (judgeable-proper image stem cycle work) (said .says))
+-- zimboralo_judge
+pub judge-unpacks : (image stem cycle work : List ℕ) → Unpacks VerdictRead (packVerdict (judged image stem cycle work .answer)) (judged image stem cycle work .answer)
+judge-unpacks image stem cycle work = verdict-unpacks (judged image stem cycle work .answer) (judged-proper image stem cycle work)
+
+-- zimboralo_decide
+pub decide-unpacks : (rule stem cycle s t i image work : List ℕ)
+    → Unpacks VerdictRead (packVerdict (decided rule stem cycle s t i image work .answer)) (decided rule stem cycle s t i image work .answer)
+decide-unpacks rule stem cycle s t i image work = verdict-unpacks (decided rule stem cycle s t i image work .answer) (decided-proper rule stem cycle s t i image work)

@@ -1,15 +1,12 @@
 -- An answer as one number of 64 bits. The lowest byte is the refusal's number, 0 where there is none. Above it stands
 -- the refusal's place, or the values: the three counts, the image's length, or 1 for kept and 0 for broken.
 use Prim.Native.Nat.{ℕ, _+_, _*_, _%_, _^_}
-use mathlib.Core.Path.{_≡_}
 use mathlib.Core.List.{List}
 use Rattle.formula.specs.Result.{Result, accepted, refused}
-use Rattle.automaton.specs.Automaton.{Automaton}
 use Rattle.automaton.specs.Translate.{Counts, Outcome}
 use Rattle.image.specs.Calls.{Buffer}
-use Rattle.judge.specs.Judge.{Says}
-use Rattle.judge.specs.declared.Judged.{Judged}
-use Rattle.judge.specs.declared.Judged.the-variants.{Kept, Broken, Refused}
+use Rattle.judge.specs.Judge.{Verdict, kept, broken, Judgement}
+use Rattle.demands.specs.Demand.{Decision}
 
 -- number in bits 0 to 7, place in bits 8 to 39
 abbrev pub packRefusal : (number place : ℕ) → ℕ
@@ -32,10 +29,10 @@ packLength (accepted n) = packSize n
 packLength (refused number place) = packRefusal number place
 
 -- the verdict in bit 8
-unfoldable pub packJudged : Judged → ℕ
-packJudged Kept = 256
-packJudged Broken = 0
-packJudged (Refused number place) = packRefusal number place
+unfoldable pub packVerdict : Result Verdict → ℕ
+packVerdict (accepted kept) = 256
+packVerdict (accepted broken) = 0
+packVerdict (refused number place) = packRefusal number place
 
 -- a packed answer with the three tables afterwards
 pub record PackedTables : Type 0 where
@@ -50,19 +47,33 @@ packedTables a s t i = record { answer = a; states = s; transitions = t; initial
 abbrev pub packOutcome : Outcome → PackedTables
 packOutcome o = packedTables (packCounts (o .answer)) (o .states) (o .transitions) (o .initial)
 
--- a packed answer with the buffer afterwards
-pub record PackedBuffer : Type 0 where
+-- a packed answer with one lent slice afterwards: write's buffer, judge's working bytes
+pub record PackedSlice : Type 0 where
   pub answer : ℕ
+  pub slice : List ℕ
+
+abbrev pub packedSlice : ℕ → List ℕ → PackedSlice
+packedSlice a slice = record { answer = a; slice = slice }
+
+abbrev pub packBuffer : Buffer → PackedSlice
+packBuffer b = packedSlice (packLength (b .answer)) (b .image)
+
+abbrev pub packJudgement : Judgement → PackedSlice
+packJudgement j = packedSlice (packVerdict (j .answer)) (j .work)
+
+-- a packed answer with decide's five buffers afterwards
+pub record PackedDecision : Type 0 where
+  pub answer : ℕ
+  pub states : List ℕ
+  pub transitions : List ℕ
+  pub initial : List ℕ
   pub image : List ℕ
+  pub work : List ℕ
 
-abbrev pub packedBuffer : ℕ → List ℕ → PackedBuffer
-packedBuffer a image = record { answer = a; image = image }
+abbrev pub packedDecision : ℕ → (states transitions initial image work : List ℕ) → PackedDecision
+packedDecision a s t i image work =
+    record { answer = a; states = s; transitions = t; initial = i; image = image; work = work }
 
-abbrev pub packBuffer : Buffer → PackedBuffer
-packBuffer b = packedBuffer (packLength (b .answer)) (b .image)
-
--- a packed answer of judge: the verdict that it packs says what is so of the automaton and the lasso
-pub record SaysPacked (answer : ℕ) (automaton : Result Automaton) (stem cycle : List ℕ) : Type 0 where
-  pub verdict : Judged
-  pub packed : answer ≡ packJudged verdict
-  pub says : Says verdict automaton stem cycle
+abbrev pub packDecision : Decision → PackedDecision
+packDecision d =
+    packedDecision (packVerdict (d .answer)) (d .states) (d .transitions) (d .initial) (d .image) (d .work)

@@ -1,6 +1,7 @@
 // The calls for C: numbers and byte slices, each slice a pointer and a length. An answer is packed into one number.
 use automaton::Translated;
 use automaton::translate;
+use demands::decide;
 use image::Loaded;
 use image::Written;
 use image::read;
@@ -10,8 +11,9 @@ use judge::judge;
 ghost use mathlib.Core.Path.{_≡_};
 ghost use Rattle.automaton.specs.Translate.{answer, translated};
 ghost use Rattle.image.specs.Calls.{readAnswer, reads, writeAnswer, writes, countsOf};
-ghost use Rattle.judge.specs.Judge.{judgeable, workAfter};
-ghost use Rattle.office.specs.Packing.{packRefusal, packCounts, packLength, packJudged, packThree, packSize, packedTables, packOutcome, packedBuffer, packBuffer, SaysPacked};
+ghost use Rattle.judge.specs.Judge.{judgeAnswer, judged};
+ghost use Rattle.demands.specs.Demand.{decided};
+ghost use Rattle.office.specs.Packing.{packRefusal, packCounts, packLength, packVerdict, packThree, packSize, packedTables, packOutcome, packedSlice, packBuffer, packJudgement, packedDecision, packDecision};
 
 // A refusal's number and place.
 fn pack_refusal(number: u8, place: usize) -> u64
@@ -70,7 +72,7 @@ fn pack_written(written: Written) -> u64
 
 // The answer of judge: 1 above the lowest byte for kept, 0 for broken, or the refusal.
 fn pack_judged(judged: Judged) -> u64
-    ensures { λ r. ⌜ r ≡ packJudged judged ⌝ }
+    ensures { λ r. ⌜ r ≡ packVerdict (judgeAnswer judged) ⌝ }
 {
     match judged {
         Judged::Kept => 256,
@@ -103,7 +105,7 @@ pub extern "C" fn zimboralo_write(
     initial_count: usize,
     image: &mut [u8],
 ) -> u64
-    ensures { λ r. ⌜ packedBuffer r (now (image .exit)) ≡ packBuffer (writes (countsOf «state_count» «transition_count» «initial_count») (now (states .entry)) (now (transitions .entry)) (now (initial .entry)) (now (image .entry))) ⌝ }
+    ensures { λ r. ⌜ packedSlice r (now (image .exit)) ≡ packBuffer (writes (countsOf «state_count» «transition_count» «initial_count») (now (states .entry)) (now (transitions .entry)) (now (initial .entry)) (now (image .entry))) ⌝ }
 {
     pack_written(write(
         states,
@@ -132,8 +134,24 @@ pub extern "C" fn zimboralo_read(
 // A lasso, stem and cycle, against an image. The verdict, or a refusal.
 #[no_mangle]
 pub extern "C" fn zimboralo_judge(image: &[u8], stem: &[u8], cycle: &[u8], work: &mut [u8]) -> u64
-    ensures { λ r. ⌜ SaysPacked r (judgeable (now (image .entry)) (now (stem .entry)) (now (cycle .entry)) (now (work .entry))) (now (stem .entry)) (now (cycle .entry)) ⌝ }
-    ensures { λ _. ⌜ now (work .exit) ≡ workAfter (judgeable (now (image .entry)) (now (stem .entry)) (now (cycle .entry)) (now (work .entry))) (now (work .entry)) ⌝ }
+    ensures { λ r. ⌜ packedSlice r (now (work .exit)) ≡ packJudgement (judged (now (image .entry)) (now (stem .entry)) (now (cycle .entry)) (now (work .entry))) ⌝ }
 {
     pack_judged(judge(image, stem, cycle, work))
+}
+
+// A lasso against a rule: its automaton in the three tables, its image, and the verdict; or a refusal.
+#[no_mangle]
+pub extern "C" fn zimboralo_decide(
+    rule: &[u8],
+    stem: &[u8],
+    cycle: &[u8],
+    states: &mut [u8],
+    transitions: &mut [u8],
+    initial: &mut [u8],
+    image: &mut [u8],
+    work: &mut [u8],
+) -> u64
+    ensures { λ r. ⌜ packedDecision r (now (states .exit)) (now (transitions .exit)) (now (initial .exit)) (now (image .exit)) (now (work .exit)) ≡ packDecision (decided (now (rule .entry)) (now (stem .entry)) (now (cycle .entry)) (now (states .entry)) (now (transitions .entry)) (now (initial .entry)) (now (image .entry)) (now (work .entry))) ⌝ }
+{
+    pack_judged(decide(rule, stem, cycle, states, transitions, initial, image, work))
 }

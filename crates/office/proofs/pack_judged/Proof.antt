@@ -1,7 +1,9 @@
--- `office::pack_judged` meets its contract: each arm returns what `packJudged` gives of the variant that the match found.
+-- `office::pack_judged` meets its contract: each arm returns what `packVerdict` gives of the variant that the match found.
 -- Assumes nothing.
 use mathlib.Core.Path.{sym, ap, _∙_}
-use Rattle.office.specs.Packing.{packJudged}
+use Rattle.judge.specs.declared.Judged.{Judged}
+use Rattle.judge.specs.Judge.{judgeAnswer}
+use Rattle.office.specs.Packing.{packVerdict}
 use borrow.Author.Needs.{needs}
 use Rattle.office.proofs.pack_judged.Statement.{statement}
 use Rattle.office.proofs.pack_judged.Tie as tie
@@ -19,16 +21,16 @@ pack-refusal-requires : tie.Need-pack-refusal-requires
 pack-refusal-requires c κs = search needs
 
 returns : tie.Need-returns
-unfolding packJudged
-returns c = sym (ap packJudged (c .enum-told .given .1))
+unfolding packVerdict
+returns c = sym (ap (λ (j : Judged). packVerdict (judgeAnswer j)) (c .enum-told .given .1))
 
 returns-2 : tie.Need-returns-2
-unfolding packJudged
-returns-2 c = sym (ap packJudged (c .enum-told2 .given .1))
+unfolding packVerdict
+returns-2 c = sym (ap (λ (j : Judged). packVerdict (judgeAnswer j)) (c .enum-told2 .given .1))
 
 returns-3 : tie.Need-returns-3
-unfolding packJudged
-returns-3 c = c .pack-refusal .ensures ∙ sym (ap packJudged (c .before .before .judged .given .1))
+unfolding packVerdict
+returns-3 c = c .pack-refusal .ensures ∙ sym (ap (λ (j : Judged). packVerdict (judgeAnswer j)) (c .before .before .judged .given .1))
 
 pub pack-judged-spec : {M : Type 1} → statement M
 pack-judged-spec =
