@@ -65,6 +65,15 @@ uint64_t zimboralo_read(const uint8_t *image, size_t image_len, uint8_t *states,
 uint64_t zimboralo_judge(const uint8_t *image, size_t image_len, const uint8_t *stem, size_t stem_len,
                          const uint8_t *cycle, size_t cycle_len, uint8_t *work, size_t work_len);
 
+/* A lasso against a rule, in one call: translate, write and judge in a row. The verdict, or the first refusal of 25, 1 to
+ * 7, 8, 9 and 20 to 24 in this order. By 25 and 1 to 9 every buffer is as it was; by 20 to 24 the tables are zero and the
+ * rest is as it was; with a verdict the tables have the automaton, the buffer begins with its image, and the working
+ * bytes are zero. */
+uint64_t zimboralo_decide(const uint8_t *rule, size_t rule_len, const uint8_t *stem, size_t stem_len,
+                          const uint8_t *cycle, size_t cycle_len, uint8_t *states, size_t states_len,
+                          uint8_t *transitions, size_t transitions_len, uint8_t *initial, size_t initial_len,
+                          uint8_t *image, size_t image_len, uint8_t *work, size_t work_len);
+
 /* The parts of an answer. Of a refusal: its number and place. */
 static inline unsigned zimboralo_number(uint64_t answer) { return (unsigned)(answer & 0xff); }
 static inline uint32_t zimboralo_place(uint64_t answer) { return (uint32_t)(answer >> 8); }
@@ -74,7 +83,7 @@ static inline unsigned zimboralo_states(uint64_t answer) { return (unsigned)(ans
 static inline unsigned zimboralo_transitions(uint64_t answer) { return (unsigned)(answer >> 16 & 0xffff); }
 static inline unsigned zimboralo_initial(uint64_t answer) { return (unsigned)(answer >> 32 & 0xff); }
 
-/* Of an accepted write: the image's length. Of an accepted judge: whether the lasso is kept. */
+/* Of an accepted write: the image's length. Of an accepted judge or decide: whether the lasso is kept. */
 static inline size_t zimboralo_length(uint64_t answer) { return (size_t)(answer >> 8 & 0xffffffff); }
 static inline int zimboralo_kept(uint64_t answer) { return (int)(answer >> 8 & 1); }
 

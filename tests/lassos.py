@@ -90,3 +90,14 @@ def any_tables(rng):
     elif way < .6:
         counts[rng.randrange(3)] = rng.choice((0, 1, 96, 97, 12288, 12289, rng.randrange(70000)))
     return tuple(counts), [bytes(t) for t in tables]
+
+
+NO_STATES = second.write(second.Watcher([], []))
+
+
+def decided(rule, stem, cycle):
+    """What decide answers, by the calls of the second translator: 1 to 7 of the rule, 8 and 9 of the lasso, 20 to 24 of the
+    rule, then the verdict."""
+    second.accepted_form(rule)
+    second.judge(NO_STATES, stem, cycle)
+    return second.judge(second.write(second.translate(rule)), stem, cycle)

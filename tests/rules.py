@@ -146,6 +146,12 @@ def well_formed(rng):
     return second.random_rule(rng, rng.randrange(1, 18), marks=rng.choice((2, 4, 8)), kinds=rng.choice(FLAVOURS))
 
 
+def any_rule(rng):
+    """A well-formed rule, some at the limits, or a damaged one."""
+    rule = rng.choice(LIMITS)[1] if rng.random() < .05 else well_formed(rng)
+    return damaged(rng, rule) if rng.random() < .3 else rule
+
+
 def random_rules(seed, count):
     """Well-formed rules of every size and flavour, and as many damaged ones."""
     rng = random.Random(seed)

@@ -80,6 +80,72 @@ static uint64_t read_image(const uint8_t *image, size_t length, int shorter)
                           size_of(TRANSITIONS, shorter), lent(INITIAL), size_of(INITIAL, shorter));
 }
 
+static uint64_t decide(const uint8_t *rule, size_t length, const uint8_t *cycle, size_t letters, int shorter)
+{
+    return zimboralo_decide(rule, length, cycle, 0, cycle, letters, lent(STATES), size_of(STATES, shorter),
+                            lent(TRANSITIONS), size_of(TRANSITIONS, shorter), lent(INITIAL), size_of(INITIAL, shorter),
+                            lent(IMAGE), size_of(IMAGE, shorter), lent(WORK), size_of(WORK, shorter));
+}
+
+/* Whether n bytes of a buffer are zero. */
+static int zero(enum buffer b, size_t n)
+{
+    int ok = 1;
+    for (size_t i = 0; i < n; i++)
+        ok = ok && lent(b)[i] == 0;
+    return ok;
+}
+
+/* decide leaves in the five buffers what translate, write and judge leave; each buffer a byte shorter is 25. */
+static void in_a_row(const uint8_t *rule, size_t length)
+{
+    static uint8_t after[BUFFERS][ZIMBORALO_IMAGE_BYTES + 2 * GUARD];
+    const uint8_t cycle[] = {1, 0, 255};
+    refill();
+    uint64_t written = write_image(translate(rule, length, BUFFERS), BUFFERS);
+    static uint8_t copy[ZIMBORALO_IMAGE_BYTES];
+    memcpy(copy, lent(IMAGE), zimboralo_length(written));
+    uint64_t judged = zimboralo_judge(copy, zimboralo_length(written), cycle, 0, cycle, sizeof cycle, lent(WORK),
+                                      SIZES[WORK]);
+    for (int b = 0; b < BUFFERS; b++)
+        memcpy(after[b], blocks[b], SIZES[b] + 2 * GUARD);
+    refill();
+    expect(decide(rule, length, cycle, sizeof cycle, BUFFERS) == judged, "decide and judge differ", "verdict");
+    for (int b = 0; b < BUFFERS; b++)
+        expect(memcmp(after[b], blocks[b], SIZES[b] + 2 * GUARD) == 0, "decide and the calls differ", NAMES[b]);
+    for (int shorter = 0; shorter < BUFFERS; shorter++) {
+        refill();
+        expect(decide(rule, length, cycle, sizeof cycle, shorter) == ZIMBORALO_TOO_SHORT, "decide took a short",
+               NAMES[shorter]);
+        expect_untouched("decide touched a buffer");
+    }
+}
+
+/* The refusals of decide: 1 to 9 touch nothing, 8 comes after the rule's own and before 24, and 24 leaves zero tables. */
+static void refused(void)
+{
+    /* eventually 0 to 4 and next next 5: 97 pairs */
+    static const uint8_t pairs[] = {1, 0, 0, 2, 0, 0, 7, 0, 1, 2, 1, 0, 7, 0, 3, 2, 2, 0, 7, 0, 5, 2, 3, 0, 7, 0,
+        7, 2, 4, 0, 7, 0, 9, 2, 5, 0, 6, 11, 0, 6, 12, 0, 4, 2, 4, 4, 14, 6, 4, 15, 8,
+        4, 16, 10, 4, 17, 13};
+    static const uint8_t unknown[] = {9, 0, 0};
+    const uint8_t cycle[129] = {0};
+    refill();
+    expect(decide(unknown, sizeof unknown, cycle, 0, BUFFERS) == ZIMBORALO_UNKNOWN_KIND, "decide took", "a kind");
+    expect(decide(pairs, sizeof pairs, cycle, 0, BUFFERS) == ZIMBORALO_EMPTY_CYCLE, "decide took", "an empty cycle");
+    expect(decide(pairs, sizeof pairs, cycle, 129, BUFFERS) == ZIMBORALO_PLAN_TOO_LONG, "decide took", "129 letters");
+    expect_untouched("a refusal touched a buffer");
+    expect(zimboralo_number(decide(pairs, sizeof pairs, cycle, 1, BUFFERS)) == ZIMBORALO_TOO_MANY_PAIRS, "decide took",
+           "97 pairs");
+    expect_guards("decide touched a guard");
+    for (int b = STATES; b <= INITIAL; b++)
+        expect(zero(b, SIZES[b]), "not zero after 24", NAMES[b]);
+    for (int b = STATES; b <= INITIAL; b++)
+        for (size_t i = 0; i < SIZES[b]; i++)
+            lent(b)[i] = pattern(GUARD + i);
+    expect_untouched("24 touched a buffer that is no table");
+}
+
 static void whole(const uint8_t *rule, size_t length)
 {
     static uint8_t copy[ZIMBORALO_IMAGE_BYTES];
@@ -131,6 +197,9 @@ int main(void)
             return 1;
     whole(always_eventually, sizeof always_eventually);
     whole(never, sizeof never);
+    in_a_row(always_eventually, sizeof always_eventually);
+    in_a_row(never, sizeof never);
+    refused();
     printf("guards: %d looked at, %d wrong\n", looked, wrong);
     for (int b = 0; b < BUFFERS; b++)
         free(blocks[b]);

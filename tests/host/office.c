@@ -82,16 +82,6 @@ static const char *words_of(unsigned number)
     return number < sizeof words / sizeof *words && words[number] ? words[number] : "unknown refusal";
 }
 
-static uint64_t checked(uint64_t answer)
-{
-    if (zimboralo_number(answer) != ZIMBORALO_ACCEPTED) {
-        printf("refused %u place %u: %s\n", zimboralo_number(answer), zimboralo_place(answer),
-               words_of(zimboralo_number(answer)));
-        exit(2);
-    }
-    return answer;
-}
-
 int main(int count, char **words)
 {
     static uint8_t states[ZIMBORALO_STATES_BYTES], transitions[ZIMBORALO_TRANSITIONS_BYTES],
@@ -99,19 +89,17 @@ int main(int count, char **words)
     if (count != 4)
         stop("usage", "office RULE STEM CYCLE");
     struct bytes rule = from_word(words[1]), stem = from_word(words[2]), cycle = from_word(words[3]);
-    uint64_t made = checked(zimboralo_translate(rule.at, rule.length, states, sizeof states, transitions,
-                                                sizeof transitions, initial, sizeof initial));
-    printf("automaton: %u states, %u transitions, %u initial\n", zimboralo_states(made), zimboralo_transitions(made),
-           zimboralo_initial(made));
-    uint64_t written = checked(zimboralo_write(states, sizeof states, zimboralo_states(made), transitions,
-                                               sizeof transitions, zimboralo_transitions(made), initial,
-                                               sizeof initial, zimboralo_initial(made), image, sizeof image));
-    printf("image: %zu bytes\n", zimboralo_length(written));
-    uint64_t verdict = checked(zimboralo_judge(image, zimboralo_length(written), stem.at, stem.length, cycle.at,
-                                               cycle.length, work, sizeof work));
-    puts(zimboralo_kept(verdict) ? "kept" : "broken");
+    uint64_t answer = zimboralo_decide(rule.at, rule.length, stem.at, stem.length, cycle.at, cycle.length, states,
+                                       sizeof states, transitions, sizeof transitions, initial, sizeof initial, image,
+                                       sizeof image, work, sizeof work);
     free(rule.at);
     free(stem.at);
     free(cycle.at);
-    return zimboralo_kept(verdict) ? 0 : 1;
+    if (zimboralo_number(answer) != ZIMBORALO_ACCEPTED) {
+        printf("refused %u place %u: %s\n", zimboralo_number(answer), zimboralo_place(answer),
+               words_of(zimboralo_number(answer)));
+        return 2;
+    }
+    puts(zimboralo_kept(answer) ? "kept" : "broken");
+    return zimboralo_kept(answer) ? 0 : 1;
 }

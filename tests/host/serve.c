@@ -5,6 +5,7 @@
  *     J image stem cycle       `kept`, `broken` or the refusal
  *     R image                  `same` if read and then written it is the same bytes, `other` if not, or the refusal
  *     W counts and three tables   the image's bytes, or the refusal; the counts are three numbers of four bytes
+ *     D rule stem cycle        as J, of deciding in one call; `other` where a buffer is not as the calls leave it
  *
  * One line each. It ends where the input does. */
 #include <stdio.h>
@@ -113,6 +114,47 @@ static void write_tables(void)
     free(first);
 }
 
+/* The five buffers that decide fills. */
+struct lent {
+    uint8_t states[ZIMBORALO_STATES_BYTES], transitions[ZIMBORALO_TRANSITIONS_BYTES], initial[ZIMBORALO_INITIAL_BYTES],
+        image[ZIMBORALO_IMAGE_BYTES], work[ZIMBORALO_WORK_BYTES];
+};
+
+/* The buffers as translate, write and judge leave them, where the answer is neither 25 nor 1 to 9. */
+static void in_a_row(struct lent *b, const uint8_t *rule, size_t n)
+{
+    uint64_t made = zimboralo_translate(rule, n, b->states, sizeof b->states, b->transitions, sizeof b->transitions,
+                                        b->initial, sizeof b->initial);
+    if (zimboralo_number(made) != ZIMBORALO_ACCEPTED)
+        return;
+    zimboralo_write(b->states, sizeof b->states, zimboralo_states(made), b->transitions, sizeof b->transitions,
+                    zimboralo_transitions(made), b->initial, sizeof b->initial, zimboralo_initial(made), b->image,
+                    sizeof b->image);
+    memset(b->work, 0, sizeof b->work);
+}
+
+static void decide(void)
+{
+    static struct lent here, want;
+    size_t n, s, c;
+    uint8_t *rule = slice(&n), *stem = slice(&s), *cycle = slice(&c);
+    memset(&here, 0xa5, sizeof here);
+    memset(&want, 0xa5, sizeof want);
+    uint64_t answer = zimboralo_decide(rule, n, stem, s, cycle, c, here.states, sizeof here.states, here.transitions,
+                                       sizeof here.transitions, here.initial, sizeof here.initial, here.image,
+                                       sizeof here.image, here.work, sizeof here.work);
+    unsigned number = zimboralo_number(answer);
+    if (number == ZIMBORALO_ACCEPTED || number >= ZIMBORALO_TOO_MANY_TERMS)
+        in_a_row(&want, rule, n);
+    if (memcmp(&here, &want, sizeof here) != 0)
+        puts("other");
+    else if (!refused(answer))
+        puts(zimboralo_kept(answer) ? "kept" : "broken");
+    free(rule);
+    free(stem);
+    free(cycle);
+}
+
 int main(void)
 {
     for (int letter; (letter = getchar()) != EOF;) {
@@ -124,6 +166,8 @@ int main(void)
             read_back();
         else if (letter == 'W')
             write_tables();
+        else if (letter == 'D')
+            decide();
         else
             return 1;
     }
