@@ -44,10 +44,12 @@ pub record Targeting (states terms : List ℕ) (m : ℕ) (targets₀ targets : L
   pub size : length targets ≡ length targets₀
   pub numbered : Targets states terms i targets
 
-pub target-steps : (states terms : List ℕ) (m : ℕ) (targets₀ targets : List ℕ) (i k : ℕ) → m ≤ length targets₀ → i < m → Targeting states terms m targets₀ targets i → k ≡ find eqb (getD terms i 0 / 65536) states
-    → Targeting states terms m targets₀ (set targets i k) (i + 1)
-target-steps states terms m targets₀ targets i k le lt inv e = record {
-  within = omega arith;
-  size = length-set targets i k ∙ inv .size;
-  numbered = below-more _ i (λ j l. getD-set-other targets i j k 0 (λ e. omega arith) ∙ inv .numbered j l) (getD-set-same targets i k 0 (omega (arith, inv .size)) ∙ e);
-}
+pub target-steps : (states terms : List ℕ) (m : ℕ) (targets₀ targets after : List ℕ) (i k : ℕ) → m ≤ length targets₀ → Targeting states terms m targets₀ targets i → i < m → k ≡ find eqb (getD terms i 0 / 65536) states
+    → after ≡ set targets i k → Targeting states terms m targets₀ after (i + 1)
+target-steps states terms m targets₀ targets after i k le inv lt e put =
+    rw put
+    record {
+      within = omega arith;
+      size = length-set targets i k ∙ inv .size;
+      numbered = below-more _ i (λ j l. getD-set-other targets i j k 0 (λ e. omega arith) ∙ inv .numbered j l) (getD-set-same targets i k 0 (omega (arith, inv .size)) ∙ e);
+    }

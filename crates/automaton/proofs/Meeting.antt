@@ -8,7 +8,7 @@ use lib.ListN.{length, getD, take}
 use lib.Dec.{eqb}
 use Rattle.formula.specs.Result.{Result, accepted, refused, fine}
 use Rattle.generalized.specs.declared.Met.{Met}
-use Rattle.generalized.specs.declared.Met.the-variants.{Number, Full}
+use Rattle.generalized.specs.declared.Met.the-variants.{Count, Full}
 use Rattle.generalized.specs.Explore.{meet}
 use Rattle.generalized.specs.Memory.{Meets}
 use Rattle.generalized.proofs.Exploring.{all-full, all-next, all-met}
@@ -58,22 +58,22 @@ module _ (targets marks : List ℕ) (r level from end place : ℕ) (all : (count
     inv .fits,
   )
 
-  module _ (lt : i < end) (x : ℕ) (is : x ≡ targetN targets marks r level i) (met : Met) (after : List ℕ) (meets : Meets 24 place x (meet eqb (length pairs) 24 place x (take k pairs)) met after) where
+  module _ (lt : i < end) (x : ℕ) (is : x ≡ targetN targets marks r level i) (met : Met) (after : List ℕ) (meets : Meets 24 place (meet eqb (length pairs) 24 place x (take k pairs)) met after) where
     left-is : (count : ℕ) → meetAllN place (count + (i - from)) (x ∷ map (targetN targets marks r level) (range (end - (i + 1)) (i + 1))) (take k pairs) ≡ all count
     left-is count = rw (is, ← inv .left count, range-next end i lt)
 
     pub meeting-full : met ≡ Full → (count : ℕ) → all count ≡ refused 24 place
     meeting-full e count = sym (left-is count) ∙ all-full eqb 96 24 (λ _ _. fine) place _ _ (count + (i - from)) (take k pairs) refl (rw (e, inv .size) at meets)
 
-    pub meeting-steps : {number more : ℕ} → met ≡ Number number more → length after ≡ length pairs → Meeting targets marks r level from end place all after more (i + 1)
-    meeting-steps {number} {more} e same =
-        let m : Meets 24 place x (meet eqb 96 24 place x (take k pairs)) (Number number more) after = rw (e, inv .size) at meets in
+    pub meeting-steps : {more : ℕ} → met ≡ Count more → length after ≡ length pairs → Meeting targets marks r level from end place all after more (i + 1)
+    meeting-steps {more} e same =
+        let m : Meets 24 place (meet eqb 96 24 place x (take k pairs)) (Count more) after = rw (e, inv .size) at meets in
         record {
           inside = inv .inside;
           leads = inv .leads;
           begun = omega (arith, inv .begun);
           size = same ∙ inv .size;
-          fits = omega (arith, m .2, inv .size);
+          fits = omega (arith, m .1, inv .size);
           left = λ count.
               let next : count + (i + 1 - from) ≡ suc (count + (i - from)) = omega (arith, inv .begun) in
               rw next (sym (all-next eqb 96 24 (λ _ _. fine) place _ _ (count + (i - from)) (take k pairs) refl (m .0)) ∙ left-is count);

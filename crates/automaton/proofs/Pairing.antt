@@ -9,6 +9,7 @@ use lib.Seq.{getD-take, length-take-le}
 use lib.Dec.{eqb}
 use Rattle.formula.specs.Result.{Result, accepted, fine}
 use Rattle.generalized.proofs.Exploring.{explore-next, explore-refused, explore-ends}
+use Rattle.automaton.specs.declared.State.{State}
 use Rattle.automaton.specs.declared.Paired.{Paired}
 use Rattle.automaton.specs.declared.Paired.the-variants.{Count, Full}
 use Rattle.automaton.specs.Memory.{range, rowStart, rowCount, targetN, targetsN, meetAllN, exploreN, All, Within, Ends, Rows, Pairs}
@@ -57,7 +58,7 @@ module _ (ends targets marks : List ℕ) (r : ℕ) (all : Result (List ℕ)) (pa
     now-is : Pairs (meetAllN place (inv .count) (targetsN ends targets marks r (getD (take k pairs) place 0)) (take k pairs)) met after
     now-is = rw (getD-take k pairs place 0 lt) (meets (inv .count))
 
-    pub pairing-full : {at : ℕ} → met ≡ Full at → Pairs all met after
+    pub pairing-full : {at : State} → met ≡ Full at → Pairs all met after
     pairing-full e =
         rw (e, ← inv .left, fuel) (explore-refused eqb 96 24 (λ _ _. fine) 0 (targetsN ends targets marks r) (λ _ _. fine) (96 - suc place) place (inv .count) (take k pairs) inside (rw e at now-is))
 

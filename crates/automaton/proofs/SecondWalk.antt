@@ -23,6 +23,7 @@ use Rattle.generalized.specs.Explore.{find}
 use Rattle.generalized.specs.Memory.{allTransitions, Walks}
 use Rattle.acceptance.specs.Acceptance.{untilCount}
 use Rattle.acceptance.specs.Marks.{Marks}
+use Rattle.automaton.specs.declared.State as Number
 use Rattle.automaton.specs.declared.Paired.{Paired}
 use Rattle.automaton.specs.declared.Paired.the-variants.{Count, Full}
 use Rattle.automaton.specs.Automaton.{Transition, State, Automaton}
@@ -283,7 +284,7 @@ module _ {rule states terms ends : List ℕ} {n m : ℕ} {targets marks : List �
     explored-is : Pairs (exploreN ends targets marks (untilCount rule) 96 0 0 codes₀) met pairs
     explored-is = rw (← b .levels, ← started) explored
 
-    pub full-is : {place : ℕ} → met ≡ Full place → (s t i : List ℕ) → Blank s t i → outcome (refused 24 place) s t i ≡ stored (secondWalk rule (take n states)) s t i
+    pub full-is : {at : Number.State} → met ≡ Full at → (s t i : List ℕ) → Blank s t i → outcome (refused 24 (at .0)) s t i ≡ stored (secondWalk rule (take n states)) s t i
     full-is e s t i blank =
         rw (walk-refused rule (b .passed) states terms ends n m (b .walked) (b .states-size) targets marks (b .numbered) all-marked (b .ends-size) (rw e at explored-is)) (stored-blank blank)
 

@@ -6,7 +6,7 @@ use Prim.Native.Nat.{ℕ, zero, suc, _+_, _-_, _*_, _/_, _%_, _≤_, _<_}
 use native.Mathlib.Numerals.{add-one}
 use native.Mathlib.Omega.{arith}
 use lib.ListN.{length, getD, take, length-append}
-use lib.Seq.{sets, take-suc, take-all, length-take-le, take-length}
+use lib.Seq.{sets, take-suc, take-all, length-take-le}
 use lib.Dec.{eqb}
 use Rattle.generalized.specs.Explore.{find}
 use Rattle.automaton.specs.Degeneralized.{numbers}
@@ -157,9 +157,9 @@ module _ (ends targets marks : List ℕ) (r : ℕ) (terms pairs : List ℕ) (pla
       }
 
 module _ (targets marks : List ℕ) (r : ℕ) (terms pairs : List ℕ) (level from end k : ℕ) (before table : List ℕ) (next i : ℕ) (inv : Writing targets marks r terms pairs level from end k before table next i)
-    (lt : i < end) (room : k * 4 + 512 ≤ length before) (x number : ℕ) (ex : x ≡ targetN targets marks r level i) (en : number ≡ find eqb x (take (length pairs) pairs)) where
+    (lt : i < end) (room : k * 4 + 512 ≤ length before) (x number : ℕ) (ex : x ≡ targetN targets marks r level i) (en : number ≡ find eqb x pairs) where
   number-is : number ≡ find eqb (targetN targets marks r level i) pairs
-  number-is = en ∙ rw (take-length pairs, ex)
+  number-is = en ∙ rw ex
 
   pub number-fits : length pairs ≤ 96 → number < 65536
   number-fits le = omega (arith, number-is, find-most (targetN targets marks r level i) pairs)

@@ -117,10 +117,10 @@ pub record Rows (ends targets marks : List ℕ) (r : ℕ) (codes : List ℕ) : T
 abbrev pub Targets : (states terms : List ℕ) (m : ℕ) (targets : List ℕ) → Type 0
 Targets states terms m targets = (i : ℕ) → i < m → getD targets i 0 ≡ find eqb (getD terms i 0 / 65536) states
 
--- pairs met: how many, or that there is one too many
+-- pairs met: how many, or that there is one too many, and the pair being walked
 abbrev pub Pairs : (met : Result (List ℕ)) → Paired → (pairs : List ℕ) → Type 0
 Pairs met (Count n) pairs = (met ≡ accepted (take n pairs)) × (n ≤ 96)
-Pairs met (Full place) pairs = met ≡ refused 24 place
+Pairs met (Full pair) pairs = met ≡ refused 24 (pair .0)
 
 -- a table that has bytes, and zeros after them
 pub record Filled (table bytes : List ℕ) : Type 0 where

@@ -7,14 +7,16 @@ use generalized::Walked;
 ghost use mathlib.Core.Path.{_≡_};
 ghost use mathlib.Core.List.{[], map};
 ghost use Prim.Native.Nat.{ℕ, _+_, _-_, _*_, _/_, _%_, _<_, _≤_};
-ghost use lib.ListN.{length, getD, take, replicate};
+ghost use lib.ListN.{length, getD, take, set, replicate};
 ghost use lib.Seq.{sets};
+ghost use lib.Dec.{eqb};
 ghost use Rattle.formula.specs.Result.{fine};
 ghost use Rattle.formula.specs.Rule;
 ghost use Rattle.formula.specs.Formula.{formula};
 ghost use Rattle.term.specs.Term.{cover};
 ghost use Rattle.term.specs.Size.{checked};
 ghost use Rattle.generalized.specs.declared.Walked.the-variants.{Counts};
+ghost use Rattle.generalized.specs.Explore.{find};
 ghost use Rattle.generalized.specs.Memory.{Walks};
 ghost use Rattle.automaton.specs.Degeneralized.{numbers, translation};
 ghost use Rattle.automaton.specs.Records.{records, twoBytes};
@@ -50,10 +52,10 @@ pub enum Translated {
     Refused(u8, usize),
 }
 
-// What the second walk comes to: how many pairs, or that there is one too many, and the place of the pair being walked.
+// What the second walk comes to: how many pairs, or that there is one too many, and the pair being walked.
 enum Paired {
     Count(usize),
-    Full(usize),
+    Full(State),
 }
 
 // All of a slice set to 0.
@@ -134,12 +136,35 @@ fn row_end(ends: &[usize], state: GeneralizedState) -> usize
     ends[s]
 }
 
+// The first walk's transition i leads to the state. The table holds plain numbers; they go in and come out by their type.
+fn put_target(targets: &mut [usize], i: usize, state: GeneralizedState)
+    requires { ⌜ i < length (now targets) ⌝ }
+    ensures { λ _. ⌜ now (targets .exit) ≡ set (now (targets .entry)) i (state .0) ⌝ }
+{
+    targets[i] = state.0;
+}
+
+// The state to which it leads.
+fn target_state(targets: &[usize], i: usize) -> GeneralizedState
+    requires { ⌜ i < length (now targets) ⌝ }
+    ensures { λ s. ⌜ s .0 ≡ getD (now (targets .entry)) i 0 ⌝ }
+{
+    GeneralizedState(targets[i])
+}
+
+// The number of a pair among the pairs.
+fn pair_number(pairs: &[u64], code: u64) -> State
+    ensures { λ s. ⌜ s .0 ≡ find eqb code (now (pairs .entry)) ⌝ }
+{
+    State(generalized::find(pairs, pairs.len(), code))
+}
+
 // The code of the pair to which transition i leads from a level.
 fn target(targets: &[usize], marks: &[u8], i: usize, r: usize, level: usize) -> u64
     requires { ⌜ (i < length (now targets)) × (getD (now targets) i 0 < 128) × (length (now marks) ≡ 8192) × (i < 1024) × (r ≤ 8) ⌝ }
     ensures { λ c. ⌜ c ≡ targetN (now (targets .entry)) (now (marks .entry)) r level i ⌝ }
 {
-    code_of(GeneralizedState(targets[i]), next_level(marks, i, r, level))
+    code_of(target_state(targets, i), next_level(marks, i, r, level))
 }
 
 // The state to which each of the m transitions leads: the number of its obligations among those of the n states.
@@ -149,7 +174,8 @@ fn number_targets(states: &[u64], n: usize, terms: &[u64], m: usize, targets: &m
 {
     let mut i = 0;
     while i < m {
-        targets[i] = generalized::find(states, n, terms[i] / 65536);
+        let state = generalized::state_number(states, n, terms[i] / 65536);
+        put_target(targets, i, state);
         i += 1;
     }
 }
@@ -187,8 +213,8 @@ fn meet_row(
     let mut i = row_start(ends, state_of(code));
     while i < end {
         let met = generalized::meet(pairs, k, target(targets, marks, i, r, level));
-        let Met::Number(_, more) = met else {
-            return Paired::Full(place);
+        let Met::Count(more) = met else {
+            return Paired::Full(pair);
         };
         k = more;
         i += 1;
@@ -209,14 +235,14 @@ fn explore_pairs(
     ensures { λ met. ⌜ Pairs (exploreN (now (ends .entry)) (now (targets .entry)) (now (marks .entry)) r 96 0 0 (take n (now (pairs .entry)))) met (now (pairs .exit)) ⌝ }
 {
     let mut k = n;
-    let mut place = 0;
-    while place < k {
-        let met = meet_row(ends, targets, marks, r, pairs, k, State(place));
+    let mut pair = State(0);
+    while pair.0 < k {
+        let met = meet_row(ends, targets, marks, r, pairs, k, pair);
         let Paired::Count(more) = met else {
             return met;
         };
         k = more;
-        place += 1;
+        pair = State(pair.0 + 1);
     }
     Paired::Count(k)
 }
@@ -252,18 +278,27 @@ fn put_transition(table: &mut [u8], k: usize, term: u64, target: State)
     put_number(table, at + 2, target.0);
 }
 
+// Entry i of the initial states.
+fn put_initial(table: &mut [u8], i: usize, state: State)
+    requires { ⌜ (i * 2 + 2 ≤ length (now table)) × (state .0 < 65536) ⌝ }
+    ensures { λ _. ⌜ now (table .exit) ≡ sets (now (table .entry)) (i * 2) (twoBytes (state .0)) ⌝ }
+{
+    put_number(table, i * 2, state.0);
+}
+
 // The records of all pairs, as states of the automaton.
 fn write_states(table: &mut [u8], ends: &[usize], r: usize, pairs: &[u64])
     requires { ⌜ Filled (now table) [] × Listed (now ends) (now pairs) × (length (now pairs) * 4 ≤ length (now table)) ⌝ }
     ensures { λ _. ⌜ Filled (now (table .exit)) (records (pairBytes (now (ends .entry)) r) (now (pairs .entry))) ⌝ }
 {
-    let mut p = 0;
-    while p < pairs.len() {
-        let code = pairs[p];
+    let mut pair = State(0);
+    while pair.0 < pairs.len() {
+        let place = pair.0;
+        let code = pairs[place];
         let start = row_start(ends, state_of(code));
         let end = row_end(ends, state_of(code));
-        put_state(table, State(p), end - start, level_of(code) == r);
-        p += 1;
+        put_state(table, pair, end - start, level_of(code) == r);
+        pair = State(pair.0 + 1);
     }
 }
 
@@ -289,8 +324,8 @@ fn write_row(
     let mut next = k;
     let mut i = row_start(ends, state_of(code));
     while i < end {
-        let number = generalized::find(pairs, pairs.len(), target(targets, marks, i, r, level));
-        put_transition(table, next, terms[i], State(number));
+        let number = pair_number(pairs, target(targets, marks, i, r, level));
+        put_transition(table, next, terms[i], number);
         next += 1;
         i += 1;
     }
@@ -311,10 +346,10 @@ fn write_transitions(
     ensures { λ count. ⌜ Adds (now (table .entry)) 0 (records (rowN (now (ends .entry)) (now (targets .entry)) (now (marks .entry)) r (now (terms .entry)) (now (pairs .entry))) (now (pairs .entry))) (now (table .exit)) count ⌝ }
 {
     let mut k = 0;
-    let mut p = 0;
-    while p < pairs.len() {
-        k = write_row(table, k, terms, ends, targets, marks, r, pairs, State(p));
-        p += 1;
+    let mut pair = State(0);
+    while pair.0 < pairs.len() {
+        k = write_row(table, k, terms, ends, targets, marks, r, pairs, pair);
+        pair = State(pair.0 + 1);
     }
     k
 }
@@ -326,7 +361,7 @@ fn write_initial(table: &mut [u8], n: usize)
 {
     let mut i = 0;
     while i < n {
-        put_number(table, i * 2, i);
+        put_initial(table, i, State(i));
         i += 1;
     }
 }
@@ -386,7 +421,7 @@ fn degeneralize(
     start_pairs(&mut pairs, first);
     let walked = explore_pairs(ends, &targets, &marks, r, &mut pairs, first);
     match walked {
-        Paired::Full(place) => Translated::Refused(TOO_MANY_PAIRS, place),
+        Paired::Full(pair) => Translated::Refused(TOO_MANY_PAIRS, pair.0),
         Paired::Count(count) => {
             let written = write_tables(
                 terms,

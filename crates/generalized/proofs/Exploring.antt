@@ -65,17 +65,6 @@ module _ {A : Type 0} (same : A → A → Bool) where
         let none : find same x (drop i (take n xs)) ≡ 0 = rw (drop-of-length-le (take n xs) {i = i} (omega (arith, length-take-le n xs le))) in
         omega (arith, inv .left, inv .within)
 
-  -- one that is not among xs has the next number after them
-  pub find-next : (x : A) (xs : List A) → same x x ≡ true → length xs ≤ find same x xs → find same x (xs ++ (x ∷ [])) ≡ length xs
-  unfolding find
-  find-next x [] r le = rw r
-  find-next x (y ∷ ys) r le = go (same x y) le (λ l. find-next x ys r l)
-    where
-      go : (b : Bool) → suc (length ys) ≤ elim b [ true ↦ 0 | false ↦ suc (find same x ys) ] → (length ys ≤ find same x ys → find same x (ys ++ (x ∷ [])) ≡ length ys)
-          → elim b [ true ↦ 0 | false ↦ suc (find same x (ys ++ (x ∷ []))) ] ≡ suc (length ys)
-      go true l next = absurd (omega arith)
-      go false l next = ap suc (next (omega arith))
-
   module _ (limit full place : ℕ) (x : A) (xs : List A) where
     pub meet-seen : find same x xs < length xs → meet same limit full place x xs ≡ accepted xs
     unfolding meet

@@ -11,7 +11,7 @@ use lib.Dec.{eqb}
 use borrow.Author.Tests.{lt-ltb, le-ltb}
 use Rattle.formula.specs.Result.{Result, refused, fine}
 use Rattle.generalized.specs.declared.Met.{Met}
-use Rattle.generalized.specs.declared.Met.the-variants.{Number, Full}
+use Rattle.generalized.specs.declared.Met.the-variants.{Count, Full}
 use Rattle.generalized.specs.declared.Walked.the-variants.{Counts}
 use Rattle.generalized.specs.Explore.{meet, meetAll}
 use Rattle.generalized.specs.Generalized.{transitionCheck}
@@ -72,23 +72,23 @@ module _ (items : List ℕ) (count place : ℕ) (states₀ : List ℕ) (n : ℕ)
       pub meeting-late : 1024 ≤ total + i → meetTargets place (take count items) total (take n states₀) ≡ refused 22 place
       meeting-late ge = sym left-is ∙ all-refused eqb 128 23 transitionCheck place _ _ (total + i) (take seen states) (rw (le-ltb (total + i) 1024 ge))
 
-      module _ (room : total + i < 1024) (met : Met) (after : List ℕ) (meets : Meets 23 place (obligationsN (getD items i 0)) (meet eqb (length states) 23 place (obligationsN (getD items i 0)) (take seen states)) met after) where
+      module _ (room : total + i < 1024) (met : Met) (after : List ℕ) (meets : Meets 23 place (meet eqb (length states) 23 place (obligationsN (getD items i 0)) (take seen states)) met after) where
         in-time : transitionCheck place (total + i) ≡ fine
         in-time = rw (lt-ltb (total + i) 1024 room)
 
         pub meeting-full : met ≡ Full → meetTargets place (take count items) total (take n states₀) ≡ refused 23 place
         meeting-full e = sym left-is ∙ all-full eqb 128 23 transitionCheck place _ _ (total + i) (take seen states) in-time (rw (e, inv .numbers) at meets)
 
-        pub meeting-steps : {k more : ℕ} → met ≡ Number k more → length after ≡ length states
+        pub meeting-steps : {more : ℕ} → met ≡ Count more → length after ≡ length states
             → Meeting items count place states₀ n terms₀ total after (set terms (total + i) (getD items i 0)) more (i + 1)
-        meeting-steps {k} {more} e size =
+        meeting-steps {more} e size =
             let known = rw (e, inv .numbers) at meets in
             let up : total + (i + 1) ≡ suc (total + i) = omega arith in
             record {
               within = omega arith;
               few = inv .few;
               numbers = size ∙ inv .numbers;
-              seen-fits = omega (arith, known .2, inv .numbers);
+              seen-fits = omega (arith, known .1, inv .numbers);
               begun = inv .begun;
               room = length-set terms (total + i) (getD items i 0) ∙ inv .room;
               fits = omega arith;

@@ -14,10 +14,10 @@ use Rattle.term.specs.Term
 use Rattle.term.specs.Packed.{pack, Carries}
 use Rattle.generalized.specs.declared.Many.{Many}
 use Rattle.generalized.specs.declared.Met.{Met}
-use Rattle.generalized.specs.declared.Met.the-variants.{Number, Full}
+use Rattle.generalized.specs.declared.Met.the-variants.{Count, Full}
 use Rattle.generalized.specs.declared.Walked.{Walked}
 use Rattle.generalized.specs.declared.Walked.the-variants.{Counts, Refused}
-use Rattle.generalized.specs.Explore.{find, meetAll}
+use Rattle.generalized.specs.Explore.{meetAll}
 use Rattle.generalized.specs.Generalized.{transitions, productCheck, transitionCheck, targets, generalized}
 
 -- row k of items, with its count, has the terms of node k
@@ -48,10 +48,10 @@ pub record Product (rule : List ℕ) (state : ℕ) (r : Many) : Type 0 where
 abbrev pub obligationsN : ℕ → ℕ
 obligationsN t = t / 65536
 
--- what a meeting with x comes to: its number among the first n of items, or that it is one too many
-abbrev pub Meets : (full place x : ℕ) (met : Result (List ℕ)) → Met → (items : List ℕ) → Type 0
-Meets full place x met (Number k n) items = (met ≡ accepted (take n items)) × (k ≡ find eqb x (take n items)) × (n ≤ length items)
-Meets full place x met Full items = met ≡ refused full place
+-- what a meeting comes to: those met are the first n of items, or there is one too many
+abbrev pub Meets : (full place : ℕ) (met : Result (List ℕ)) → Met → (items : List ℕ) → Type 0
+Meets full place met (Count n) items = (met ≡ accepted (take n items)) × (n ≤ length items)
+Meets full place met Full items = met ≡ refused full place
 
 -- states met and transitions ws in the table: how many of each, or the refusal
 abbrev pub Adds : (met : Result (List ℕ)) (ws : List ℕ) → Walked → (states terms : List ℕ) → Type 0

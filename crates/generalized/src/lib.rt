@@ -40,9 +40,9 @@ pub struct Many {
     pub items: [u64; 128],
 }
 
-// What a meeting comes to: a number, and how many are numbered then; or there is no place for one more.
+// What a meeting comes to: how many are in the list then, or that there is no place for one more.
 pub enum Met {
-    Number(usize, usize),
+    Count(usize),
     Full,
 }
 
@@ -86,7 +86,8 @@ fn tabulate(rule: &[u8], n: usize, items: &mut [u64], counts: &mut [usize])
     }
 }
 
-// The number of x among the first n of items, or n.
+// The place of x in a list, the first n of items, or n. It is no state's number yet: `state_number` here and `pair_number`
+// of the second walk make one of it, each of its own type.
 pub fn find(items: &[u64], n: usize, x: u64) -> usize
     requires { ⌜ n ≤ length (now items) ⌝ }
     ensures { λ r. ⌜ r ≡ find eqb x (take n (now (items .entry))) ⌝ }
@@ -101,20 +102,28 @@ pub fn find(items: &[u64], n: usize, x: u64) -> usize
     n
 }
 
-// x among the first n of items: an unseen one takes the next number, if there is a place.
+// x in a list, the first n of items: an unseen one is put behind them, if there is a place.
 pub fn meet(items: &mut [u64], n: usize, x: u64) -> Met
     requires { ⌜ n ≤ length (now items) ⌝ }
-    ensures { λ r. ⌜ ((full place : ℕ) → Meets full place x (meet eqb (length (now (items .entry))) full place x (take n (now (items .entry)))) r (now (items .exit))) ⌝ }
+    ensures { λ r. ⌜ ((full place : ℕ) → Meets full place (meet eqb (length (now (items .entry))) full place x (take n (now (items .entry)))) r (now (items .exit))) ⌝ }
 {
     let k = find(items, n, x);
     if k < n {
-        return Met::Number(k, n);
+        return Met::Count(n);
     }
     if items.len() <= n {
         return Met::Full;
     }
     items[n] = x;
-    Met::Number(n, n + 1)
+    Met::Count(n + 1)
+}
+
+// The number of the state with these obligations among the first n.
+pub fn state_number(states: &[u64], n: usize, obligations: u64) -> GeneralizedState
+    requires { ⌜ n ≤ length (now states) ⌝ }
+    ensures { λ s. ⌜ s .0 ≡ find eqb obligations (take n (now (states .entry))) ⌝ }
+{
+    GeneralizedState(find(states, n, obligations))
 }
 
 // p times the terms of node k, which stand in its row, if k is an obligation of the state.
@@ -165,26 +174,26 @@ fn state_terms(rule: &[u8], n: usize, items: &[u64], counts: &[usize; 32], state
 // n states are numbered.
 fn meet_all(
     ts: Many,
-    place: usize,
+    place: GeneralizedState,
     states: &mut [u64],
     n: usize,
     terms: &mut [u64],
     total: usize,
 ) -> Walked
     requires { ⌜ (ts .count ≤ 128) × (length (now states) ≡ 128) × (n ≤ 128) × (length (now terms) ≡ 1024) × (total ≤ 1024) ⌝ }
-    ensures { λ r. ⌜ ((ws : List ℕ) → IsMany ts ws → Adds (meetAll eqb 128 23 transitionCheck place (map obligationsN ws) total (take n (now (states .entry)))) (take total (now (terms .entry)) ++ ws) r (now (states .exit)) (now (terms .exit))) ⌝ }
+    ensures { λ r. ⌜ ((ws : List ℕ) → IsMany ts ws → Adds (meetAll eqb 128 23 transitionCheck (place .0) (map obligationsN ws) total (take n (now (states .entry)))) (take total (now (terms .entry)) ++ ws) r (now (states .exit)) (now (terms .exit))) ⌝ }
 {
     let count = ts.count;
     let mut seen = n;
     let mut i = 0;
     while i < count {
         if MAX_TRANSITIONS <= total + i {
-            return Walked::Refused(TOO_MANY_TRANSITIONS, place);
+            return Walked::Refused(TOO_MANY_TRANSITIONS, place.0);
         }
         let t = ts.items[i];
         let met = meet(states, seen, t / 65536);
-        let Met::Number(_, more) = met else {
-            return Walked::Refused(TOO_MANY_STATES, place);
+        let Met::Count(more) = met else {
+            return Walked::Refused(TOO_MANY_STATES, place.0);
         };
         terms[total + i] = t;
         seen = more;
@@ -214,7 +223,7 @@ fn walk_state(
     if MAX_PRODUCT < count {
         return Walked::Refused(PRODUCT_TOO_LARGE, at);
     }
-    meet_all(ts, at, states, n, terms, total)
+    meet_all(ts, place, states, n, terms, total)
 }
 
 // The root's cover as the first states; their count.
@@ -233,11 +242,12 @@ fn start(rule: &[u8], states: &mut [u64]) -> usize
 }
 
 // Where the transitions of the state at place end.
-fn put_end(ends: &mut [usize], place: usize, end: usize)
-    requires { ⌜ place < length (now ends) ⌝ }
-    ensures { λ _. ⌜ now (ends .exit) ≡ set (now (ends .entry)) place end ⌝ }
+fn put_end(ends: &mut [usize], place: GeneralizedState, end: usize)
+    requires { ⌜ place .0 < length (now ends) ⌝ }
+    ensures { λ _. ⌜ now (ends .exit) ≡ set (now (ends .entry)) (place .0) end ⌝ }
 {
-    ends[place] = end;
+    let at = place.0;
+    ends[at] = end;
 }
 
 // The first walk of a rule that 1 to 7 and 20 let pass: its states by number, their transitions one after another,
@@ -251,25 +261,16 @@ pub fn walk(rule: &[u8], states: &mut [u64], terms: &mut [u64], ends: &mut [usiz
     tabulate(rule, rule.len() / 3, &mut items, &mut counts);
     let mut n = start(rule, states);
     let mut total = 0;
-    let mut place = 0;
-    while place < n {
-        let step = walk_state(
-            rule,
-            &items,
-            &counts,
-            GeneralizedState(place),
-            states,
-            n,
-            terms,
-            total,
-        );
+    let mut place = GeneralizedState(0);
+    while place.0 < n {
+        let step = walk_state(rule, &items, &counts, place, states, n, terms, total);
         let Walked::Counts(more, end) = step else {
             return step;
         };
         put_end(ends, place, end);
         n = more;
         total = end;
-        place += 1;
+        place = GeneralizedState(place.0 + 1);
     }
     Walked::Counts(n, total)
 }

@@ -12,10 +12,10 @@ use Rattle.automaton.proofs.meet_row.Statement.{statement}
 use Rattle.automaton.proofs.meet_row.Tie as tie
 
 abbrev Inv-loop : tie.InvT-loop
-Inv-loop ends targets marks r pairs₀ n place code level end k₀ i₀ pairs k i = Meeting targets marks r level i₀ end place (λ count. meetAllN place count (targetsN ends targets marks r code) (take n pairs₀)) pairs k i
+Inv-loop ends targets marks r pairs₀ n pair place code level end k₀ i₀ pairs k i = Meeting targets marks r level i₀ end (pair .0) (λ count. meetAllN (pair .0) count (targetsN ends targets marks r code) (take n pairs₀)) pairs k i
 
 abbrev μ-loop : tie.MeasureT-loop
-μ-loop ends targets marks r pairs₀ n place code level end k₀ i₀ pairs k i = end - i
+μ-loop ends targets marks r pairs₀ n pair place code level end k₀ i₀ pairs k i = end - i
 
 mul-code : tie.Need-mul-code Inv-loop μ-loop
 mul-code c = search needs

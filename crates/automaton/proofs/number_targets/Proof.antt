@@ -18,20 +18,17 @@ abbrev μ-loop : tie.MeasureT-loop
 loop-holds : tie.Need-loop-holds Inv-loop μ-loop
 loop-holds c = record { within = omega arith; size = refl; numbered = λ j lt. absurd (omega arith) }
 
-mul-find : tie.Need-mul-find Inv-loop μ-loop
-mul-find c = search needs
+mul-state-number : tie.Need-mul-state-number Inv-loop μ-loop
+mul-state-number c = search needs
 
-shared-slice-read-find : tie.Need-shared-slice-read-find Inv-loop μ-loop
-shared-slice-read-find c = search needs
+shared-slice-read-state-number : tie.Need-shared-slice-read-state-number Inv-loop μ-loop
+shared-slice-read-state-number c = search needs
 
-find-requires : tie.Need-find-requires Inv-loop μ-loop
-find-requires c κs = search needs
+state-number-requires : tie.Need-state-number-requires Inv-loop μ-loop
+state-number-requires c κs = search needs
 
-mul-targets : tie.Need-mul-targets Inv-loop μ-loop
-mul-targets c = search needs
-
-slice-write-targets : tie.Need-slice-write-targets Inv-loop μ-loop
-slice-write-targets c = search needs
+put-target-requires : tie.Need-put-target-requires Inv-loop μ-loop
+put-target-requires c κs = omega (arith, c .before .before .before .before .loop .inv .size)
 
 add-i : tie.Need-add-i Inv-loop μ-loop
 add-i c = search needs
@@ -41,8 +38,9 @@ loop-less c = search needs
 
 loop-again : tie.Need-loop-again Inv-loop μ-loop
 loop-again c =
-    let at = c .before .before .before in
-    target-steps _ _ _ _ _ (at .loop .i) _ (at .before .before .before .before .pre .2) (c .before .before .loop-test .taken) (at .loop .inv) (c .find .ensures)
+    let put = c .before .before in
+    let at = put .before .before .before .before .before in
+    target-steps _ _ _ _ _ _ (at .loop .i) _ (at .before .before .before .before .pre .2) (at .loop .inv) (put .before .before .before .before .loop-test .taken) (put .before .before .state-number .ensures) (put .put-target .ensures)
 
 same-length : tie.Need-same-length Inv-loop μ-loop
 same-length c = c .before .loop .inv .size
@@ -57,11 +55,10 @@ number-targets-spec =
     Inv-loop
     μ-loop
     loop-holds
-    mul-find
-    shared-slice-read-find
-    find-requires
-    mul-targets
-    slice-write-targets
+    mul-state-number
+    shared-slice-read-state-number
+    state-number-requires
+    put-target-requires
     add-i
     loop-less
     loop-again

@@ -16,11 +16,8 @@ abbrev μ-loop : tie.MeasureT-loop
 loop-holds : tie.Need-loop-holds Inv-loop μ-loop
 loop-holds c = initials-begin _ _ (c .before .pre .0)
 
-mul-put-number : tie.Need-mul-put-number Inv-loop μ-loop
-mul-put-number c = search needs
-
-put-number-requires : tie.Need-put-number-requires Inv-loop μ-loop
-put-number-requires c κs =
+put-initial-requires : tie.Need-put-initial-requires Inv-loop μ-loop
+put-initial-requires c κs =
     let at = c .before .before in
     (omega (arith, at .loop .inv .size), omega (arith, at .before .before .pre .1))
 
@@ -34,7 +31,7 @@ loop-again : tie.Need-loop-again Inv-loop μ-loop
 loop-again c =
     let put = c .before .before in
     let at = put .before .before .before in
-    initials-step _ _ _ _ (at .loop .i) (at .before .before .pre .2) (omega arith) (at .loop .inv) (put .put-number .kept .0) (put .put-number .ensures)
+    initials-step _ _ _ _ (at .loop .i) (at .before .before .pre .2) (omega arith) (at .loop .inv) (put .put-initial .kept .0) (put .put-initial .ensures)
 
 same-length : tie.Need-same-length Inv-loop μ-loop
 same-length c = c .before .loop .inv .size
@@ -49,8 +46,7 @@ write-initial-spec =
     Inv-loop
     μ-loop
     loop-holds
-    mul-put-number
-    put-number-requires
+    put-initial-requires
     add-i
     loop-less
     loop-again

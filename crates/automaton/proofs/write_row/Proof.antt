@@ -52,8 +52,8 @@ target-requires c κs =
     let s = at .before .before .before .before .before .before .before .before .before .before .before .before .before in
     (omega (arith, at .loop .inv .inside, s .pre .0 .targets-size), at .loop .inv .leads _ (omega arith), s .pre .0 .marks-size, omega (arith, at .loop .inv .inside), s .pre .0 .levels)
 
-find-requires : tie.Need-find-requires Inv-loop μ-loop
-find-requires c κs = search needs
+pair-number-requires : tie.Need-pair-number-requires Inv-loop μ-loop
+pair-number-requires c κs = search needs
 
 mul-put-transition : tie.Need-mul-put-transition Inv-loop μ-loop
 mul-put-transition c = search needs
@@ -65,7 +65,7 @@ put-transition-requires : tie.Need-put-transition-requires Inv-loop μ-loop
 put-transition-requires c κs =
     let at = c .before .before .before .before .before in
     let s = at .before .before .before .before .before .before .before .before .before .before .before .before .before in
-    (record-room _ _ _ _ _ _ _ _ _ _ _ _ _ (at .loop .inv) (omega arith) (s .pre .4) _ _ (c .before .before .before .target .ensures) (c .before .before .find .ensures), number-fits _ _ _ _ _ _ _ _ _ _ _ _ _ (at .loop .inv) (omega arith) (s .pre .4) _ _ (c .before .before .before .target .ensures) (c .before .before .find .ensures) (s .pre .2))
+    (record-room _ _ _ _ _ _ _ _ _ _ _ _ _ (at .loop .inv) (omega arith) (s .pre .4) _ _ (c .before .before .before .target .ensures) (c .before .before .pair-number .ensures), number-fits _ _ _ _ _ _ _ _ _ _ _ _ _ (at .loop .inv) (omega arith) (s .pre .4) _ _ (c .before .before .before .target .ensures) (c .before .before .pair-number .ensures) (s .pre .2))
 
 add-next : tie.Need-add-next Inv-loop μ-loop
 add-next c =
@@ -83,7 +83,7 @@ loop-again c =
     let put = c .before .before in
     let at = put .before .before .before .before .before .before in
     let s = at .before .before .before .before .before .before .before .before .before .before .before .before .before in
-    writing-steps _ _ _ _ _ _ _ _ _ _ _ _ (at .loop .i) (at .loop .inv) (omega arith) (s .pre .4) _ _ (put .before .before .before .before .target .ensures) (put .before .before .before .find .ensures) _ (put .put-transition .kept .0) (put .put-transition .ensures)
+    writing-steps _ _ _ _ _ _ _ _ _ _ _ _ (at .loop .i) (at .loop .inv) (omega arith) (s .pre .4) _ _ (put .before .before .before .before .target .ensures) (put .before .before .before .pair-number .ensures) _ (put .put-transition .kept .0) (put .put-transition .ensures)
 
 same-length : tie.Need-same-length Inv-loop μ-loop
 same-length c = c .before .loop .inv .size
@@ -109,7 +109,7 @@ write-row-spec =
     row-start-requires
     loop-holds
     target-requires
-    find-requires
+    pair-number-requires
     mul-put-transition
     shared-slice-read-put-transition
     put-transition-requires

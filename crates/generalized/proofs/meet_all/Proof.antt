@@ -11,7 +11,7 @@ use Rattle.generalized.proofs.meet_all.Statement.{statement}
 use Rattle.generalized.proofs.meet_all.Tie as tie
 
 abbrev Inv-loop : tie.InvT-loop
-Inv-loop place states₀ n terms₀ total ts count seen₀ i₀ states terms seen i = Meeting (ts .items) (ts .count) place states₀ n terms₀ total states terms seen i
+Inv-loop place states₀ n terms₀ total ts count seen₀ i₀ states terms seen i = Meeting (ts .items) (ts .count) (place .0) states₀ n terms₀ total states terms seen i
 
 abbrev μ-loop : tie.MeasureT-loop
 μ-loop place states₀ n terms₀ total ts count seen₀ i₀ states terms seen i = ts .count - i
