@@ -219,7 +219,7 @@ module _ (a : Automaton) (formed : WellFormed a) where
   bodies-read : readTables (counts a) (drop 18 (imageBytes a)) (drop (transitionsAt (counts a)) (imageBytes a)) (drop (initialAt (counts a)) (imageBytes a)) ≡ accepted a
   bodies-read = rw (states-body a, transitions-body a, initial-body a) (tables-read (transitionRecords a ++ initialRecords a) (initialRecords a) [])
 
--- reading back what was written gives the same automaton
+-- what the reader makes of an automaton's image is that automaton
 pub image-accepted : (a : Automaton) → WellFormed a → readImage (imageBytes a) ≡ accepted a
 unfolding readImage
 image-accepted a formed =
