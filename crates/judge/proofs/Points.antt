@@ -1,5 +1,5 @@
 -- The positions that a run goes through, letter after letter, and the points on its way: the points that follow from a
--- point are those that a step leads to.
+-- point are those that a step leads to. Assumes nothing, but where it is said that the cycle has a letter.
 use Prim.Native.Nat.{ℕ, zero, suc, _+_, _-_, _*_, _<_, _≤_}
 use mathlib.Core.Path.{_≡_, refl, sym, _∙_, ap, subst}
 use mathlib.Core.Logic.{inl, inr}
