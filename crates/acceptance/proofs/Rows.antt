@@ -7,7 +7,7 @@ use native.Mathlib.Omega.{arith}
 use lib.ListN.{length, getD, take, drop, length-map, length-take, List·getD-append, List·getD-map}
 use lib.Seq.{paste, length-paste, length-paste-head, length-take-le, getD-take, getD-append-add}
 use borrow.Author.Count.{below-more}
-use Rattle.formula.specs.Result.{fine}
+use Rattle.answer.specs.Result.{fine}
 use Rattle.formula.specs.Rule.{nodeCount, untils}
 use Rattle.formula.specs.Formula.{tree}
 use Rattle.term.specs.declared.Terms.{Terms}

@@ -9,7 +9,7 @@ use native.Mathlib.Omega.{arith}
 use lib.Dec.{eqb}
 use lib.ListN.{length, getD, take, length-append, List·getD-append}
 use lib.Seq.{getD-at}
-use Rattle.formula.specs.Result.{fine}
+use Rattle.answer.specs.Result.{fine}
 use Rattle.formula.specs.Rule.{nodeCount, kindAt, untils}
 use Rattle.formula.proofs.Accepted.{accepted-fine}
 use Rattle.term.specs.Size.{checked}

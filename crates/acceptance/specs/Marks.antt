@@ -6,7 +6,8 @@ use mathlib.Core.Bool.{Bool, cond, not, _&&_, _||_}
 use lib.ListN.{getD, length}
 use lib.Dec.{eqb}
 use Rattle.sets.specs.Sets.{any}
-use Rattle.term.specs.Term.{has, Term, term}
+use Rattle.sets.specs.Bits.{has}
+use Rattle.term.specs.Term.{Term, term}
 use Rattle.generalized.specs.Generalized.{within}
 use Rattle.generalized.specs.Memory.{obligationsN}
 use Rattle.acceptance.specs.Acceptance.{untilCount, fulfilsNext}

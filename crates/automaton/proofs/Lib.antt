@@ -1,16 +1,6 @@
--- What the proofs of several functions, and of the crates above, cite.
+-- What is known of automata, their passes and their records, for the crates above.
 pub mod Positions
-pub mod Members
 pub mod Passes
-pub mod Levels
-pub mod Codes
-pub mod Within
-pub mod Explored
-pub mod Mapped
-pub mod FirstWalk
-pub mod Meeting
-pub mod Pairing
-pub mod Filling
-pub mod Writing
-pub mod SecondWalk
-pub mod Translating
+pub mod InRange
+pub mod WellFormed
+pub mod Records

@@ -8,8 +8,9 @@ use native.Mathlib.Omega.{arith}
 use native.Mathlib.Nat.{add-mul, suc-mul, mul-pos, mul-le-mul-right, le-mul-of-pos-right}
 use native.Mathlib.Decide.{ℕ-discrete, decLt}
 use lib.ListN.{length}
-use Rattle.formula.specs.Lasso.{letter}
-use Rattle.automaton.specs.Automaton.{Automaton, In, Step, Accepts, AcceptingPass}
+use Rattle.lasso.specs.Lasso.{letter}
+use Rattle.automaton.specs.Automaton.{Automaton, Step, Accepts, AcceptingPass}
+use Rattle.sets.specs.Sets.{In}
 use Rattle.automaton.proofs.Positions.{Again, pigeon}
 
 -- a machine over states X: where it begins, what it may do on a letter, and which states accept

@@ -2,13 +2,14 @@
 -- image's records are both such a value.
 use Prim.Native.Nat.{ℕ, suc, _+_, _*_, _<_, _≤_}
 use mathlib.Core.Path.{_≡_}
-use mathlib.Core.List.{List, [], _∷_}
+use mathlib.Core.List.{List, []}
+use mathlib.Core.Logic.{_↔_}
 use mathlib.Core.Bool.{Bool, true, false, _&&_}
-use mathlib.Core.Logic.{_⊎_}
 use lib.ListN.{getD, length}
 use lib.Dec.{eqb}
 use lib.Bits.{bitAnd, bitOr}
-use Rattle.formula.specs.Lasso.{letter}
+use Rattle.sets.specs.Sets.{In}
+use Rattle.lasso.specs.Lasso.{letter}
 
 pub record Transition : Type 0 where
   pub must : ℕ
@@ -26,10 +27,6 @@ pub record Automaton : Type 0 where
 -- no state: it has no transitions and does not accept
 abbrev pub noState : State
 noState = record { accepting = false; transitions = [] }
-
-abbrev pub In : {A : Type 0} → A → List A → Type 0
-In x [] = ⊥
-In x (y ∷ ys) = (x ≡ y) ⊎ In x ys
 
 -- whether a transition can be taken at a letter: the letter has every proposition of must and none of mustNot (01,
 -- First walk and second walk, sentence 6)
@@ -59,3 +56,8 @@ pub record AcceptingPass (automaton : Automaton) (stem cycle : List ℕ) : Type 
   pub steps : (i : ℕ) → i < length stem + second * length cycle → Step automaton (at i) (letter stem cycle i) (at (suc i))
   pub same : at (length stem + first * length cycle) ≡ at (length stem + second * length cycle)
   pub accepts : (i : ℕ) × (length stem + first * length cycle ≤ i) × (i ≤ length stem + second * length cycle) × Accepts automaton (at i)
+
+-- The automaton recognizes the lassos with property P: of those whose cycle has a letter, however long, it has an
+-- accepting pass exactly on these (demand 3, of a rule's automaton and the lassos that satisfy the rule).
+abbrev pub Recognizes : (P : (stem cycle : List ℕ) → Type 0) → Automaton → Type 0
+Recognizes P automaton = (stem cycle : List ℕ) → 0 < length cycle → AcceptingPass automaton stem cycle ↔ P stem cycle

@@ -1,18 +1,15 @@
 -- The records of an automaton as bytes: in the caller's tables and in the image alike (01, The image).
-use Prim.Native.Nat.{ℕ, _/_, _%_}
+use Prim.Native.Nat.{ℕ}
 use mathlib.Core.List.{List, [], _∷_, _++_}
 use mathlib.Core.Bool.{cond}
 use lib.ListN.{length}
+use Rattle.answer.specs.Bytes.{twoBytes}
 use Rattle.automaton.specs.Automaton.{Transition, State, Automaton}
 
 -- the records of all of xs, one after another
 unfoldable pub records : {A : Type 0} → (A → List ℕ) → List A → List ℕ
 records bytesOf [] = []
 records bytesOf (x ∷ xs) = bytesOf x ++ records bytesOf xs
-
--- a number in two bytes, the low one before the high one (01, The image, sentence 2)
-unfoldable pub twoBytes : ℕ → List ℕ
-twoBytes n = n % 256 ∷ (n / 256 ∷ [])
 
 -- a state, in 4 bytes: how many transitions it has, then 1 if it accepts and 0 if not, then a zero (01, The image,
 -- sentence 5)

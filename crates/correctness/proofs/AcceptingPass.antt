@@ -5,16 +5,17 @@ use mathlib.Core.Path.{_≡_, subst}
 use mathlib.Core.Logic.{_↔_, Iff·trans}
 use mathlib.Core.List.{List}
 use lib.ListN.{length}
-use Rattle.formula.specs.Result.{accepted}
-use Rattle.formula.specs.Lasso.{letter, Satisfies}
+use Rattle.answer.specs.Result.{accepted}
+use Rattle.lasso.specs.Lasso.{letter}
+use Rattle.formula.specs.Satisfaction.{Satisfies}
 use Rattle.term.specs.Size.{checked}
 use Rattle.generalized.specs.Generalized.{generalized}
-use Rattle.automaton.specs.Automaton.{Automaton, AcceptingPass}
-use Rattle.automaton.specs.Degeneralized.{degeneralized, translation}
-use Rattle.formula.proofs.Letters.{letter-round}
+use Rattle.automaton.specs.Automaton.{Automaton, AcceptingPass, Recognizes}
+use Rattle.translation.specs.Degeneralized.{degeneralized, translation}
+use Rattle.lasso.proofs.Letters.{letter-round}
 use Rattle.automaton.proofs.Passes.{pass-iff}
 use Rattle.correctness.proofs.Counting.{endless-iff-holds}
-use Rattle.formula.proofs.Results.{then-accepted}
+use Rattle.answer.proofs.Results.{then-accepted}
 use Rattle.correctness.proofs.Numbering.{pass-iff-endless}
 use Rattle.correctness.proofs.Walks.{Listed, listed-represent, automatonOf, numbering}
 
@@ -33,3 +34,7 @@ accepting-pass-iff-satisfied rule stem cycle a e pos =
     (Iff·trans (pass-iff (automatonOf rule states pairs) stem cycle)
     (Iff·trans (pass-iff-endless (letter stem cycle) (numbering rule fine states first pairs second) (length stem) (length cycle) pos (letter-round stem cycle))
     (endless-iff-holds rule (Listed rule) (listed-represent rule) (letter stem cycle) (length stem) (length cycle) pos (letter-round stem cycle))))
+
+-- the same of all lassos at once
+pub translation-recognizes : (rule : List ℕ) (a : Automaton) → translation rule ≡ accepted a → Recognizes (Satisfies rule) a
+translation-recognizes rule a e stem cycle pos = accepting-pass-iff-satisfied rule stem cycle a e pos

@@ -11,15 +11,15 @@ use native.Mathlib.Decide.{ℕ-discrete}
 use lib.Bits.{bitAnd, bitOr}
 use lib.Dec.{ltb}
 use borrow.Author.Tests.{eq-eqb}
-use Rattle.sets.specs.Sets.{union}
+use Rattle.sets.specs.Sets.{union, In}
 use Rattle.formula.specs.Rule.{root, nodeCount}
 use Rattle.formula.specs.Formula.{Formula, bottom, top, proposition, negation, conjunction, disjunction, next, until, release, tree, formula}
-use Rattle.formula.specs.Lasso.{Holds}
-use Rattle.term.specs.Term.{has, Term, term, less, joined, consistent, product, cover, terms, Has}
+use Rattle.formula.specs.Satisfaction.{Holds}
+use Rattle.sets.specs.Bits.{has, Has}
+use Rattle.term.specs.Term.{Term, term, less, joined, consistent, product, cover, terms}
 use Rattle.generalized.specs.Generalized.{times, partialProduct}
-use Rattle.automaton.specs.Automaton.{In}
-use Rattle.term.proofs.Bits.{has-dec, has-true, has-false, not-has, or-has, zero-has, has-pow, and-disjoint}
-use Rattle.automaton.proofs.Members.{in-map}
+use Rattle.sets.proofs.Bits.{has-dec, has-true, has-false, not-has, or-has, zero-has, has-pow, and-disjoint}
+use Rattle.sets.proofs.Members.{in-map}
 use Rattle.correctness.proofs.Members.{in-union, in-product, ltb-equal, less-equal}
 use Rattle.correctness.proofs.Runs.{Reads, Within, within-trans, within-l, within-r, Fulfilling, Known, Fits, Run, Fair, Dominates, TermOf}
 use Rattle.correctness.proofs.Trees.{tree-fits}

@@ -12,14 +12,14 @@ use lib.Dec.{eqb}
 use borrow.Author.Tests.{eqb-true, eq-eqb}
 use Rattle.formula.specs.Rule.{nodeCount, kindAt, untils}
 use Rattle.formula.specs.Formula.{Formula, formula}
-use Rattle.formula.specs.Lasso.{Holds}
+use Rattle.formula.specs.Satisfaction.{Holds}
 use Rattle.term.specs.Term.{Term, cover}
 use Rattle.generalized.specs.Generalized.{fulfils}
-use Rattle.automaton.specs.Automaton.{In}
+use Rattle.sets.specs.Sets.{In}
 use Rattle.acceptance.specs.Acceptance.{untilCount}
-use Rattle.automaton.specs.Degeneralized.{nextLevel}
+use Rattle.translation.specs.Degeneralized.{nextLevel}
 use Rattle.automaton.proofs.Positions.{Again}
-use Rattle.automaton.proofs.Members.{at-in, in-at, append-in, in-append}
+use Rattle.sets.proofs.Members.{at-in, in-at, append-in, in-append}
 use Rattle.correctness.proofs.Runs.{Reads, Fulfilling, Run, Fair, Represents}
 use Rattle.correctness.proofs.Trees.{kind-until, until-kind}
 use Rattle.correctness.proofs.Sound.{sound}

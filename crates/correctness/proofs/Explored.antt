@@ -11,12 +11,12 @@ use native.Mathlib.Decide.{ℕ-discrete}
 use lib.ListN.{getD, length, length-append, List·getD-append}
 use lib.Dec.{ltb}
 use borrow.Author.Tests.{ltb-true, ltb-false}
-use Rattle.formula.specs.Result.{Result, accepted, refused, andThen, Check, fine}
+use Rattle.answer.specs.Result.{Result, accepted, refused, andThen, Check, fine}
 use Rattle.generalized.specs.Explore.{find, meet, meetAll, explore}
-use Rattle.automaton.specs.Automaton.{In}
-use Rattle.automaton.proofs.Members.{All, at-in, in-at, in-append, append-in}
+use Rattle.sets.specs.Sets.{In}
+use Rattle.sets.proofs.Members.{All, at-in, in-at, in-append, append-in}
 use Rattle.correctness.proofs.Members.{all-one}
-use Rattle.formula.proofs.Results.{never-both, then-accepted}
+use Rattle.answer.proofs.Results.{never-both, then-accepted}
 
 module _ {A : Type 0} (none : A) where
   -- what stands in xs stands at the same place in ys

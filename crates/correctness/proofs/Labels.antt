@@ -1,7 +1,7 @@
 -- The labels of a rule's transitions: two bytes that share no bit. Assumes of a formula that its propositions are
 -- below 8.
 use Prim.Native.Nat.{ℕ, zero, suc, _^_, _<_, _≤_}
-use mathlib.Core.Path.{_≡_, sym, subst}
+use mathlib.Core.Path.{sym, subst}
 use mathlib.Core.List.{List, [], _∷_}
 use mathlib.Core.Bool.{Bool, true, false}
 use native.Mathlib.Omega.{arith}
@@ -11,16 +11,12 @@ use borrow.Author.Tests.{eqb-true}
 use Rattle.sets.specs.Sets.{union}
 use Rattle.formula.specs.Rule.{nodeCount}
 use Rattle.formula.specs.Formula.{Formula, bottom, top, proposition, negation, conjunction, disjunction, next, until, release, tree, InRange}
-use Rattle.term.specs.Term.{has, Term, term, less, joined, consistent, product, cover, terms}
+use Rattle.sets.specs.Bits.{has}
+use Rattle.term.specs.Term.{Term, term, less, joined, consistent, product, cover, terms}
 use Rattle.generalized.specs.Generalized.{times, partialProduct, transitions}
-use Rattle.automaton.proofs.Members.{All, map-in}
+use Rattle.automaton.proofs.WellFormed.{Label}
+use Rattle.sets.proofs.Members.{All, map-in}
 use Rattle.correctness.proofs.Members.{all-one, all-union, product-in, product-kept}
-
--- the propositions that a transition asks for and those that it forbids: bytes, with no bit in both
-pub record Label (must mustNot : ℕ) : Type 0 where
-  pub must-byte : must < 256
-  pub not-byte : mustNot < 256
-  pub disjoint : bitAnd must mustNot ≡ 0
 
 abbrev pub Labelled : Term → Type 0
 Labelled t = Label (t .must) (t .mustNot)

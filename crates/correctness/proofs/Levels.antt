@@ -10,7 +10,7 @@ use native.Mathlib.Decide.{ℕ-discrete, decLt}
 use borrow.Author.Tests.{lt-ltb, le-ltb}
 use Rattle.term.specs.Term.{Term}
 use Rattle.acceptance.specs.Acceptance.{untilCount, fulfilsNext}
-use Rattle.automaton.specs.Degeneralized.{climb, nextLevel}
+use Rattle.translation.specs.Degeneralized.{climb, nextLevel}
 use Rattle.automaton.proofs.Positions.{Again}
 
 module _ (rule : List ℕ) where

@@ -8,10 +8,9 @@ use mathlib.Core.Bool.{Bool, true, false, cond}
 use native.Mathlib.Omega.{arith}
 use lib.Dec.{ltb}
 use borrow.Author.Tests.{ltb-false}
-use Rattle.sets.specs.Sets.{insert, union, insertJoin, insertJoins, insertProduct}
+use Rattle.sets.specs.Sets.{insert, union, insertJoin, insertJoins, insertProduct, In}
 use Rattle.term.specs.Term.{Term, lessThen, less}
-use Rattle.automaton.specs.Automaton.{In}
-use Rattle.automaton.proofs.Members.{All}
+use Rattle.sets.proofs.Members.{All}
 
 -- z is the join of one of xs and one of ys
 abbrev Joined : {A : Type 0} → (A → A → A) → A → List A → List A → Type 0

@@ -8,12 +8,12 @@ use mathlib.Core.Bool.{true}
 use native.Mathlib.Omega.{arith}
 use lib.Bits.{bitOr}
 use lib.Dec.{ltb}
-use Rattle.sets.specs.Sets.{union}
+use Rattle.sets.specs.Sets.{union, In}
 use Rattle.formula.specs.Formula.{Formula, bottom, top, proposition, negation, conjunction, disjunction, next, until, release}
-use Rattle.term.specs.Term.{Term, term, less, joined, consistent, product, cover, terms, Has}
-use Rattle.automaton.specs.Automaton.{In}
-use Rattle.term.proofs.Bits.{or-has, zero-has, has-pow}
-use Rattle.automaton.proofs.Members.{All, map-in}
+use Rattle.term.specs.Term.{Term, term, less, joined, consistent, product, cover, terms}
+use Rattle.sets.specs.Bits.{Has}
+use Rattle.sets.proofs.Bits.{or-has, zero-has, has-pow}
+use Rattle.sets.proofs.Members.{All, map-in}
 use Rattle.correctness.proofs.Members.{all-one, all-union, all-product}
 use Rattle.correctness.proofs.Runs.{Below}
 

@@ -6,7 +6,7 @@ use mathlib.Core.Logic.{_⊎_, inl, inr}
 use native.Mathlib.Omega.{arith}
 use native.Mathlib.Decide.{ℕ-discrete, decLe}
 use Rattle.formula.specs.Formula.{Formula, bottom, top, proposition, negation, conjunction, disjunction, next, until, release}
-use Rattle.formula.specs.Lasso.{Holds}
+use Rattle.formula.specs.Satisfaction.{Holds}
 use Rattle.automaton.proofs.Positions.{Decided, some-dec}
 
 -- until and release of any two properties of positions

@@ -9,11 +9,12 @@ use native.Mathlib.Omega.{arith}
 use native.Mathlib.Decide.{ℕ-discrete}
 use Rattle.formula.specs.Rule.{nodeCount}
 use Rattle.formula.specs.Formula.{Formula, bottom, top, proposition, negation, conjunction, disjunction, next, until, release, tree, formula}
-use Rattle.term.specs.Term.{has, Term, less, joined, consistent, cover, terms, Has}
+use Rattle.sets.specs.Bits.{has, Has}
+use Rattle.term.specs.Term.{Term, less, joined, consistent, cover, terms}
 use Rattle.generalized.specs.Generalized.{times, partialProduct}
-use Rattle.automaton.specs.Automaton.{In}
+use Rattle.sets.specs.Sets.{In}
 use Rattle.automaton.proofs.Positions.{Again}
-use Rattle.term.proofs.Bits.{Sub, has-false, has-or-l, has-or-r}
+use Rattle.sets.proofs.Bits.{Sub, has-false, has-or-l, has-or-r}
 use Rattle.correctness.proofs.Members.{product-in}
 
 -- t reads a letter

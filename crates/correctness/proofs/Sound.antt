@@ -9,14 +9,14 @@ use native.Mathlib.Omega.{arith}
 use native.Mathlib.Decide.{ℕ-discrete}
 use lib.Bits.{bitOr}
 use lib.Dec.{ltb}
-use Rattle.sets.specs.Sets.{union}
+use Rattle.sets.specs.Sets.{union, In}
 use Rattle.formula.specs.Rule.{root, nodeCount}
 use Rattle.formula.specs.Formula.{Formula, bottom, top, proposition, negation, conjunction, disjunction, next, until, release, formula}
-use Rattle.formula.specs.Lasso.{Holds}
-use Rattle.term.specs.Term.{Term, term, less, joined, consistent, product, cover, terms, Has}
-use Rattle.automaton.specs.Automaton.{In}
-use Rattle.term.proofs.Bits.{Sub, has-zero, has-or-l, has-or-r, pow-has}
-use Rattle.automaton.proofs.Members.{map-in}
+use Rattle.formula.specs.Satisfaction.{Holds}
+use Rattle.term.specs.Term.{Term, term, less, joined, consistent, product, cover, terms}
+use Rattle.sets.specs.Bits.{Has}
+use Rattle.sets.proofs.Bits.{Sub, has-zero, has-or-l, has-or-r, pow-has}
+use Rattle.sets.proofs.Members.{map-in}
 use Rattle.correctness.proofs.Members.{union-in, product-in}
 use Rattle.correctness.proofs.Runs.{Reads, Within, within-reads, within-l, within-r, Fulfilling, Known, Fits, Run, Fair, TermOf, product-has}
 use Rattle.correctness.proofs.Trees.{tree-fits}

@@ -10,11 +10,12 @@ use lib.Bits.{bitOr}
 use borrow.Author.Tests.{eqb-true, eq-eqb, ne-eqb, not-true}
 use Rattle.sets.specs.Sets.{any}
 use Rattle.formula.specs.Formula.{tree}
-use Rattle.term.specs.Term.{has, Term, terms, Has}
+use Rattle.sets.specs.Bits.{has, Has}
+use Rattle.term.specs.Term.{Term, terms}
 use Rattle.generalized.specs.Generalized.{within, shows, fulfils}
 use Rattle.automaton.specs.Automaton.{reads}
-use Rattle.automaton.proofs.Members.{or-iff, any-iff}
-use Rattle.term.proofs.Bits.{Sub, has-false, and-disjoint, disjoint-and, or-sub, sub-or}
+use Rattle.sets.proofs.Members.{or-iff, any-iff}
+use Rattle.sets.proofs.Bits.{Sub, has-false, and-disjoint, disjoint-and, or-sub, sub-or}
 use Rattle.correctness.proofs.Runs.{Reads, Within, Fulfilling}
 
 within-iff : (x y : ℕ) → within x y ≡ true ↔ Sub x y

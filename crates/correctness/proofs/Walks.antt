@@ -11,25 +11,25 @@ use lib.ListN.{getD, length, length-append, length-map, List·getD-map, List·ge
 use lib.Seq.{getD-append-seam}
 use lib.Dec.{eqb, leb, ltb}
 use borrow.Author.Tests.{eqb-true, eq-eqb, leb-true, ltb-true}
-use Rattle.formula.specs.Result.{accepted, fine, require}
+use Rattle.answer.specs.Result.{accepted, fine, require}
 use Rattle.formula.specs.Rule.{root, nodeCount, lengthCheck}
 use Rattle.formula.specs.Rule
 use Rattle.formula.specs.Formula.{formula}
-use Rattle.formula.proofs.Checks.{require-fine}
-use Rattle.formula.proofs.Lowest.{lowest-each}
+use Rattle.answer.proofs.Results.{require-fine, then-accepted}
+use Rattle.answer.proofs.Lowest.{lowest-each}
 use Rattle.term.specs.Term.{Term, cover, terms}
 use Rattle.term.specs.Size.{sizeCheck, checked}
 use Rattle.generalized.specs.Explore.{find}
 use Rattle.generalized.specs.Generalized.{transitions, transitionCheck, productCheck, targets, generalized}
-use Rattle.automaton.specs.Automaton.{Transition, State, Automaton, noState, In, reads, Step}
+use Rattle.automaton.specs.Automaton.{Transition, State, Automaton, noState, reads, Step}
+use Rattle.sets.specs.Sets.{In}
 use Rattle.acceptance.specs.Acceptance.{untilCount}
-use Rattle.automaton.specs.Degeneralized.{nextLevel, Pair, pair, samePair, numbers, initialNumbers, pairTransitions, target, degeneralized, stateOf}
-use Rattle.automaton.proofs.Members.{All, at-in, in-at, map-in, in-map, map-at}
+use Rattle.translation.specs.Degeneralized.{nextLevel, Pair, pair, samePair, numbers, initialNumbers, pairTransitions, target, degeneralized, stateOf}
+use Rattle.sets.proofs.Members.{All, at-in, in-at, map-in, in-map, map-at}
 use Rattle.correctness.proofs.Runs.{Reads, Represents}
 use Rattle.correctness.proofs.Tests.{reads-iff}
 use Rattle.automaton.proofs.Passes.{numbered}
 use Rattle.correctness.proofs.Counting.{Counted, counting}
-use Rattle.formula.proofs.Results.{then-accepted}
 use Rattle.correctness.proofs.Explored.{Reached, find-in, walked}
 use Rattle.correctness.proofs.Numbering.{Numbering}
 

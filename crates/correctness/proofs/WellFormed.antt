@@ -1,50 +1,28 @@
 -- What the limits of document 01 make of the automaton of an accepted rule. Assumes nothing.
-use Prim.Native.Nat.{ℕ, suc, _*_, _≤_, _<_}
-use mathlib.Core.Path.{_≡_, refl, sym, _∙_, ap, subst}
-use mathlib.Core.Logic.{inl, inr}
-use mathlib.Core.List.{List, [], _∷_, map}
+use Prim.Native.Nat.{ℕ, suc, _≤_, _<_}
+use mathlib.Core.Path.{_≡_, sym, _∙_, ap, subst}
+use mathlib.Core.List.{List, map}
 use native.Mathlib.Omega.{arith}
 use lib.ListN.{getD, length, length-map}
 use borrow.Author.Tests.{leb-true}
-use Rattle.formula.specs.Result.{accepted, fine}
+use Rattle.answer.specs.Result.{accepted, fine}
 use Rattle.formula.specs.Rule.{root, nodeCount}
 use Rattle.formula.specs.Rule
 use Rattle.formula.specs.Formula.{formula, tree, InRange}
-use Rattle.formula.proofs.Checks.{require-fine}
-use Rattle.formula.proofs.Lowest.{lowest-each}
+use Rattle.answer.proofs.Results.{require-fine, then-accepted}
+use Rattle.answer.proofs.Lowest.{lowest-each}
 use Rattle.formula.proofs.Accepted.{accepted-fine}
 use Rattle.formula.proofs.Trees.{tree-in-range}
 use Rattle.term.specs.Term.{Term, cover}
 use Rattle.term.specs.Size.{checked}
 use Rattle.generalized.specs.Generalized.{partialProduct, transitions, productCheck, generalized}
-use Rattle.automaton.specs.Automaton.{Transition, State, Automaton, In}
-use Rattle.automaton.specs.Translate.{transitionCount}
-use Rattle.automaton.specs.Degeneralized.{Pair, pair, initialNumbers, pairTransitions, degeneralized, stateOf, translation}
-use Rattle.automaton.proofs.Members.{in-at, at-in, map-in}
-use Rattle.formula.proofs.Results.{then-accepted}
-use Rattle.correctness.proofs.Labels.{Label, transitions-labelled}
+use Rattle.automaton.specs.Automaton.{Transition, State, Automaton}
+use Rattle.sets.specs.Sets.{In}
+use Rattle.translation.specs.Degeneralized.{Pair, pair, initialNumbers, pairTransitions, degeneralized, stateOf, translation}
+use Rattle.automaton.proofs.WellFormed.{WellFormedState, WellFormed, Label}
+use Rattle.sets.proofs.Members.{in-at, at-in, map-in}
+use Rattle.correctness.proofs.Labels.{transitions-labelled}
 use Rattle.correctness.proofs.Walks.{cover-small, numbers-length, numbers-at, automatonOf, Valid, first-walked, second-walked, initial-valid, pairs-known, leads, lands}
-
--- a state of an automaton that has this many states
-pub record WellFormedState (states : ℕ) (s : State) : Type 0 where
-  pub few : length (s .transitions) ≤ 128
-  pub labels : (t : Transition) → In t (s .transitions) → Label (t .must) (t .mustNot)
-  pub targets : (t : Transition) → In t (s .transitions) → t .target < states
-
--- an automaton within the limits: at most 96 states and 128 transitions of each, labels of two bytes that share no bit,
--- targets that are states, at most 96 initial numbers that are states and rise
-pub record WellFormed (a : Automaton) : Type 0 where
-  pub states : length (a .states) ≤ 96
-  pub each : (s : State) → In s (a .states) → WellFormedState (length (a .states)) s
-  pub initial : length (a .initial) ≤ 96
-  pub inside : (i : ℕ) → i < length (a .initial) → getD (a .initial) i 0 < length (a .states)
-  pub rising : (i : ℕ) → suc i < length (a .initial) → getD (a .initial) i 0 < getD (a .initial) (suc i) 0
-
--- so at most 128 transitions for each state
-pub few-together : (n : ℕ) (ss : List State) → ((s : State) → In s ss → WellFormedState n s) → transitionCount ss ≤ 128 * length ss
-unfolding transitionCount
-few-together n [] each = omega arith
-few-together n (s ∷ ss) each = omega (arith, each s (inl refl) .few, few-together n ss (λ u m. each u (inr m)))
 
 -- a state that 21 lets pass has at most 128 transitions
 few-transitions : (rule : List ℕ) (place state : ℕ) → 0 < nodeCount rule → productCheck rule place state ≡ fine → length (transitions rule state) ≤ 128

@@ -4,15 +4,17 @@ use Prim.Native.Nat.{ℕ, _<_}
 use mathlib.Core.Path.{_≡_, refl, sym}
 use mathlib.Core.List.{List}
 use lib.ListN.{length}
-use Rattle.formula.specs.Result.{Result, accepted, refused, andThen, Check, fine}
+use Rattle.answer.specs.Result.{Result, accepted, refused, andThen, Check, fine}
 use Rattle.formula.specs.Rule
-use Rattle.formula.specs.Lasso.{Satisfies}
-use Rattle.formula.proofs.Results.{then-accepted}
+use Rattle.formula.specs.Satisfaction.{Satisfies}
+use Rattle.answer.proofs.Results.{then-accepted}
 use Rattle.automaton.specs.Automaton.{Automaton}
-use Rattle.automaton.specs.Degeneralized.{translation}
-use Rattle.judge.proofs.Answers.{lasso-some}
+use Rattle.translation.specs.Degeneralized.{translation}
+use Rattle.lasso.proofs.Checking.{lasso-some}
 use Rattle.demands.specs.Demand.{roomCheck, inputCheck, concluded, decidedBy, decided, decidable, Answers, Decides}
-use Rattle.demands.proofs.Verdict.{rule-verdict}
+use Rattle.judge.proofs.VerdictIff.{recognized-exactly}
+use Rattle.correctness.proofs.WellFormed.{translation-well-formed}
+use Rattle.correctness.proofs.AcceptingPass.{translation-recognizes}
 
 module _ (rule stem cycle s t i image work : List ℕ) where
   pub decided-exactly : Decides (decided rule stem cycle s t i image work .answer) rule stem cycle s t i image work
@@ -29,4 +31,4 @@ module _ (rule stem cycle s t i image work : List ℕ) where
           → Answers (decidedBy check (concluded r stem cycle s t i image work) s t i image work .answer) (andThen check (λ _. andThen r (λ _. accepted tt))) (Satisfies rule stem cycle)
       go (refused number place) e r known = refl
       go (accepted u) e (refused number place) known = refl
-      go (accepted u) e (accepted a) known = rule-verdict rule stem cycle a known (some e)
+      go (accepted u) e (accepted a) known = recognized-exactly a (translation-well-formed rule a known) stem cycle (translation-recognizes rule a known) (some e)

@@ -9,22 +9,24 @@ use lib.ListN.{length, take, drop, length-append}
 use lib.Seq.{take-at}
 use lib.Dec.{leb}
 use borrow.Author.Tests.{leb-true, le-leb, not-true, not-false}
-use Rattle.formula.specs.Result.{Result, accepted, refused, fine}
+use Rattle.answer.specs.Result.{Result, accepted, refused, fine}
 use Rattle.formula.specs.Rule
-use Rattle.formula.proofs.Checks.{require-fine}
-use Rattle.formula.proofs.Results.{never-both, then-accepted}
+use Rattle.answer.proofs.Results.{require-fine, never-both, then-accepted}
 use Rattle.automaton.specs.Automaton.{Automaton}
-use Rattle.automaton.specs.Degeneralized.{translation}
+use Rattle.translation.specs.Degeneralized.{translation}
 use Rattle.automaton.specs.Records.{stateRecords, transitionRecords, initialRecords}
-use Rattle.automaton.specs.Translate.{Counts, counts, Outcome, outcome, zeros, filled, stored, translated}
+use Rattle.automaton.specs.Tables.{Counts, counts, Outcome, outcome}
+use Rattle.answer.specs.Bytes.{zeros, filled}
+use Rattle.translation.specs.Translate.{stored, translated}
 use Rattle.image.specs.Image.{imageBytes}
 use Rattle.image.specs.Calls.{Buffer, buffer, writes}
 use Rattle.image.proofs.Answers.{Long, fine-long, filled-long}
-use Rattle.judge.specs.Judge.{Verdict, lassoCheck, verdict, judgement, judged}
+use Rattle.judge.specs.Judge.{Verdict, verdict, judgement, judged}
+use Rattle.lasso.specs.Lasso.{lassoCheck}
+use Rattle.judge.proofs.VerdictIff.{image-judged}
 use Rattle.correctness.proofs.WellFormed.{translation-well-formed}
 use Rattle.demands.specs.Demand.{roomCheck, inputCheck, Decision, decision, concluded, decided}
-use Rattle.demands.proofs.ImageAccepted.{counts-fit, tables-read}
-use Rattle.demands.proofs.Verdict.{image-judged}
+use Rattle.image.proofs.ImageAccepted.{counts-fit, tables-read}
 
 -- ---- buffers that are long enough, a rule and a lasso that are not refused
 
@@ -136,7 +138,7 @@ module _ (rule stem cycle s t i image work : List ℕ) (passes : inputCheck rule
         unfolding stored
         lasso-judged {answer} {work'} judges =
             let known : judgement answer work' ≡ judgement (accepted (verdict a stem cycle)) (zeros work) =
-            judges ∙ ap (λ (bytes : List ℕ). judged bytes stem cycle work) image-is ∙ image-judged rule stem cycle a (has-stored .translated-to) work (passed .lasso) (passed .work-room) in
+            judges ∙ ap (λ (bytes : List ℕ). judged bytes stem cycle work) image-is ∙ image-judged a (translation-well-formed rule a (has-stored .translated-to)) stem cycle work (passed .lasso) (passed .work-room) in
             let tables = has-stored .tables in
             rw (has-stored .translated-to) (λ k. decision (known k .answer) (tables k .states) (tables k .transitions) (tables k .initial) (has-stored .stored-in k) (known k .work))
 

@@ -7,26 +7,28 @@ use mathlib.Core.Logic.{inl, inr}
 use mathlib.Core.List.{List, [], _∷_, map}
 use mathlib.Core.Bool.{Bool, true, false}
 use lib.ListN.{length}
-use Rattle.sets.specs.Sets.{insert, union, insertJoin, insertJoins, insertProduct, any}
-use Rattle.formula.specs.Result.{accepted, fine, lowest}
+use Rattle.sets.specs.Sets.{insert, union, insertJoin, insertJoins, insertProduct, any, In}
+use Rattle.answer.specs.Result.{accepted, fine, lowest}
 use Rattle.formula.specs.Rule.{leftOperand, rightOperand, lengthCheck, nodeCheck, places, placeCheck, untils, untilCheck}
 use Rattle.formula.specs.Rule
 use Rattle.formula.specs.Formula.{trees, tree, formula}
-use Rattle.formula.specs.Lasso.{letter}
+use Rattle.lasso.specs.Lasso.{letter, lassoCheck}
 use Rattle.term.specs.Term.{cover, terms}
 use Rattle.term.specs.Size.{sizeCheck, checked}
 use Rattle.generalized.specs.Explore.{find, meet, meetAll, explore}
 use Rattle.generalized.specs.Generalized.{partialProduct, transitions, productCheck, targets, generalized, shows, fulfils}
 use Rattle.generalized.specs.Memory.{allTransitions}
-use Rattle.automaton.specs.Automaton.{Transition, State, Automaton, In}
-use Rattle.automaton.specs.Degeneralized.{climb, nextLevel, numbers, initialNumbers, pairTransitions, target, degeneralized, stateOf, translation}
-use Rattle.automaton.specs.Records.{records, twoBytes, stateRecord, transitionRecord, stateRecords, transitionRecords, initialRecords}
-use Rattle.automaton.specs.Translate.{transitionCount}
-use Rattle.automaton.proofs.Members.{All}
+use Rattle.automaton.specs.Automaton.{Transition, State, Automaton}
+use Rattle.translation.specs.Degeneralized.{climb, nextLevel, numbers, initialNumbers, pairTransitions, target, degeneralized, stateOf, translation}
+use Rattle.automaton.specs.Records.{records, stateRecord, transitionRecord, stateRecords, transitionRecords, initialRecords}
+use Rattle.answer.specs.Bytes.{twoBytes}
+use Rattle.automaton.specs.Tables.{transitionCount}
+use Rattle.sets.proofs.Members.{All}
 use Rattle.image.specs.Image.{entry, contents, imageBytes}
 use Rattle.judge.specs.Search
-use Rattle.judge.specs.Judge.{Verdict, kept, broken, lassoCheck, verdict, Judgement, judged}
-use Rattle.demands.proofs.Verdict.{image-judged}
+use Rattle.judge.specs.Judge.{Verdict, kept, broken, verdict, Judgement, judged}
+use Rattle.judge.proofs.VerdictIff.{image-judged}
+use Rattle.correctness.proofs.WellFormed.{translation-well-formed}
 
 -- a lasso and its verdict
 pub record Case : Type 0 where
@@ -199,7 +201,7 @@ rows row m = record {
   imaged = same-each _ _ (row .images) (same-each _ _ table images row m);
   judges = λ c n work enough.
       let fit = same-each _ _ (row .cases) (same-each _ _ table fits row m) c n in
-      ap (λ (j : Judgement). j .answer) (image-judged (row .rule) (c .stem) (c .cycle) (row .automaton) translated work fit enough)
+      ap (λ (j : Judgement). j .answer) (image-judged (row .automaton) (translation-well-formed (row .rule) (row .automaton) translated) (c .stem) (c .cycle) work fit enough)
       ∙ ap accepted (same-each _ _ (row .cases) (same-each _ _ table verdicts row m) c n);
 }
   where

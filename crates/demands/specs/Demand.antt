@@ -6,15 +6,16 @@ use mathlib.Core.List.{List, _++_}
 use mathlib.Core.Bool.{_&&_}
 use lib.ListN.{length, drop}
 use lib.Dec.{leb}
-use Rattle.formula.specs.Result.{Result, accepted, refused, andThen, Check, require}
+use Rattle.answer.specs.Result.{Result, accepted, refused, andThen, Check, require}
 use Rattle.formula.specs.Rule
-use Rattle.formula.specs.Lasso.{Satisfies}
+use Rattle.formula.specs.Satisfaction.{Satisfies}
 use Rattle.automaton.specs.Automaton.{Automaton}
-use Rattle.automaton.specs.Degeneralized.{translation}
+use Rattle.translation.specs.Degeneralized.{translation}
 use Rattle.automaton.specs.Records.{stateRecords, transitionRecords, initialRecords}
-use Rattle.automaton.specs.Translate.{zeros, filled}
+use Rattle.answer.specs.Bytes.{zeros, filled}
 use Rattle.image.specs.Image.{imageBytes}
-use Rattle.judge.specs.Judge.{Verdict, Exactly, lassoCheck, verdict}
+use Rattle.judge.specs.Judge.{Verdict, Exactly, verdict}
+use Rattle.lasso.specs.Lasso.{lassoCheck}
 
 -- 25: one of the three tables, the image's buffer or the working bytes is too short for its call
 unfoldable pub roomCheck : (states transitions initial image work : List ℕ) → Check

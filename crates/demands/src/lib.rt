@@ -1,23 +1,23 @@
 // From a rule and a lasso to the verdict: the calls translate, write and judge in a row.
+use answer::Checked;
 use automaton::INITIAL_BYTES;
 use automaton::STATES_BYTES;
 use automaton::TABLE_TOO_SHORT;
 use automaton::TRANSITIONS_BYTES;
-use automaton::Translated;
-use automaton::translate;
-use formula::Checked;
 use image::IMAGE_BYTES;
 use image::Written;
 use image::write;
 use judge::Judged;
 use judge::WORK_BYTES;
-use judge::check_lasso;
 use judge::judge;
+use lasso::check_lasso;
+use translation::Translated;
+use translation::translate;
 ghost use mathlib.Core.Path.{_≡_};
 ghost use mathlib.Core.Bool.{_&&_};
 ghost use lib.Dec.{leb};
-ghost use Rattle.formula.specs.Result.{fine};
-ghost use Rattle.automaton.specs.Degeneralized.{translation};
+ghost use Rattle.answer.specs.Result.{fine};
+ghost use Rattle.translation.specs.Degeneralized.{translation};
 ghost use Rattle.judge.specs.Judge.{judgeAnswer};
 ghost use Rattle.demands.specs.Demand.{inputCheck, decision, concluded, decided};
 

@@ -8,11 +8,12 @@ use native.Mathlib.Omega.{arith}
 use lib.Dec.{leb}
 use lib.ListN.{length}
 use borrow.Author.Tests.{leb-true, ltb-true, eqb-true}
-use Rattle.formula.specs.Result.{fine, lowest}
+use Rattle.answer.specs.Result.{fine, lowest}
 use Rattle.formula.specs.Rule.{nodeCount, kindAt, leftAt, rightAt, lengthCheck, nodeCheck, placeCheck, untilCheck, checked, untils as untilsOf}
-use Rattle.formula.proofs.Lowest.{fine-first, fine-second, lowest-each}
+use Rattle.answer.proofs.Lowest.{fine-first, fine-second, lowest-each}
 use Rattle.formula.proofs.Operands.{left-proposition, left-child, right-next, right-child}
-use Rattle.formula.proofs.Checks.{Tested, tested, required, require-fine}
+use Rattle.formula.proofs.Checks.{Tested, tested}
+use Rattle.answer.proofs.Results.{required, require-fine}
 
 -- node n is as 3 to 5 want it: of a known kind, its proposition below 8, its children below it
 pub record Node (rule : List ℕ) (n : ℕ) : Type 0 where

@@ -1,5 +1,5 @@
 -- From the tests that the code makes to the checks of a rule.
-use mathlib.Core.Path.{_≡_, refl}
+use mathlib.Core.Path.{_≡_}
 use mathlib.Core.Bool.{Bool, true, false, not, and-false, and-eq-true-iff}
 use mathlib.Core.List.{List}
 use Prim.Native.Nat.{ℕ, _%_, _≤_, _<_}
@@ -8,9 +8,9 @@ use lib.ListN.{length}
 use lib.Dec.{eqb, leb, ltb}
 use borrow.Author.Tests.{leb-true, lt-ltb, le-ltb, le-leb, lt-leb, eq-eqb, ne-eqb, not-true, not-false}
 use Rattle.formula.specs.declared.Operand.{Operand}
-use Rattle.formula.specs.Result.{Check, fine, refused, andThen, require, lowest}
+use Rattle.answer.specs.Result.{fine, refused, lowest}
 use Rattle.formula.specs.Rule.{kindAt, leftAt, rightAt, leftOperand, rightOperand, byteFits, childFits, nodeCount, root, nodeCheck, places, placeCheck, lengthCheck, untilCheck, checked}
-use Rattle.formula.proofs.Lowest.{not-fine}
+use Rattle.answer.proofs.Results.{require-fine, required}
 
 -- the tests of a node's bytes
 abbrev pub leftByte : List ℕ → ℕ → Bool
@@ -118,15 +118,6 @@ module _ (rule : List ℕ) where
         pub untils-left : lowest (placeCheck rule) (nodeCount rule) ≡ fine → untilCheck rule ≡ checked rule
         unfolding checked
         untils-left e = rw (length-fine, nodes, e)
-
--- what a fine check says of its test, alone and before others
-pub require-fine : (t : Bool) (number place : ℕ) → require t number place ≡ fine → t ≡ true
-require-fine true number place e = refl
-require-fine false number place e = not-fine e
-
-pub required : (t : Bool) (number place : ℕ) (rest : Check) → andThen (require t number place) (λ _. rest) ≡ fine → (t ≡ true) × (rest ≡ fine)
-required true number place rest e = (refl, e)
-required false number place rest e = not-fine e
 
 -- what a fine check says of node n
 pub record Tested (rule : List ℕ) (n : ℕ) : Type 0 where

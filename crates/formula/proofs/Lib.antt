@@ -1,10 +1,7 @@
 -- What the proofs of several functions, and of the crates above, cite.
-pub mod Results
 pub mod Operands
-pub mod Lowest
 pub mod Checks
 pub mod Places
 pub mod Untils
 pub mod Accepted
 pub mod Trees
-pub mod Letters

@@ -12,9 +12,9 @@ use lib.Seq.{getD-set-same, getD-set-other}
 use borrow.Author.Tests.{eq-eqb, ne-eqb, ltb-true, lt-ltb}
 use Rattle.formula.specs.declared.Operand.{Operand}
 use Rattle.formula.specs.declared.Operand.the-variants.{Unused, Proposition, Child}
-use Rattle.formula.specs.Result.{fine, lowest}
+use Rattle.answer.specs.Result.{fine, lowest}
 use Rattle.formula.specs.Rule.{kindAt, leftAt, rightAt, leftOperand, rightOperand, childFits, isChild, nodeCheck, places}
-use Rattle.formula.proofs.Lowest.{lowest-each}
+use Rattle.answer.proofs.Lowest.{lowest-each}
 use Rattle.formula.proofs.Checks.{Tested, tested}
 
 -- a byte is a child at one place at most

@@ -8,7 +8,7 @@ use native.Mathlib.Omega.{arith}
 use lib.Dec.{eqb}
 use lib.ListN.{length, length-append}
 use borrow.Author.Tests.{le-leb, lt-leb}
-use Rattle.formula.specs.Result.{fine, refused}
+use Rattle.answer.specs.Result.{fine, refused}
 use Rattle.formula.specs.Rule.{nodeCount, kindAt, untils, untilCheck}
 
 -- a loop over n nodes that stands at i: count is the number of the untils among the first i nodes

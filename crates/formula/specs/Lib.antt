@@ -1,5 +1,4 @@
 -- What a rule's bytes are, which are refused, the formula that they encode, and when a lasso satisfies it.
-pub mod Result
 pub mod Rule
 pub mod Formula
-pub mod Lasso
+pub mod Satisfaction

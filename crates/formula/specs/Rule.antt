@@ -6,9 +6,7 @@ use lib.ListN.{getD, length}
 use lib.Dec.{eqb, leb, ltb}
 use Rattle.formula.specs.declared.Operand.{Operand}
 use Rattle.formula.specs.declared.Operand.the-variants.{Unused, Proposition, Child}
-use Rattle.formula.specs.declared.Checked.{Checked}
-use Rattle.formula.specs.declared.Checked.the-variants.{Accepted, Refused}
-use Rattle.formula.specs.Result.{refused, andThen, Check, fine, require, lowest}
+use Rattle.answer.specs.Result.{andThen, Check, require, lowest}
 
 -- how many nodes a rule has: every three bytes are one (01, Rules and when a plan keeps one, sentence 1)
 abbrev pub nodeCount : List ℕ → ℕ
@@ -98,8 +96,3 @@ checked rule =
     andThen (lengthCheck rule)
     (λ _. andThen (lowest (nodeCheck rule) (nodeCount rule))
     (λ _. andThen (lowest (placeCheck rule) (nodeCount rule)) (λ _. untilCheck rule)))
-
--- what the answer of the call `check` says in document 01's numbers
-abbrev pub answer : Checked → Check
-answer Accepted = fine
-answer (Refused number place) = refused number place

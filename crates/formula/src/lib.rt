@@ -1,12 +1,14 @@
 // The bytes of a rule: what they must be, refusals 1 to 7 of document 01, and the parts of a node.
+use answer::Checked;
+use answer::wide;
 ghost use mathlib.Core.Path.{_≡_};
 ghost use mathlib.Core.Bool.{true, cond};
 ghost use mathlib.Core.List.{List, [], _∷_};
 ghost use lib.Dec.{eqb};
 ghost use Prim.Native.Nat.{ℕ, _+_, _*_, _<_, _≤_};
 ghost use lib.ListN.{length, getD};
-ghost use Rattle.formula.specs.Result.{fine, lowest};
-ghost use Rattle.formula.specs.Rule.{nodeCount, kindAt, leftAt, rightAt, leftOperand, rightOperand, byteFits, childFits, isChild, lengthCheck, nodeCheck, places, placeCheck, untils, untilCheck, checked, answer};
+ghost use Rattle.answer.specs.Result.{fine, lowest, answer};
+ghost use Rattle.formula.specs.Rule.{nodeCount, kindAt, leftAt, rightAt, leftOperand, rightOperand, byteFits, childFits, isChild, nodeCheck, places, placeCheck, untils, untilCheck, checked};
 
 // The numbers of document 01 by which a rule is refused.
 pub const TOO_LONG: u8 = 1;
@@ -49,23 +51,11 @@ pub const UNTIL: u8 = 7;
 
 pub const RELEASE: u8 = 8;
 
-// The answer of `check`: accepted, or a refusal's number and place.
-pub enum Checked {
-    Accepted,
-    Refused(u8, usize),
-}
-
 // What the left or the right byte of a node is.
 enum Operand {
     Unused,
     Proposition,
     Child,
-}
-
-fn wide(x: u8) -> usize
-    ensures { λ r. ⌜ r ≡ x ⌝ }
-{
-    x as usize
 }
 
 pub fn kind_of(rule: &[u8], n: usize) -> u8

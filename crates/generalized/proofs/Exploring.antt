@@ -9,7 +9,7 @@ use lib.ListN.{length, getD, take, drop, drop-of-length-le}
 use lib.Seq.{length-take-le}
 use lib.Dec.{ltb}
 use borrow.Author.Tests.{lt-ltb, le-ltb}
-use Rattle.formula.specs.Result.{Result, accepted, refused, andThen, Check, fine}
+use Rattle.answer.specs.Result.{Result, accepted, refused, andThen, Check, fine}
 use Rattle.generalized.specs.Explore.{find, meet, meetAll, explore}
 use Rattle.generalized.proofs.Lists.{drop-next}
 

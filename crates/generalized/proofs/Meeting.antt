@@ -9,7 +9,7 @@ use lib.ListN.{length, getD, take, drop, set, length-append, length-set, drop-of
 use lib.Seq.{length-take-le, take-suc, take-suc-set}
 use lib.Dec.{eqb}
 use borrow.Author.Tests.{lt-ltb, le-ltb}
-use Rattle.formula.specs.Result.{Result, refused, fine}
+use Rattle.answer.specs.Result.{Result, refused, fine}
 use Rattle.generalized.specs.declared.Met.{Met}
 use Rattle.generalized.specs.declared.Met.the-variants.{Count, Full}
 use Rattle.generalized.specs.declared.Walked.the-variants.{Counts}

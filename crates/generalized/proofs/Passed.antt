@@ -3,11 +3,11 @@ use mathlib.Core.Path.{_≡_}
 use mathlib.Core.List.{List}
 use Prim.Native.Nat.{ℕ, _≤_, _<_}
 use native.Mathlib.Omega.{arith}
-use Rattle.formula.specs.Result.{fine, lowest}
+use Rattle.answer.specs.Result.{fine, lowest}
 use Rattle.formula.specs.Rule.{nodeCount}
 use Rattle.formula.specs.Rule
 use Rattle.formula.specs.Formula.{tree, InRange}
-use Rattle.formula.proofs.Lowest.{fine-first, fine-second, lowest-each, lowest-below}
+use Rattle.answer.proofs.Lowest.{fine-first, fine-second, lowest-each, lowest-below}
 use Rattle.formula.proofs.Accepted.{accepted-fine}
 use Rattle.term.specs.Size.{sizeCheck, checked, Ready}
 use Rattle.term.proofs.Sizes.{Few, few-fine, ready-in-range}

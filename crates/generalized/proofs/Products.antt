@@ -8,11 +8,12 @@ use native.Mathlib.Omega.{arith}
 use lib.ListN.{length, getD, take, drop, length-map}
 use lib.Dec.{leb}
 use borrow.Author.Tests.{le-leb, lt-leb}
-use Rattle.formula.specs.Result.{Check, require}
+use Rattle.answer.specs.Result.{Check, require}
 use Rattle.formula.specs.Rule.{nodeCount}
 use Rattle.formula.specs.Formula.{tree, InRange}
-use Rattle.formula.proofs.Lowest.{Passing, pass-begins, pass-steps, pass-fails, pass-ends}
-use Rattle.term.specs.Term.{has, Term, terms}
+use Rattle.answer.proofs.Lowest.{Passing, pass-begins, pass-steps, pass-fails, pass-ends}
+use Rattle.sets.specs.Bits.{has}
+use Rattle.term.specs.Term.{Term, terms}
 use Rattle.term.specs.Packed.{pack}
 use Rattle.term.proofs.Packing.{Numbers, of-terms, numbers-are, canonical, product-numbers, owing-numbers, terms-numbers}
 use Rattle.generalized.specs.declared.Many.{Many}

@@ -8,7 +8,7 @@ use lib.ListN.{length, getD, take, set, length-append, length-map, length-set, l
 use lib.Seq.{getD-take, length-take-le, take-take, take-append-le, take-suc, getD-set-same, getD-set-other}
 use lib.Dec.{eqb}
 use borrow.Author.Count.{below-more}
-use Rattle.formula.specs.Result.{accepted, refused, fine}
+use Rattle.answer.specs.Result.{accepted, refused, fine}
 use Rattle.formula.specs.Rule.{nodeCount}
 use Rattle.formula.specs.Formula.{formula}
 use Rattle.term.specs.Term.{Term, cover}

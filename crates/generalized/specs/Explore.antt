@@ -4,7 +4,7 @@ use mathlib.Core.List.{List, [], _∷_, _++_}
 use mathlib.Core.Bool.{Bool, true, false}
 use lib.ListN.{getD, length}
 use lib.Dec.{ltb}
-use Rattle.formula.specs.Result.{Result, accepted, refused, andThen, Check}
+use Rattle.answer.specs.Result.{Result, accepted, refused, andThen, Check}
 
 module _ {A : Type 0} (same : A → A → Bool) where
   -- the number of x: its first place among xs, or their count where it is not among them

@@ -7,10 +7,11 @@ use lib.ListN.{length}
 use lib.Dec.{eqb, leb, ltb}
 use lib.Bits.{bitOr}
 use Rattle.sets.specs.Sets.{any}
-use Rattle.formula.specs.Result.{Result, Check, require, lowest}
+use Rattle.answer.specs.Result.{Result, Check, require, lowest}
 use Rattle.formula.specs.Rule.{nodeCount}
 use Rattle.formula.specs.Formula.{tree, formula}
-use Rattle.term.specs.Term.{has, Term, term, product, cover, terms}
+use Rattle.sets.specs.Bits.{has}
+use Rattle.term.specs.Term.{Term, term, product, cover, terms}
 use Rattle.generalized.specs.Explore.{explore}
 
 abbrev pub times : Bool → List Term → List Term → List Term

@@ -7,7 +7,7 @@ use mathlib.Core.Bool.{Bool, true, false}
 use lib.ListN.{length, getD, take, drop}
 use lib.Dec.{eqb}
 use Rattle.sets.specs.Sets.{insertProductN}
-use Rattle.formula.specs.Result.{Result, accepted, refused, andThen, fine}
+use Rattle.answer.specs.Result.{Result, accepted, refused, andThen, fine}
 use Rattle.formula.specs.Formula.{tree}
 use Rattle.term.specs.Term.{Term}
 use Rattle.term.specs.Term

@@ -5,10 +5,11 @@ use Prim.Native.Nat.{ℕ, zero, suc, _+_, _*_, _≤_, _<_}
 use native.Mathlib.Omega.{arith}
 use lib.ListN.{length, getD, take, drop, replicate, length-append, length-replicate, List·getD-append}
 use lib.Seq.{getD-drop, getD-take, length-take-le}
-use Rattle.formula.specs.Result.{accepted, Check, lowest}
+use Rattle.answer.specs.Result.{accepted, Check, lowest}
 use Rattle.automaton.specs.Automaton.{Automaton}
-use Rattle.automaton.specs.Translate.{Counts}
-use Rattle.image.specs.Reader.{numberAt, stateCheck, countSum, transitionCheck, initialCheck, recordsCheck, transitionsFrom, statesFrom, numbersFrom, automatonFrom, readTables}
+use Rattle.automaton.specs.Tables.{Counts}
+use Rattle.answer.specs.Bytes.{numberAt}
+use Rattle.image.specs.Reader.{stateCheck, countSum, transitionCheck, initialCheck, recordsCheck, transitionsFrom, statesFrom, numbersFrom, automatonFrom, readTables}
 use Rattle.image.proofs.Before.{follows}
 use Rattle.image.proofs.Tables.{Bytes, sum-first, sum-fine}
 

@@ -8,11 +8,12 @@ use lib.ListN.{length, take, drop, replicate, length-append, length-drop, length
 use lib.Seq.{take-append-seam}
 use lib.Dec.{leb}
 use borrow.Author.Tests.{leb-true, le-leb, lt-leb, not-true, not-false}
-use Rattle.formula.specs.Result.{Result, accepted, refused, fine}
-use Rattle.formula.proofs.Checks.{require-fine}
+use Rattle.answer.specs.Result.{Result, accepted, refused, fine}
+use Rattle.answer.proofs.Results.{require-fine}
 use Rattle.automaton.specs.Automaton.{Automaton}
 use Rattle.automaton.specs.Records.{stateRecords, transitionRecords, initialRecords}
-use Rattle.automaton.specs.Translate.{Counts, counts, Outcome, outcome, tableCheck, filled}
+use Rattle.automaton.specs.Tables.{Counts, counts, Outcome, outcome, tableCheck}
+use Rattle.answer.specs.Bytes.{filled}
 use Rattle.image.specs.Image.{transitionsAt, initialAt, imageBytes}
 use Rattle.image.specs.Reader.{countsAt, countsFit, recordsCheck, readTables}
 use Rattle.image.specs.Calls.{Buffer, buffer, written, writes, loaded, reads, checks}

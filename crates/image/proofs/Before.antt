@@ -3,7 +3,7 @@
 use mathlib.Core.Path.{_≡_, refl, sym}
 use Prim.Native.Nat.{ℕ}
 use native.Mathlib.Omega.{arith}
-use Rattle.formula.specs.Result.{Result, accepted, refused, andThen, Check, fine}
+use Rattle.answer.specs.Result.{Result, accepted, refused, andThen, Check, fine}
 
 -- no answer is both
 pub not-both : {A B : Type 0} {number place : ℕ} {x : A} → _≡_ {A = Result A} (refused number place) (accepted x) → B

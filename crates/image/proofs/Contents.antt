@@ -8,12 +8,13 @@ use lib.ListN.{length, take, drop, length-drop}
 use lib.Seq.{take-all}
 use lib.Dec.{leb}
 use borrow.Author.Tests.{eqb-true}
-use Rattle.formula.specs.Result.{Result, accepted, refused, andThen, Check, fine}
-use Rattle.formula.proofs.Checks.{require-fine}
+use Rattle.answer.specs.Result.{Result, accepted, refused, andThen, Check, fine}
+use Rattle.answer.proofs.Results.{require-fine}
 use Rattle.automaton.specs.Automaton.{Automaton}
-use Rattle.automaton.specs.Translate.{Counts, counts, filled}
+use Rattle.automaton.specs.Tables.{Counts, counts}
+use Rattle.answer.specs.Bytes.{filled, numberAt}
 use Rattle.image.specs.Image.{transitionsAt, initialAt, imageLength}
-use Rattle.image.specs.Reader.{numberAt, countsAt, contentsCheck, recordsCheck, automatonFrom, readTables, readImage}
+use Rattle.image.specs.Reader.{countsAt, contentsCheck, recordsCheck, automatonFrom, readTables, readImage}
 use Rattle.image.specs.Calls.{checks}
 use Rattle.image.specs.Steps.{Loads}
 use Rattle.image.proofs.Before.{not-both, follows, Passes, refuses}

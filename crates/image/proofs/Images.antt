@@ -8,12 +8,12 @@ use native.Mathlib.Omega.{arith}
 use lib.ListN.{length, getD, take, drop, length-drop, take-append-drop}
 use lib.Seq.{drop-at, drop-drop, drop-cons, take-all, length-take-le}
 use borrow.Author.Tests.{le-leb, eq-eqb}
-use Rattle.formula.specs.Result.{accepted, fine}
+use Rattle.answer.specs.Result.{accepted, fine}
 use Rattle.automaton.specs.Automaton.{Automaton}
-use Rattle.automaton.specs.Records.{twoBytes}
-use Rattle.automaton.specs.Translate.{Counts}
+use Rattle.answer.specs.Bytes.{twoBytes, numberAt}
+use Rattle.automaton.specs.Tables.{Counts}
 use Rattle.image.specs.Image.{entry, transitionsAt, initialAt, imageLength, contents}
-use Rattle.image.specs.Reader.{numberAt, countsAt, countsFit, contentsCheck, readTables, readImage}
+use Rattle.image.specs.Reader.{countsAt, countsFit, contentsCheck, readTables, readImage}
 use Rattle.image.specs.Steps.{joined}
 use Rattle.image.proofs.Contents.{Contents}
 use Rattle.image.proofs.Tables.{Bytes, two-back, Passed, image-length}

@@ -11,3 +11,7 @@ pub mod Answers
 pub mod Agree
 pub mod Images
 pub mod RoundTrip
+pub mod ReadRecords
+pub mod ImageAccepted
+pub mod Lookup
+pub mod Accepted

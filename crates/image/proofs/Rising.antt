@@ -3,9 +3,10 @@ use mathlib.Core.Path.{_≡_, refl, sym}
 use mathlib.Core.List.{List}
 use Prim.Native.Nat.{ℕ, _+_, _*_, _≤_, _<_}
 use native.Mathlib.Numerals.{add-one}
-use Rattle.formula.specs.Result.{refused, lowest}
-use Rattle.formula.proofs.Lowest.{Passing, pass-begins, pass-steps, pass-fails}
-use Rattle.image.specs.Reader.{numberAt, initialCheck}
+use Rattle.answer.specs.Result.{refused, lowest}
+use Rattle.answer.proofs.Lowest.{Passing, pass-begins, pass-steps, pass-fails}
+use Rattle.answer.specs.Bytes.{numberAt}
+use Rattle.image.specs.Reader.{initialCheck}
 use Rattle.image.proofs.Tests.{leastAt, number-wrong, not-rising, rising}
 
 pub record Rising (states : ℕ) (xs : List ℕ) (n least i : ℕ) : Type 0 where

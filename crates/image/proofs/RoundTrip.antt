@@ -5,11 +5,12 @@ use mathlib.Core.Bool.{true}
 use mathlib.Core.List.{List, _++_}
 use Prim.Native.Nat.{ℕ, _*_}
 use lib.ListN.{length, take, drop}
-use Rattle.formula.specs.Result.{accepted, fine, require}
-use Rattle.formula.proofs.Checks.{require-fine}
+use Rattle.answer.specs.Result.{accepted, fine, require}
+use Rattle.answer.proofs.Results.{require-fine}
 use Rattle.automaton.specs.Automaton.{Automaton}
 use Rattle.automaton.specs.Records.{stateRecords, transitionRecords, initialRecords}
-use Rattle.automaton.specs.Translate.{Counts, counts, outcome, tableCheck, filled}
+use Rattle.automaton.specs.Tables.{Counts, counts, outcome, tableCheck}
+use Rattle.answer.specs.Bytes.{filled}
 use Rattle.image.specs.Image.{transitionsAt, initialAt, imageBytes}
 use Rattle.image.specs.Reader.{countsAt, countsFit, contentsCheck, recordsCheck, automatonFrom, readTables, readImage}
 use Rattle.image.specs.Calls.{buffer, bufferCheck, writes, reads}

@@ -1,29 +1,29 @@
 -- How many bytes the image of an automaton takes: 18 for the contents, and 4, 4 and 2 a record, so that its counts alone
 -- decide it. Assumes nothing.
-use mathlib.Core.Path.{_≡_, refl}
+use mathlib.Core.Path.{_≡_}
 use mathlib.Core.List.{_++_}
 use Prim.Native.Nat.{_*_}
 use native.Mathlib.Omega.{arith}
 use lib.ListN.{length, length-append}
 use Rattle.automaton.specs.Automaton.{Automaton}
-use Rattle.automaton.specs.Records.{twoBytes, stateRecord, stateRecords, transitionRecords, initialRecords}
-use Rattle.automaton.specs.Translate.{counts, transitionCount}
-use Rattle.automaton.proofs.Filling.{records-length}
-use Rattle.automaton.proofs.SecondWalk.{transitions-count}
+use Rattle.answer.specs.Bytes.{twoBytes}
+use Rattle.automaton.specs.Records.{stateRecord, stateRecords, transitionRecords, initialRecords}
+use Rattle.automaton.specs.Tables.{counts, transitionCount}
+use Rattle.automaton.proofs.Records.{records-length, number-length, state-length, transitions-count}
 use Rattle.image.specs.Image.{entry, imageLength, contents, imageBytes}
 
 module _ (a : Automaton) where
-  states-size : length (stateRecords a) ≡ length (a .states) * 4
-  unfolding stateRecords stateRecord twoBytes
-  states-size = records-length stateRecord 4 (λ s. refl) (a .states)
+  pub states-size : length (stateRecords a) ≡ 4 * length (a .states)
+  unfolding stateRecords
+  states-size = omega (arith, records-length stateRecord 4 state-length (a .states))
 
-  transitions-size : length (transitionRecords a) ≡ transitionCount (a .states) * 4
+  pub transitions-size : length (transitionRecords a) ≡ 4 * transitionCount (a .states)
   unfolding transitionRecords
-  transitions-size = transitions-count (a .states)
+  transitions-size = omega (arith, transitions-count (a .states))
 
-  initial-size : length (initialRecords a) ≡ length (a .initial) * 2
-  unfolding initialRecords twoBytes
-  initial-size = records-length twoBytes 2 (λ n. refl) (a .initial)
+  pub initial-size : length (initialRecords a) ≡ 2 * length (a .initial)
+  unfolding initialRecords
+  initial-size = omega (arith, records-length twoBytes 2 number-length (a .initial))
 
   pub image-size : length (imageBytes a) ≡ imageLength (counts a)
   unfolding imageBytes contents entry twoBytes

@@ -2,40 +2,16 @@
 use mathlib.Core.Path.{_≡_, refl, _∙_}
 use mathlib.Core.List.{List, [], _∷_, _++_, append-nil, append-assoc}
 use Prim.Native.Nat.{ℕ, _+_, _-_, _*_, _/_, _%_, _≤_, _<_}
-use native.Mathlib.Nat.{zero-add}
-use native.Mathlib.Numerals.{add-one}
 use native.Mathlib.Omega.{arith}
-use lib.ListN.{length, getD, take, drop, set, replicate, length-append, length-drop, length-set, drop-of-length-le}
-use lib.Seq.{sets-eq, paste-suc, take-all, take-at, drop-at, drop-drop, length-take-le}
+use lib.ListN.{length, take, drop, set, replicate, length-append, length-drop, drop-of-length-le}
+use lib.Seq.{sets-eq, take-all, take-at, drop-at, drop-drop, length-take-le}
 use borrow.Rule.Slice.PartMut.{midOf, putMid}
-use Rattle.automaton.specs.Records.{twoBytes}
-use Rattle.automaton.specs.Translate.{Counts, filled}
-use Rattle.formula.specs.Result.{accepted}
+use Rattle.answer.specs.Bytes.{twoBytes, filled}
+use Rattle.automaton.specs.Tables.{Counts}
+use Rattle.answer.specs.Result.{accepted}
 use Rattle.image.specs.Image.{entry, transitionsAt, initialAt, imageLength, contents}
 use Rattle.image.specs.Calls.{buffer}
 use Rattle.image.specs.Steps.{joinedOver}
-
--- a loop that stores vs and stands at i: the first i are stored, and the rest is as it was
-pub record Storing (xs vs : List ℕ) (n : ℕ) (ys : List ℕ) (i : ℕ) : Type 0 where
-  pub within : i ≤ n
-  pub size : length ys ≡ length xs
-  pub stored : ys ≡ take i vs ++ drop i xs
-
-module _ (xs vs : List ℕ) (n : ℕ) where
-  pub store-begins : Storing xs vs n xs 0
-  store-begins = record { within = omega arith; size = refl; stored = refl }
-
-  pub store-steps : (ys : List ℕ) (i : ℕ) → i < n → n ≤ length xs → n ≤ length vs → Storing xs vs n ys i → Storing xs vs n (set ys i (getD vs i 0)) (i + 1)
-  store-steps ys i lt room source inv = record {
-    within = omega arith;
-    size = simp length-set (inv .size);
-    stored = rw (add-one, inv .stored) (simp zero-add at (paste-suc xs 0 vs i 0 (omega arith) (omega arith)));
-  }
-
-  pub store-ends : (ys : List ℕ) (i : ℕ) → n ≤ i → Storing xs vs n ys i → ys ≡ take n vs ++ drop n xs
-  store-ends ys i le inv =
-      let e : n ≡ i = omega (arith, inv .within) in
-      rw e (inv .stored)
 
 -- six stores are an entry of the contents
 pub entry-stored : (xs : List ℕ) (kind count offset : ℕ) → 6 ≤ length xs → kind < 256

@@ -8,10 +8,11 @@ use native.Mathlib.Omega.{arith}
 use lib.ListN.{getD}
 use lib.Dec.{eqb}
 use borrow.Author.Tests.{leb-true, eqb-true, eq-eqb, ne-eqb}
-use Rattle.formula.specs.Result.{accepted, refused, andThen, Check, fine, require, lowest}
-use Rattle.formula.proofs.Lowest.{Passing, pass-begins, pass-steps, pass-fails, pass-ends}
-use Rattle.formula.proofs.Checks.{require-fine}
-use Rattle.image.specs.Reader.{numberAt, stateCheck, countSum}
+use Rattle.answer.specs.Result.{accepted, refused, andThen, Check, fine, require, lowest}
+use Rattle.answer.proofs.Lowest.{Passing, pass-begins, pass-steps, pass-fails, pass-ends}
+use Rattle.answer.proofs.Results.{require-fine}
+use Rattle.answer.specs.Bytes.{numberAt}
+use Rattle.image.specs.Reader.{stateCheck, countSum}
 use Rattle.image.proofs.Before.{passes, refuses}
 
 -- what a fine check says of state record i

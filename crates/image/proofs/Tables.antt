@@ -8,14 +8,15 @@ use lib.ListN.{length, getD, take, drop, length-drop}
 use lib.Seq.{getD-drop, take-add}
 use lib.Dec.{eqb}
 use borrow.Author.Tests.{eqb-true}
-use Rattle.formula.specs.Result.{fine, lowest}
-use Rattle.formula.proofs.Lowest.{fine-first, fine-second, lowest-each}
-use Rattle.formula.proofs.Checks.{require-fine}
-use Rattle.automaton.specs.Records.{records, twoBytes, stateRecord, transitionRecord, stateRecords, transitionRecords, initialRecords}
-use Rattle.automaton.specs.Translate.{Counts, counts, transitionCount}
+use Rattle.answer.specs.Result.{fine, lowest}
+use Rattle.answer.proofs.Lowest.{fine-first, fine-second, lowest-each}
+use Rattle.answer.proofs.Results.{require-fine}
+use Rattle.automaton.specs.Records.{records, stateRecord, transitionRecord, stateRecords, transitionRecords, initialRecords}
+use Rattle.answer.specs.Bytes.{twoBytes, numberAt}
+use Rattle.automaton.specs.Tables.{Counts, counts, transitionCount}
 use Rattle.image.specs.Image.{imageLength, imageBytes}
 use Rattle.image.specs.Steps.{joined}
-use Rattle.image.specs.Reader.{numberAt, stateCheck, countSum, sumCheck, recordsCheck, transitionsFrom, statesFrom, numbersFrom, automatonFrom}
+use Rattle.image.specs.Reader.{stateCheck, countSum, sumCheck, recordsCheck, transitionsFrom, statesFrom, numbersFrom, automatonFrom}
 use Rattle.image.proofs.Sums.{StateFits, state-fine}
 use Rattle.image.proofs.Sizes.{image-size}
 

@@ -8,11 +8,11 @@ use lib.ListN.{length, getD}
 use lib.Dec.{leb, eqb}
 use lib.Bits.{bitAnd}
 use borrow.Author.Tests.{leb-true, lt-ltb, le-ltb, le-leb, lt-leb, eq-eqb, ne-eqb, not-true, not-false}
-use Rattle.formula.specs.Result.{Result, accepted, refused, andThen, Check, fine, lowest}
-use Rattle.automaton.specs.Translate.{Counts}
+use Rattle.answer.specs.Result.{Result, accepted, refused, andThen, Check, fine, lowest}
+use Rattle.automaton.specs.Tables.{Counts, countsOf}
 use Rattle.image.specs.Image.{transitionsAt, initialAt, imageLength}
-use Rattle.image.specs.Calls.{countsOf}
-use Rattle.image.specs.Reader.{numberAt, countsAt, countsFit, contentsCheck, stateCheck, sumCheck, transitionCheck, initialCheck, recordsCheck}
+use Rattle.answer.specs.Bytes.{numberAt}
+use Rattle.image.specs.Reader.{countsAt, countsFit, contentsCheck, stateCheck, sumCheck, transitionCheck, initialCheck, recordsCheck}
 
 -- two orders and a test in a row: the first that fails, or the last
 module _ (a x b y : ℕ) (r : Bool) where

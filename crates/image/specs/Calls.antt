@@ -3,20 +3,17 @@ use Prim.Native.Nat.{ℕ}
 use mathlib.Core.List.{List, _++_}
 use lib.ListN.{length, drop}
 use lib.Dec.{leb}
-use Rattle.formula.specs.Result.{Result, accepted, refused, andThen, Check, require}
+use Rattle.answer.specs.Result.{Result, accepted, refused, andThen, Check, require}
 use Rattle.automaton.specs.Automaton.{Automaton}
 use Rattle.automaton.specs.Records.{stateRecords, transitionRecords, initialRecords}
-use Rattle.automaton.specs.Translate.{Counts, counts, Outcome, outcome, tableCheck, filled}
+use Rattle.automaton.specs.Tables.{countsOf, Counts, counts, Outcome, outcome, tableCheck}
+use Rattle.answer.specs.Bytes.{filled}
 use Rattle.image.specs.declared.Written.{Written}
 use Rattle.image.specs.declared.Written.the-variants.{Length, Refused}
 use Rattle.image.specs.declared.Loaded.{Loaded}
 use Rattle.image.specs.declared.Loaded.the-variants.{Counted, Rejected}
 use Rattle.image.specs.Image.{imageBytes}
 use Rattle.image.specs.Reader.{countsFit, readTables, readImage}
-
--- three numbers as counts
-abbrev pub countsOf : (states transitions initial : ℕ) → Counts
-countsOf states transitions initial = record { states = states; transitions = transitions; initial = initial }
 
 -- what the answer of write says in document 01's numbers and values
 abbrev pub writeAnswer : Written → Result ℕ

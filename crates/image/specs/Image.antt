@@ -2,8 +2,9 @@
 use Prim.Native.Nat.{ℕ, _+_, _*_}
 use mathlib.Core.List.{List, _++_}
 use Rattle.automaton.specs.Automaton.{Automaton}
-use Rattle.automaton.specs.Records.{twoBytes, stateRecords, transitionRecords, initialRecords}
-use Rattle.automaton.specs.Translate.{Counts, counts}
+use Rattle.answer.specs.Bytes.{twoBytes}
+use Rattle.automaton.specs.Records.{stateRecords, transitionRecords, initialRecords}
+use Rattle.automaton.specs.Tables.{Counts, counts}
 
 -- an entry of the table of contents, in 6 bytes: of what kind a body's records are, how many it has and where it
 -- begins (01, The image, sentences 2 and 3)

@@ -5,14 +5,11 @@ use mathlib.Core.Bool.{Bool, _&&_}
 use lib.ListN.{getD, length, drop}
 use lib.Dec.{eqb, leb, ltb}
 use lib.Bits.{bitAnd}
-use Rattle.formula.specs.Result.{Result, accepted, andThen, Check, require, lowest}
+use Rattle.answer.specs.Bytes.{numberAt}
+use Rattle.answer.specs.Result.{Result, accepted, andThen, Check, require, lowest}
 use Rattle.automaton.specs.Automaton.{Transition, State, Automaton}
-use Rattle.automaton.specs.Translate.{Counts}
+use Rattle.automaton.specs.Tables.{Counts}
 use Rattle.image.specs.Image.{transitionsAt, initialAt, imageLength}
-
--- the number in the two bytes from place i on, of which the first is the low one (01, The image, sentence 2)
-abbrev pub numberAt : List ℕ → ℕ → ℕ
-numberAt bytes i = getD bytes i 0 + 256 * getD bytes (i + 1) 0
 
 -- the counts that an image's contents give
 abbrev pub countsAt : List ℕ → Counts

@@ -3,8 +3,9 @@ use Prim.Native.Nat.{ℕ, _*_}
 use mathlib.Core.Path.{_≡_}
 use mathlib.Core.List.{List, _++_}
 use lib.ListN.{take, drop}
-use Rattle.formula.specs.Result.{Result, accepted, refused}
-use Rattle.automaton.specs.Translate.{Counts, filled}
+use Rattle.answer.specs.Result.{Result, accepted, refused}
+use Rattle.automaton.specs.Tables.{Counts}
+use Rattle.answer.specs.Bytes.{filled}
 use Rattle.image.specs.declared.StateCount.{StateCount}
 use Rattle.image.specs.declared.StateCount.the-variants.{Count, Wrong}
 use Rattle.image.specs.Image.{transitionsAt, initialAt, imageLength, contents}

@@ -1,23 +1,26 @@
 // The image of an automaton: the calls write and read, and check, which looks at an image and stores nothing.
+use answer::Checked;
+use answer::copy;
+use answer::number_at;
+use answer::zero;
 use automaton::INITIAL_BYTES;
 use automaton::MAX_STATES;
 use automaton::MAX_TRANSITIONS;
 use automaton::STATES_BYTES;
 use automaton::TABLE_TOO_SHORT;
 use automaton::TRANSITIONS_BYTES;
-use formula::Checked;
 ghost use mathlib.Core.Path.{_≡_};
 ghost use mathlib.Core.Bool.{_&&_};
 ghost use mathlib.Core.List.{_++_};
 ghost use Prim.Native.Nat.{_+_, _*_, _<_, _≤_};
 ghost use lib.Dec.{eqb, leb};
-ghost use lib.ListN.{length, take, drop, replicate};
-ghost use Rattle.formula.specs.Result.{accepted, andThen, require, lowest};
-ghost use Rattle.formula.specs.Rule.{answer};
-ghost use Rattle.automaton.specs.Translate.{outcome, filled};
+ghost use lib.ListN.{length, take, drop};
+ghost use Rattle.answer.specs.Result.{accepted, andThen, require, lowest, answer};
+ghost use Rattle.automaton.specs.Tables.{outcome, countsOf};
+ghost use Rattle.answer.specs.Bytes.{filled, numberAt};
 ghost use Rattle.image.specs.Image.{entry, transitionsAt, initialAt, imageLength, contents};
-ghost use Rattle.image.specs.Reader.{numberAt, countsAt, countsFit, contentsCheck, stateCheck, countSum, transitionCheck, initialCheck, recordsCheck};
-ghost use Rattle.image.specs.Calls.{countsOf, writeAnswer, buffer, writes, readAnswer, reads, checks};
+ghost use Rattle.image.specs.Reader.{countsAt, countsFit, contentsCheck, stateCheck, countSum, transitionCheck, initialCheck, recordsCheck};
+ghost use Rattle.image.specs.Calls.{writeAnswer, buffer, writes, readAnswer, reads, checks};
 ghost use Rattle.image.specs.Steps.{stateAnswer, joinedOver, Loads};
 
 // The numbers of document 01 by which an image or tables are refused.
@@ -55,21 +58,6 @@ pub enum Loaded {
 enum StateCount {
     Count(usize),
     Wrong,
-}
-
-// A byte as a number.
-fn wide(x: u8) -> usize
-    ensures { λ r. ⌜ r ≡ x ⌝ }
-{
-    x as usize
-}
-
-// The number at place i, low byte first.
-pub fn number_at(bytes: &[u8], i: usize) -> usize
-    requires { ⌜ i + 1 < length (now bytes) ⌝ }
-    ensures { λ r. ⌜ r ≡ numberAt (now (bytes .entry)) i ⌝ }
-{
-    wide(bytes[i]) + 256 * wide(bytes[i + 1])
 }
 
 // The lengths of three lent tables against 25.
@@ -300,25 +288,13 @@ pub fn check(image: &[u8]) -> Loaded
     Loaded::Counted(states, transitions, initial)
 }
 
-// The first n bytes of source in the first places of target.
-fn copy(target: &mut [u8], source: &[u8], n: usize)
-    requires { ⌜ (n ≤ length (now target)) × (n ≤ length (now source)) ⌝ }
-    ensures { λ _. ⌜ now (target .exit) ≡ take n (now (source .entry)) ++ drop n (now (target .entry)) ⌝ }
-{
-    let mut k = 0;
-    while k < n {
-        target[k] = source[k];
-        k += 1;
-    }
-}
-
 // The first n bytes of source in a table, and zero behind them.
 fn load(table: &mut [u8], source: &[u8], n: usize)
     requires { ⌜ (n ≤ length (now table)) × (n ≤ length (now source)) ⌝ }
     ensures { λ _. ⌜ now (table .exit) ≡ filled (now (table .entry)) (take n (now (source .entry))) ⌝ }
 {
     copy(table, source, n);
-    automaton::zero(&mut table[n..]);
+    zero(&mut table[n..]);
 }
 
 // The bodies of an image in three tables.

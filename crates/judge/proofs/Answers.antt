@@ -1,58 +1,24 @@
 -- The answers of judge, by the tests in their order: each is what `judged` says, with the working bytes. Assumes nothing.
-use Prim.Native.Nat.{ℕ, _+_, _-_, _<_, _≤_}
+use Prim.Native.Nat.{ℕ, _<_, _≤_}
 use mathlib.Core.Path.{_≡_, refl, sym, _∙_}
 use mathlib.Core.List.{List}
-use mathlib.Core.Bool.{Bool, true, false, not}
-use native.Mathlib.Omega.{arith}
-use native.Mathlib.Decide.{decLt}
+use mathlib.Core.Bool.{Bool, true, false}
 use lib.ListN.{length, replicate}
-use lib.Dec.{leb, ltb}
-use borrow.Author.Tests.{lt-ltb, le-ltb, ltb-true, le-leb, lt-leb, not-true, not-false}
-use Rattle.formula.specs.Result.{Result, accepted, refused, fine, require}
-use Rattle.formula.proofs.Checks.{require-fine}
-use Rattle.formula.proofs.Lowest.{fine-first}
+use borrow.Author.Tests.{le-leb, lt-leb}
+use Rattle.lasso.proofs.Checking.{lasso-some}
+use Rattle.answer.specs.Result.{Result, accepted, refused, fine}
 use Rattle.automaton.specs.Automaton.{Automaton, AcceptingPass}
-use Rattle.automaton.specs.Translate.{Counts}
+use Rattle.automaton.specs.Tables.{Counts}
 use Rattle.image.specs.Calls.{checks}
 use Rattle.image.proofs.Contents.{read-of, checks-of, checks-refused}
 use Rattle.judge.specs.Search.{hasAcceptingPass}
-use Rattle.judge.specs.Judge.{Verdict, kept, broken, lassoCheck, judgeable, verdict, Judgement, judgement, judgedBy, judged}
-use Rattle.judge.specs.Marks.{Decides, lassoJudgeable, machine}
+use Rattle.judge.specs.Judge.{Verdict, kept, broken, judgeable, verdict, Judgement, judgement, judgedBy, judged}
+use Rattle.lasso.specs.Lasso.{lassoCheck}
+use Rattle.judge.specs.Marks.{Decides, lassoJudgeable}
+use Rattle.image.specs.Lookup.{machine}
 use Rattle.judge.proofs.Decisions.{true-false}
-use Rattle.judge.proofs.Points.{InRange}
+use Rattle.automaton.proofs.InRange.{InRange}
 use Rattle.judge.proofs.HasAcceptingPass.{has-accepting-pass-iff}
-
--- ---- 8 and 9
-
--- the sum of two lengths is not made
-pub letters-left : (stem cycle : ℕ) → stem ≤ 128 → leb cycle (128 - stem) ≡ leb (stem + cycle) 128
-letters-left stem cycle le = go (decLt (128 - stem) cycle)
-  where
-    go : Dec (128 - stem < cycle) → leb cycle (128 - stem) ≡ leb (stem + cycle) 128
-    go (yes lt) = lt-leb cycle (128 - stem) lt ∙ sym (lt-leb (stem + cycle) 128 (omega arith))
-    go (no ge) = le-leb cycle (128 - stem) (omega arith) ∙ sym (le-leb (stem + cycle) 128 (omega arith))
-
-module _ (stem cycle : List ℕ) where
-  pub cycle-empty : length cycle ≡ 0 → refused 8 0 ≡ lassoCheck stem cycle
-  unfolding lassoCheck
-  cycle-empty e = rw (le-ltb 0 (length cycle) (omega arith))
-
-  module _ (some : length cycle ≡ 0 → ⊥) {r : Bool} (fits : r ≡ leb (length stem + length cycle) 128) where
-    pub letters-over : not r ≡ true → refused 9 0 ≡ lassoCheck stem cycle
-    unfolding lassoCheck
-    letters-over e = rw (lt-ltb 0 (length cycle) (omega arith), ← fits, not-true r e)
-
-    pub lasso-fine : not r ≡ false → fine ≡ lassoCheck stem cycle
-    unfolding lassoCheck
-    lasso-fine e = rw (lt-ltb 0 (length cycle) (omega arith), ← fits, not-false r e)
-
-  -- a lasso that is not refused has a letter in its cycle
-  pub lasso-some : fine ≡ lassoCheck stem cycle → 0 < length cycle
-  unfolding lassoCheck
-  lasso-some e =
-      ltb-true 0 (length cycle) (require-fine (ltb 0 (length cycle)) 8 0 (fine-first (require (ltb 0 (length cycle)) 8 0) _ (sym e)))
-
--- ---- the verdict
 
 -- a test that tells whether there is an accepting pass is what is computed
 decided-pass : (a : Automaton) (stem cycle : List ℕ) → InRange a → 0 < length cycle → {k : Bool} → Decides k (AcceptingPass a stem cycle) → hasAcceptingPass a stem cycle ≡ k

@@ -9,15 +9,17 @@ use native.Mathlib.Omega.{arith}
 use native.Mathlib.Nat.{mul-le-mul-right, suc-mul}
 use native.Mathlib.Decide.{decLt}
 use lib.ListN.{length}
-use Rattle.formula.specs.Lasso.{letter}
-use Rattle.automaton.specs.Automaton.{Automaton, In, Step, Accepts, AcceptingPass}
-use Rattle.automaton.proofs.Members.{All, map-in, in-map, any-iff}
+use Rattle.lasso.specs.Lasso.{letter}
+use Rattle.automaton.specs.Automaton.{Automaton, Step, Accepts, AcceptingPass}
+use Rattle.sets.specs.Sets.{In}
+use Rattle.sets.proofs.Members.{All, map-in, in-map, any-iff}
 use Rattle.automaton.proofs.Passes.{Endless, Pass, numbered, pass-iff, endless-pass, pass-endless}
 use Rattle.judge.proofs.Runs.{Leads, leads-as, leads-on, on-early}
 use Rattle.judge.specs.Search.{Point, point, member, onward, reachedFrom, starts, accepting, hasAcceptingPass}
 use Rattle.judge.proofs.Queue.{Within, few-points, member-iff}
 use Rattle.judge.proofs.Reached.{Reached, search-reaches}
-use Rattle.judge.proofs.Points.{onto, onto-more, onto-pass, letter-onto, step-onward, wordFrom, Walk, walk-none, walk-on, InRange, onward-within}
+use Rattle.judge.proofs.Points.{onto, onto-more, onto-pass, letter-onto, step-onward, wordFrom, Walk, walk-none, walk-on, onward-within}
+use Rattle.automaton.proofs.InRange.{InRange}
 
 -- some run from an initial state at position 0 comes to point x
 pub record Reachable (a : Automaton) (stem cycle : List ℕ) (x : Point) : Type 0 where

@@ -1,7 +1,6 @@
 -- What the proofs of several functions cite, and why the search is right.
 pub mod Rows
 pub mod Gathers
-pub mod Records
 pub mod Turns
 pub mod Letters
 pub mod Closure
@@ -14,6 +13,5 @@ pub mod Queue
 pub mod Points
 pub mod Reached
 pub mod HasAcceptingPass
-pub mod Accepted
 pub mod Answers
 pub mod VerdictIff

@@ -9,8 +9,9 @@ use native.Mathlib.Nat.{mod-eq-of-lt, mul-add-mod-self-right, mul-le-mul-right}
 use native.Mathlib.Decide.{ℕ-discrete, decLt}
 use lib.ListN.{length, getD}
 use borrow.Author.Tests.{lt-ltb, le-ltb}
-use Rattle.formula.specs.Lasso.{letter}
-use Rattle.automaton.specs.Automaton.{Automaton, In, Step, Accepts, AcceptingPass}
+use Rattle.lasso.specs.Lasso.{letter}
+use Rattle.automaton.specs.Automaton.{Automaton, Step, Accepts, AcceptingPass}
+use Rattle.sets.specs.Sets.{In}
 use Rattle.judge.specs.Marks.{Lifted, After, Linked, one, join, joinMet}
 use Rattle.judge.proofs.Runs.{Leads, Meets, leads-as, meets-as, leads-on, on-early, on-late}
 use Rattle.judge.proofs.Marking.{Marked, MarkedMet, low-runs, high-runs, run-marks, met-marks}

@@ -10,11 +10,13 @@ use native.Mathlib.Nat.{suc-mul}
 use native.Mathlib.Decide.{decLt}
 use lib.ListN.{getD, length}
 use borrow.Author.Tests.{lt-ltb, le-ltb}
-use Rattle.formula.specs.Lasso.{letter}
-use Rattle.automaton.specs.Automaton.{Transition, Automaton, In, noState, reads, Step}
-use Rattle.formula.proofs.Letters.{letter-round}
-use Rattle.automaton.proofs.Members.{All}
+use Rattle.lasso.specs.Lasso.{letter}
+use Rattle.automaton.specs.Automaton.{Transition, Automaton, noState, reads, Step}
+use Rattle.sets.specs.Sets.{In}
+use Rattle.lasso.proofs.Letters.{letter-round}
+use Rattle.sets.proofs.Members.{All}
 use Rattle.judge.proofs.Runs.{Leads, leads-none, leads-snoc}
+use Rattle.automaton.proofs.InRange.{InRange}
 use Rattle.judge.specs.Search.{Point, point, targets, after, onward}
 use Rattle.judge.proofs.Queue.{Within}
 
@@ -159,11 +161,6 @@ module _ (a : Automaton) (stem cycle : List ℕ) where
         place = ap (after stem cycle) (w .place) ∙ sym p;
         run = leads-snoc a (w .run) (subst (λ (k : ℕ). Step a (y .state) (letter stem cycle k) (z .state)) (sym (w .place)) st);
       }
-
--- targets and initial numbers are states
-pub record InRange (a : Automaton) : Type 0 where
-  pub targets : (q letter next : ℕ) → Step a q letter next → next < length (a .states)
-  pub initial : (q : ℕ) → In q (a .initial) → q < length (a .states)
 
 -- what follows from a point is within bounds
 pub onward-within : (a : Automaton) (stem cycle : List ℕ) → InRange a → 0 < length cycle → (x : Point) → All (Within (length (a .states)) (length stem + length cycle)) (onward a stem cycle x)

@@ -12,8 +12,8 @@ use lib.ListN.{getD, length, length-append, List·getD-append}
 use lib.Seq.{getD-append-add}
 use lib.Dec.{eqb}
 use borrow.Author.Tests.{eqb-true, eq-eqb}
-use Rattle.automaton.specs.Automaton.{In}
-use Rattle.automaton.proofs.Members.{All, at-in, in-at, in-append, append-in, any-iff}
+use Rattle.sets.specs.Sets.{In}
+use Rattle.sets.proofs.Members.{All, at-in, in-at, in-append, append-in, any-iff}
 use Rattle.automaton.proofs.Positions.{pigeon}
 use Rattle.judge.specs.Search.{Point, point, samePoint, member, meet, meetAll}
 

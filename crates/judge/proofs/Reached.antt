@@ -10,8 +10,9 @@ use native.Mathlib.Decide.{ℕ-discrete}
 use lib.ListN.{length}
 use lib.Dec.{ltb}
 use borrow.Author.Tests.{ltb-true, ltb-false}
-use Rattle.automaton.specs.Automaton.{Automaton, In}
-use Rattle.automaton.proofs.Members.{All, at-in, in-at}
+use Rattle.automaton.specs.Automaton.{Automaton}
+use Rattle.sets.specs.Sets.{In}
+use Rattle.sets.proofs.Members.{All, at-in, in-at}
 use Rattle.judge.specs.Search.{Point, point, meetAll, onward, reach}
 use Rattle.judge.proofs.Queue.{at, Unique, Met, met-keeps, met-all}
 

@@ -13,8 +13,8 @@ use lib.Pow.{pow-lt}
 use native.Mathlib.Nat.{one-mul, mod-eq-of-lt}
 use borrow.Author.Tests.{eqb-true, eqb-false}
 use Rattle.judge.specs.Marks.{Token, Lifted, Adds, Ored, Decides}
-use Rattle.term.specs.Term.{Has}
-use Rattle.term.proofs.Bits.{or-has, has-or-l, has-or-r, zero-has, pow-has, has-pow}
+use Rattle.sets.specs.Bits.{Has}
+use Rattle.sets.proofs.Bits.{or-has, has-or-l, has-or-r, zero-has, pow-has, has-pow}
 
 -- ---- words joined
 

@@ -8,13 +8,16 @@ use native.Mathlib.Numerals.{add-one}
 use lib.ListN.{length, getD, take, drop}
 use lib.Seq.{drop-length, take-all}
 use borrow.Author.Tests.{not-true, not-false}
-use Rattle.automaton.specs.Automaton.{In, reads, Step, Accepts}
+use Rattle.sets.specs.Sets.{In}
+use Rattle.automaton.specs.Automaton.{reads, Step, Accepts}
 use Rattle.image.specs.Image.{initialAt}
-use Rattle.image.specs.Reader.{numberAt, countsAt, countSum}
-use Rattle.judge.specs.Marks.{Token, Lifted, Adds, machine, recordAt, recordsAt, Readable}
+use Rattle.answer.specs.Bytes.{numberAt}
+use Rattle.image.specs.Reader.{countsAt, countSum}
+use Rattle.judge.specs.Marks.{Token, Lifted, Adds}
+use Rattle.image.specs.Lookup.{machine, recordAt, recordsAt, Readable}
 use Rattle.judge.proofs.Decisions.{false-true}
 use Rattle.judge.proofs.Gathers.{adds-none, adds-as, Gathering}
-use Rattle.judge.proofs.Records.{step-taken, taken-step, accepts-inside, accepts-byte, byte-accepts, initial-number, number-initial, number-drop, records-end, target-inside, initial-inside}
+use Rattle.image.proofs.Lookup.{step-taken, taken-step, accepts-inside, accepts-byte, byte-accepts, initial-number, number-initial, number-drop, records-end, target-inside, initial-inside}
 
 -- ---- a turn that a test guards
 

@@ -5,7 +5,8 @@ use mathlib.Core.List.{List}
 use mathlib.Core.Bool.{Bool}
 use mathlib.Core.Logic.{_⊎_, inl, inr}
 use lib.ListN.{length, getD, replicate}
-use Rattle.automaton.specs.Automaton.{Automaton, In, Step, Accepts, AcceptingPass}
+use Rattle.automaton.specs.Automaton.{Automaton, Step, Accepts, AcceptingPass}
+use Rattle.sets.specs.Sets.{In}
 use Rattle.judge.specs.Marks.{Token, Lifted, Is, Adds, Decides, After, Linked, one, join, joinMet, Found}
 use Rattle.judge.proofs.Rows.{none-set}
 use Rattle.judge.proofs.Letters.{moved-map}

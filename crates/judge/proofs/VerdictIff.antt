@@ -1,23 +1,29 @@
 -- What a verdict says: kept exactly where the automaton has an accepting pass on the lasso, broken exactly where it has
 -- none; and so of every image that is judged. Assumes nothing.
-use Prim.Native.Nat.{ℕ, _<_}
+use Prim.Native.Nat.{ℕ, _+_, _<_, _≤_}
 use mathlib.Core.Path.{_≡_, refl, sym, _∙_, subst}
 use mathlib.Core.Logic.{_↔_}
 use mathlib.Core.List.{List}
 use mathlib.Core.Bool.{Bool, true, false, false≢true}
 use native.Mathlib.Omega.{arith}
 use lib.ListN.{length}
-use Rattle.formula.specs.Result.{accepted}
-use Rattle.formula.proofs.Results.{then-accepted}
-use Rattle.automaton.specs.Automaton.{Automaton, AcceptingPass}
+use borrow.Author.Tests.{lt-ltb, le-leb}
+use Rattle.answer.specs.Result.{accepted, fine}
+use Rattle.answer.proofs.Results.{then-accepted}
+use Rattle.automaton.specs.Automaton.{Automaton, AcceptingPass, Recognizes}
+use Rattle.answer.specs.Bytes.{zeros}
+use Rattle.automaton.proofs.WellFormed.{WellFormed}
+use Rattle.image.specs.Image.{imageBytes}
 use Rattle.image.specs.Reader.{readImage}
+use Rattle.image.proofs.ImageAccepted.{image-accepted}
 use Rattle.image.proofs.Contents.{read-of}
 use Rattle.judge.specs.Search.{hasAcceptingPass}
-use Rattle.judge.specs.Judge.{kept, broken, Exactly, workCheck, lassoCheck, judgeable, verdict, judged}
-use Rattle.judge.proofs.Points.{InRange}
+use Rattle.judge.specs.Judge.{kept, broken, Exactly, workCheck, judgeable, verdict, judgement, judged}
+use Rattle.lasso.specs.Lasso.{lassoCheck}
+use Rattle.automaton.proofs.InRange.{InRange}
 use Rattle.judge.proofs.HasAcceptingPass.{has-accepting-pass-iff}
-use Rattle.judge.proofs.Accepted.{readable, readable-in-range}
-use Rattle.judge.proofs.Answers.{lasso-some}
+use Rattle.image.proofs.Accepted.{readable, readable-in-range}
+use Rattle.lasso.proofs.Checking.{lasso-some}
 
 one-verdict : accepted kept ≡ accepted broken → ⊥
 one-verdict e =
@@ -55,3 +61,21 @@ judged-exactly image stem cycle work a e =
     let (_, fits, same) = then-accepted (lassoCheck stem cycle) _ after-image in
     let is : readImage image ≡ accepted a = read ∙ same in
     rw e (verdict-exactly a stem cycle (image-in-range image a is) (lasso-some stem cycle (sym fits)) (λ h. h, λ h. h))
+
+-- ---- of a well-formed automaton and its image, whoever made it
+
+module _ (a : Automaton) (formed : WellFormed a) (stem cycle : List ℕ) where
+  -- the reader accepts the image, so that the verdict of the automaton is given
+  pub image-judged : (work : List ℕ) → lassoCheck stem cycle ≡ fine → 12288 ≤ length work → judged (imageBytes a) stem cycle work ≡ judgement (accepted (verdict a stem cycle)) (zeros work)
+  unfolding judged judgeable
+  image-judged work fits enough = rw (le-leb 12288 (length work) enough, image-accepted a formed, fits)
+
+  module _ {P : (stem cycle : List ℕ) → Type 0} (recognizes : Recognizes P a) (some : 0 < length cycle) where
+    pub recognized-exactly : Exactly (accepted (verdict a stem cycle)) (P stem cycle)
+    recognized-exactly = verdict-exactly a stem cycle (image-in-range (imageBytes a) a (image-accepted a formed)) some (recognizes stem cycle some)
+
+    -- with at most 128 letters and enough working bytes, judging the image says so
+    pub recognized-verdict : (work : List ℕ) → length stem + length cycle ≤ 128 → 12288 ≤ length work → Exactly (judged (imageBytes a) stem cycle work .answer) (P stem cycle)
+    unfolding lassoCheck
+    recognized-verdict work few enough =
+        rw (image-judged work (rw (lt-ltb 0 (length cycle) some, le-leb (length stem + length cycle) 128 few)) enough) recognized-exactly

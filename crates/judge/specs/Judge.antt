@@ -1,12 +1,13 @@
 -- The call judge: answer, place and the working bytes, for every input (01, Judging; Numbers that come from the input).
-use Prim.Native.Nat.{ℕ, _+_}
+use Prim.Native.Nat.{ℕ}
 use mathlib.Core.Path.{_≡_}
 use mathlib.Core.Logic.{_↔_}
 use mathlib.Core.List.{List}
 use mathlib.Core.Bool.{true, false}
 use lib.ListN.{length, replicate}
-use lib.Dec.{leb, ltb}
-use Rattle.formula.specs.Result.{Result, accepted, refused, andThen, Check, require}
+use lib.Dec.{leb}
+use Rattle.answer.specs.Result.{Result, accepted, refused, andThen, Check, require}
+use Rattle.lasso.specs.Lasso.{lassoCheck}
 use Rattle.automaton.specs.Automaton.{Automaton}
 use Rattle.image.specs.Reader.{readImage}
 use Rattle.judge.specs.declared.Judged.{Judged}
@@ -30,11 +31,6 @@ judgeAnswer (Refused number place) = refused number place
 -- 25: fewer than 12,288 working bytes
 abbrev pub workCheck : List ℕ → Check
 workCheck work = require (leb 12288 (length work)) 25 0
-
--- 8: the cycle has no letter; then 9: stem and cycle have over 128 together
-unfoldable pub lassoCheck : (stem cycle : List ℕ) → Check
-lassoCheck stem cycle =
-    andThen (require (ltb 0 (length cycle)) 8 0) (λ _. require (leb (length stem + length cycle) 128) 9 0)
 
 -- the order of judging's refusals: 25, the image's 10 to 13, the lasso's 8 and 9; else the automaton that is judged
 unfoldable pub judgeable : (image stem cycle work : List ℕ) → Result Automaton

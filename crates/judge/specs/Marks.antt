@@ -7,14 +7,12 @@ use mathlib.Core.Path.{_≡_}
 use mathlib.Core.List.{List}
 use mathlib.Core.Bool.{Bool, true, false}
 use mathlib.Core.Logic.{_⊎_}
-use lib.ListN.{getD, length, drop}
+use lib.ListN.{getD}
 use lib.Bits.{bitOr}
-use Rattle.formula.specs.Result.{Result, accepted, andThen}
-use Rattle.term.specs.Term.{Has}
-use Rattle.judge.specs.Judge.{lassoCheck}
-use Rattle.automaton.specs.Automaton.{Transition, Automaton, Step, Accepts}
-use Rattle.image.specs.Image.{transitionsAt, initialAt, imageLength}
-use Rattle.image.specs.Reader.{numberAt, countsAt, countSum, automatonFrom}
+use Rattle.answer.specs.Result.{Result, accepted, andThen}
+use Rattle.sets.specs.Bits.{Has}
+use Rattle.lasso.specs.Lasso.{lassoCheck}
+use Rattle.automaton.specs.Automaton.{Automaton, Step, Accepts}
 
 -- ---- rows
 
@@ -48,28 +46,6 @@ pub record Ored (before : List ℕ) (a : ℕ) (from : List ℕ) (b n : ℕ) (aft
 pub record Decides (r : Bool) (P : Type 0) : Type 0 where
   pub yes : r ≡ true → P
   pub no : r ≡ false → P → ⊥
-
--- ---- the automaton of an image that is not refused
-
-abbrev pub machine : List ℕ → Automaton
-machine image =
-    automatonFrom (countsAt image) (drop 18 image) (drop (transitionsAt (countsAt image)) image) (drop (initialAt (countsAt image)) image)
-
--- the transition record at a byte of the image
-abbrev pub recordAt : List ℕ → ℕ → Transition
-recordAt image at = record { must = getD image at 0; mustNot = getD image (at + 1) 0; target = numberAt image (at + 2) }
-
--- where the transition records of state q begin
-abbrev pub recordsAt : List ℕ → ℕ → ℕ
-recordsAt image q = transitionsAt (countsAt image) + 4 * countSum (drop 18 image) q
-
--- what is known of an image that is not refused by 10 to 13
-pub record Readable (image : List ℕ) : Type 0 where
-  pub few : numberAt image 2 ≤ 96
-  pub size : length image ≡ imageLength (countsAt image)
-  pub sum : countSum (drop 18 image) (numberAt image 2) ≡ numberAt image 8
-  pub targets : (i : ℕ) → i < numberAt image 8 → numberAt (drop (transitionsAt (countsAt image)) image) (4 * i + 2) < numberAt image 2
-  pub starts : (i : ℕ) → i < numberAt image 14 → numberAt (drop (initialAt (countsAt image)) image) (2 * i) < numberAt image 2
 
 -- the automaton, if the lasso is not refused by 8 or 9
 abbrev pub lassoJudgeable : Automaton → (stem cycle : List ℕ) → Result Automaton

@@ -7,7 +7,7 @@ use mathlib.Core.Bool.{Bool, true, false, cond, _&&_}
 use lib.ListN.{getD, length}
 use lib.Dec.{eqb, ltb}
 use Rattle.sets.specs.Sets.{any}
-use Rattle.formula.specs.Lasso.{letter}
+use Rattle.lasso.specs.Lasso.{letter}
 use Rattle.automaton.specs.Automaton.{Transition, Automaton, noState, reads}
 
 pub record Point : Type 0 where

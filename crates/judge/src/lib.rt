@@ -1,31 +1,27 @@
 // The call judge: whether a lasso is kept or broken by the automaton of an image.
-use formula::Checked;
+use answer::Checked;
+use answer::number_at;
+use answer::zero;
 use image::CONTENTS_BYTES;
 use image::Loaded;
 use image::check;
-use image::number_at;
+use lasso::check_lasso;
 ghost use mathlib.Core.Path.{_≡_};
 ghost use mathlib.Core.Bool.{true, _&&_};
 ghost use mathlib.Core.Logic.{_⊎_};
 ghost use Prim.Native.Nat.{ℕ, _+_, _*_, _<_, _≤_};
 ghost use lib.ListN.{length, getD};
-ghost use lib.Dec.{eqb, leb};
+ghost use lib.Dec.{eqb};
 ghost use lib.Bits.{bitOr, bitAnd};
-ghost use Rattle.automaton.specs.Automaton.{AcceptingPass, Step, Accepts, In, reads};
-ghost use Rattle.image.specs.Reader.{numberAt};
-ghost use Rattle.formula.specs.Rule.{answer};
-ghost use Rattle.judge.specs.Judge.{judgeAnswer, lassoCheck, judgement, judgedBy, judged};
-ghost use Rattle.judge.specs.Marks.{lassoJudgeable, Token, Lifted, Is, Adds, Ored, Decides, machine, recordAt, recordsAt, Readable, Moved, After, Joined, Linked, Found};
+ghost use Rattle.automaton.specs.Automaton.{AcceptingPass, Step, Accepts, reads};
+ghost use Rattle.sets.specs.Sets.{In};
+ghost use Rattle.answer.specs.Bytes.{numberAt};
+ghost use Rattle.judge.specs.Judge.{judgeAnswer, judgement, judgedBy, judged};
+ghost use Rattle.judge.specs.Marks.{lassoJudgeable, Token, Lifted, Is, Adds, Ored, Decides, Moved, After, Joined, Linked, Found};
+ghost use Rattle.image.specs.Lookup.{machine, recordAt, recordsAt, Readable};
 
-// The numbers of document 01 by which a lasso is refused, and working bytes that are too few.
-pub const EMPTY_CYCLE: u8 = 8;
-
-pub const TOO_MANY_LETTERS: u8 = 9;
-
+// The number of document 01 for working bytes that are too few, and how many judging asks for.
 pub const WORK_TOO_SHORT: u8 = 25;
-
-// A lasso has at most 128 letters; judging asks for 12,288 working bytes.
-pub const MAX_LETTERS: usize = 128;
 
 pub const WORK_BYTES: usize = 12288;
 
@@ -330,29 +326,6 @@ fn search(image: &[u8], n: usize, stem: &[u8], cycle: &[u8]) -> bool
     found(&rows, n)
 }
 
-// Whether a lasso with so many letters in its stem and its cycle has at most 128.
-fn letters_fit(stem: usize, cycle: usize) -> bool
-    ensures { λ r. ⌜ r ≡ leb (stem + cycle) 128 ⌝ }
-{
-    if MAX_LETTERS < stem {
-        return false;
-    }
-    cycle <= MAX_LETTERS - stem
-}
-
-// 8 and 9 of a lasso.
-pub fn check_lasso(stem: &[u8], cycle: &[u8]) -> Checked
-    ensures { λ r. ⌜ answer r ≡ lassoCheck (now (stem .entry)) (now (cycle .entry)) ⌝ }
-{
-    if cycle.len() == 0 {
-        return Checked::Refused(EMPTY_CYCLE, 0);
-    }
-    if !letters_fit(stem.len(), cycle.len()) {
-        return Checked::Refused(TOO_MANY_LETTERS, 0);
-    }
-    Checked::Accepted
-}
-
 // 8 and 9, then the verdict of an image that is not refused, and the working bytes zero.
 fn judge_lasso(image: &[u8], n: usize, stem: &[u8], cycle: &[u8], work: &mut [u8]) -> Judged
     requires { ⌜ Readable (now image) × (n ≡ numberAt (now image) 2) ⌝ }
@@ -363,7 +336,7 @@ fn judge_lasso(image: &[u8], n: usize, stem: &[u8], cycle: &[u8], work: &mut [u8
         return Judged::Refused(number, place);
     }
     let kept = search(image, n, stem, cycle);
-    automaton::zero(work);
+    zero(work);
     if kept {
         return Judged::Kept;
     }

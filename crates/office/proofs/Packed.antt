@@ -2,8 +2,8 @@
 use Prim.Native.Nat.{ℕ}
 use mathlib.Core.Path.{_≡_, ap, _∙_}
 use mathlib.Core.List.{List}
-use Rattle.formula.specs.Result.{Result}
-use Rattle.automaton.specs.Translate.{Counts, Outcome, outcome}
+use Rattle.answer.specs.Result.{Result}
+use Rattle.automaton.specs.Tables.{Counts, Outcome, outcome}
 use Rattle.image.specs.Calls.{Buffer, buffer}
 use Rattle.judge.specs.Judge.{Verdict, Judgement, judgement}
 use Rattle.demands.specs.Demand.{Decision, decision}

@@ -8,23 +8,25 @@ use native.Mathlib.Omega.{arith}
 use lib.ListN.{getD, length}
 use lib.Dec.{leb, ltb}
 use borrow.Author.Tests.{leb-true, ltb-true}
-use Rattle.formula.specs.Result.{Result, accepted, refused, andThen, Check, fine, require, lowest}
+use Rattle.answer.specs.Result.{Result, accepted, refused, andThen, Check, fine, require, lowest}
 use Rattle.formula.specs.Rule.{nodeCount, lengthCheck, nodeCheck, placeCheck, untilCheck}
 use Rattle.formula.specs.Rule
-use Rattle.formula.proofs.Lowest.{fine-first}
-use Rattle.formula.proofs.Checks.{require-fine, required}
+use Rattle.answer.proofs.Lowest.{fine-first}
+use Rattle.answer.proofs.Results.{require-fine, required}
 use Rattle.term.specs.Size.{sizeCheck, checked}
 use Rattle.generalized.specs.Explore.{find, meet, meetAll, explore}
 use Rattle.generalized.specs.Generalized.{productCheck, generalized}
 use Rattle.automaton.specs.Automaton.{Automaton}
-use Rattle.automaton.specs.Degeneralized.{degeneralized, translation}
-use Rattle.automaton.specs.Translate.{Counts, Outcome, tableCheck, stored, unless, translated}
+use Rattle.translation.specs.Degeneralized.{degeneralized, translation}
+use Rattle.automaton.specs.Tables.{Counts, Outcome, tableCheck}
+use Rattle.translation.specs.Translate.{stored, unless, translated}
 use Rattle.image.specs.Reader.{countsAt, countsFit, contentsCheck, stateCheck, transitionCheck, initialCheck, recordsCheck, readTables, readImage}
 use Rattle.image.specs.Calls.{bufferCheck, written, writes, loaded, reads}
 use Rattle.image.proofs.Before.{not-both}
 use Rattle.image.proofs.Tests.{Small, counts-small}
 use Rattle.image.proofs.Contents.{contents-fine}
-use Rattle.judge.specs.Judge.{lassoCheck, judgeable, judgedBy, judged}
+use Rattle.lasso.specs.Lasso.{lassoCheck}
+use Rattle.judge.specs.Judge.{judgeable, judgedBy, judged}
 use Rattle.demands.specs.Demand.{roomCheck, inputCheck, Decision, concluded, decidedBy, decided}
 
 -- a number that a byte holds, and not 0, ZIMBORALO_ACCEPTED; a place among at most 12,288

@@ -5,15 +5,16 @@ use mathlib.Core.Path.{_≡_, refl, sym, _∙_, ap, subst, subst₂}
 use mathlib.Core.List.{List}
 use native.Mathlib.Omega.{arith}
 use lib.ListN.{length}
-use Rattle.formula.specs.Result.{Result, accepted, refused, andThen, Check, require}
+use Rattle.answer.specs.Result.{Result, accepted, refused, andThen, Check, require}
 use Rattle.formula.specs.Rule
-use Rattle.formula.proofs.Checks.{require-fine}
+use Rattle.answer.proofs.Results.{require-fine}
 use Rattle.automaton.specs.Automaton.{Automaton}
-use Rattle.automaton.specs.Degeneralized.{translation}
-use Rattle.automaton.specs.Translate.{Counts, counts, tableCheck, stored, unless, translated}
+use Rattle.translation.specs.Degeneralized.{translation}
+use Rattle.automaton.specs.Tables.{Counts, counts, tableCheck, countsOf}
+use Rattle.translation.specs.Translate.{stored, unless, translated}
 use Rattle.image.specs.Image.{imageLength}
 use Rattle.image.specs.Reader.{countsFit, recordsCheck, automatonFrom, readTables, readImage}
-use Rattle.image.specs.Calls.{countsOf, buffer, bufferCheck, writes, loaded, reads, checks}
+use Rattle.image.specs.Calls.{buffer, bufferCheck, writes, loaded, reads, checks}
 use Rattle.image.proofs.Before.{not-both, follows, passes}
 use Rattle.image.proofs.Tests.{Small, counts-small}
 use Rattle.image.proofs.Contents.{checks-sized}
@@ -22,7 +23,8 @@ use Rattle.image.proofs.Tables.{counts-back}
 use Rattle.image.proofs.Answers.{writes-of}
 use Rattle.judge.specs.Judge.{Verdict, kept, broken, judged}
 use Rattle.demands.specs.Demand.{decided}
-use Rattle.correctness.proofs.WellFormed.{few-together, translation-well-formed}
+use Rattle.automaton.proofs.WellFormed.{few-together}
+use Rattle.correctness.proofs.WellFormed.{translation-well-formed}
 use Rattle.office.proofs.Refusals.{Refusal, Proper, translated-proper, reads-proper, writes-proper, judged-proper, decided-proper}
 use Rattle.office.specs.Packing.{packRefusal, packThree, packCounts, packLength, packVerdict}
 

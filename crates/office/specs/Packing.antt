@@ -2,8 +2,8 @@
 -- the refusal's place, or the values: the three counts, the image's length, or 1 for kept and 0 for broken.
 use Prim.Native.Nat.{ℕ, _+_, _*_, _%_, _^_}
 use mathlib.Core.List.{List}
-use Rattle.formula.specs.Result.{Result, accepted, refused}
-use Rattle.automaton.specs.Translate.{Counts, Outcome}
+use Rattle.answer.specs.Result.{Result, accepted, refused}
+use Rattle.automaton.specs.Tables.{Counts, Outcome}
 use Rattle.image.specs.Calls.{Buffer}
 use Rattle.judge.specs.Judge.{Verdict, kept, broken, Judgement}
 use Rattle.demands.specs.Demand.{Decision}

@@ -1,6 +1,4 @@
 // The calls for C: numbers and byte slices, each slice a pointer and a length. An answer is packed into one number.
-use automaton::Translated;
-use automaton::translate;
 use demands::decide;
 use image::Loaded;
 use image::Written;
@@ -8,9 +6,12 @@ use image::read;
 use image::write;
 use judge::Judged;
 use judge::judge;
+use translation::Translated;
+use translation::translate;
 ghost use mathlib.Core.Path.{_≡_};
-ghost use Rattle.automaton.specs.Translate.{answer, translated};
-ghost use Rattle.image.specs.Calls.{readAnswer, reads, writeAnswer, writes, countsOf};
+ghost use Rattle.translation.specs.Translate.{answer, translated};
+ghost use Rattle.image.specs.Calls.{readAnswer, reads, writeAnswer, writes};
+ghost use Rattle.automaton.specs.Tables.{countsOf};
 ghost use Rattle.judge.specs.Judge.{judgeAnswer, judged};
 ghost use Rattle.demands.specs.Demand.{decided};
 ghost use Rattle.office.specs.Packing.{packRefusal, packCounts, packLength, packVerdict, packThree, packSize, packedTables, packOutcome, packedSlice, packBuffer, packJudgement, packedDecision, packDecision};

@@ -1,4 +1,6 @@
 -- What the proofs of several functions cite.
+pub mod Members
+pub mod Bits
 pub mod Lists
 pub mod Inserts
 pub mod Stores

@@ -3,6 +3,7 @@ use Prim.Native.Nat.{ℕ, zero, suc, _≤_, _/_, _%_, min}
 use mathlib.Core.Path.{_≡_}
 use mathlib.Core.List.{List, [], _∷_}
 use mathlib.Core.Bool.{Bool, false, cond, _||_}
+use mathlib.Core.Logic.{_⊎_}
 use lib.ListN.{length, take}
 use lib.Dec.{eqb, ltb}
 use lib.Bits.{bitAnd, bitOr}
@@ -35,6 +36,11 @@ module _ {A : Type 0} (less : A → A → Bool) where
     unfoldable pub insertProduct : (xs ys ws : List A) → List A
     insertProduct [] ys ws = ws
     insertProduct (x ∷ xs) ys ws = insertJoins x ys (insertProduct xs ys ws)
+
+-- x is one of them
+abbrev pub In : {A : Type 0} → A → List A → Type 0
+In x [] = ⊥
+In x (y ∷ ys) = (x ≡ y) ⊎ In x ys
 
 -- whether a test holds of one of them
 unfoldable pub any : {A : Type 0} → (A → Bool) → List A → Bool

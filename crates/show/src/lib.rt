@@ -2,8 +2,8 @@
 use automaton::INITIAL_BYTES;
 use automaton::STATES_BYTES;
 use automaton::TRANSITIONS_BYTES;
-use automaton::Translated;
 use libc::STDOUT_FILENO;
+use translation::Translated;
 ghost use mathlib.Core.Path.{_≡_};
 ghost use Prim.Native.Nat.{_≤_, _<_};
 ghost use Rattle.show.specs.Shown.{number, digit, label, rowEnd};
@@ -155,6 +155,6 @@ pub fn show_rule(rule: &[u8]) {
     let mut states = [0u8; STATES_BYTES];
     let mut transitions = [0u8; TRANSITIONS_BYTES];
     let mut initial = [0u8; INITIAL_BYTES];
-    let answer = automaton::translate(rule, &mut states, &mut transitions, &mut initial);
+    let answer = translation::translate(rule, &mut states, &mut transitions, &mut initial);
     print_translated(answer, &states, &transitions);
 }

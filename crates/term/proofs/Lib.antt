@@ -1,5 +1,4 @@
 -- What the proofs of several functions, and of the crates above, cite.
-pub mod Bits
 pub mod Carries
 pub mod Packing
 pub mod ByKind

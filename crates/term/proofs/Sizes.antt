@@ -7,11 +7,11 @@ use native.Mathlib.Omega.{arith}
 use lib.ListN.{length, length-map}
 use lib.Dec.{leb}
 use borrow.Author.Tests.{leb-true, le-leb, lt-leb}
-use Rattle.formula.specs.Result.{fine, refused, require, lowest}
+use Rattle.answer.specs.Result.{fine, refused, require, lowest}
 use Rattle.formula.specs.Rule.{nodeCount}
 use Rattle.formula.specs.Rule
 use Rattle.formula.specs.Formula.{tree, InRange}
-use Rattle.formula.proofs.Lowest.{not-fine, lowest-each, lowest-below}
+use Rattle.answer.proofs.Lowest.{not-fine, lowest-each, lowest-below}
 use Rattle.formula.proofs.Accepted.{Node, accepted-fine}
 use Rattle.formula.proofs.Trees.{tree-in-range}
 use Rattle.term.specs.declared.Terms.{Terms}

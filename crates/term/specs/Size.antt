@@ -5,7 +5,7 @@ use mathlib.Core.List.{List}
 use mathlib.Core.Bool.{_&&_}
 use lib.ListN.{length}
 use lib.Dec.{leb}
-use Rattle.formula.specs.Result.{andThen, Check, fine, require, lowest}
+use Rattle.answer.specs.Result.{andThen, Check, fine, require, lowest}
 use Rattle.formula.specs.Rule.{nodeCount}
 use Rattle.formula.specs.Rule
 use Rattle.formula.specs.Formula.{tree}

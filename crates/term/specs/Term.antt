@@ -1,22 +1,12 @@
 -- Obligations, covers and terms (01, Duties, covers and terms). A list of sets or terms is a set itself: it rises and
 -- has no repeats. An obligation is document 01's duty: a node that is owed from the next letter on.
-use Prim.Native.Nat.{ℕ, _/_, _%_, _^_}
-use mathlib.Core.Path.{_≡_}
+use Prim.Native.Nat.{ℕ, _^_}
 use mathlib.Core.List.{List, [], _∷_, map}
 use mathlib.Core.Bool.{Bool, true, false, cond}
 use lib.Dec.{eqb, ltb}
 use lib.Bits.{bitAnd, bitOr}
 use Rattle.sets.specs.Sets.{union, insertProduct}
 use Rattle.formula.specs.Formula.{Formula, bottom, top, proposition, negation, conjunction, disjunction, next, until, release}
-
--- whether node n is one of the obligations: a set of nodes is a number, and bit n stands for node n (01, Duties,
--- covers and terms, sentence 2)
-abbrev pub has : (obligations n : ℕ) → Bool
-has obligations n = eqb (obligations / 2 ^ n % 2) 1
-
--- the same as a type: bit n of d is set
-pub record Has (d n : ℕ) : Type 0 where
-  pub set : d / 2 ^ n % 2 ≡ 1
 
 -- a term: the propositions that a letter must have and those that it must not have, a bit each, and the obligations
 -- that then follow (01, Duties, covers and terms, sentence 3)

@@ -1,12 +1,12 @@
 // Covers and terms of a rule's nodes, each by recursion into the node's children, and refusal 20. A term is packed
 // into one number, so that the order of terms is the order of numbers and a join is one `|`.
-use formula::Checked;
+use answer::Checked;
 ghost use mathlib.Core.Path.{_≡_};
 ghost use mathlib.Core.List.{List, [], _∷_};
 ghost use Prim.Native.Nat.{ℕ, _*_, _^_, _≤_, _<_};
 ghost use Rattle.sets.specs.Sets.{unionN, insertProductN};
-ghost use Rattle.formula.specs.Result.{fine, lowest};
-ghost use Rattle.formula.specs.Rule.{nodeCount, answer};
+ghost use Rattle.answer.specs.Result.{fine, lowest, answer};
+ghost use Rattle.formula.specs.Rule.{nodeCount};
 ghost use Rattle.formula.specs.Rule;
 ghost use Rattle.formula.specs.Formula.{Formula, build, tree, InRange};
 ghost use Rattle.term.specs.Term.{cover, terms};

@@ -1,7 +1,7 @@
 -- `demands::decide` meets its contract: 25, 1 to 7, 8 and 9 in turn, each with every buffer as it was, then what
 -- `decide_checked` stores and says. Assumes nothing.
 use mathlib.Core.Path.{sym, ap, _∙_}
-use Rattle.formula.specs.Rule.{answer}
+use Rattle.answer.specs.Result.{answer}
 use Rattle.demands.proofs.Deciding.{short-refused, bytes-refused, lasso-refused, input-fine, concludes}
 use borrow.Author.Needs.{needs}
 use Rattle.demands.proofs.decide.Statement.{statement}

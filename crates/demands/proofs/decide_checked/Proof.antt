@@ -2,7 +2,7 @@
 -- image of them, and `judge` gives the verdict on that image. Assumes nothing.
 use mathlib.Core.Path.{sym, ap}
 use lib.Seq.{length-take-le}
-use Rattle.automaton.specs.Translate.{answer}
+use Rattle.translation.specs.Translate.{answer}
 use Rattle.image.specs.Calls.{writeAnswer}
 use Rattle.demands.proofs.Deciding.{rule-refused, write-refused, image-inside, lasso-judged}
 use borrow.Author.Needs.{needs}

@@ -3,7 +3,7 @@
 use borrow.Author.Needs.{needs}
 use native.Mathlib.Omega.{arith}
 use mathlib.Core.Path.{refl, sym, ap, _∙_}
-use Rattle.formula.specs.Rule.{answer}
+use Rattle.answer.specs.Result.{answer}
 use Rattle.formula.proofs.Checks.{too-long, empty, broken, node-refused, place-refused, untils-left}
 use Rattle.formula.proofs.check.Statement.{statement}
 use Rattle.formula.proofs.check.Tie as tie

@@ -4,8 +4,9 @@ use borrow.Author.Needs.{needs}
 use native.Mathlib.Omega.{arith}
 use Prim.Native.Nat.{_-_}
 use mathlib.Core.Path.{sym, ap, _∙_}
-use Rattle.formula.specs.Rule.{nodeCheck, answer}
-use Rattle.formula.proofs.Lowest.{Passing, pass-begins, pass-steps, pass-fails, pass-ends}
+use Rattle.formula.specs.Rule.{nodeCheck}
+use Rattle.answer.specs.Result.{answer}
+use Rattle.answer.proofs.Lowest.{Passing, pass-begins, pass-steps, pass-fails, pass-ends}
 use Rattle.formula.proofs.check_nodes.Statement.{statement}
 use Rattle.formula.proofs.check_nodes.Tie as tie
 

@@ -2,9 +2,10 @@
 -- Assumes nothing.
 use borrow.Author.Needs.{needs}
 use mathlib.Core.Path.{sym, ap, _∙_}
-use Rattle.formula.specs.Rule.{answer}
+use Rattle.answer.specs.Result.{answer}
 use Rattle.image.specs.Reader.{countsAt, contentsCheck}
-use Rattle.image.specs.Calls.{countsOf, readAnswer}
+use Rattle.automaton.specs.Tables.{countsOf}
+use Rattle.image.specs.Calls.{readAnswer}
 use Rattle.image.proofs.Before.{Passes, passes}
 use Rattle.image.proofs.Contents.{sized, contents-refused, bodies-refused, image-accepted}
 use Rattle.image.proofs.check.Statement.{statement}

@@ -3,7 +3,7 @@
 use borrow.Author.Needs.{needs}
 use native.Mathlib.Omega.{arith}
 use Prim.Native.Nat.{_-_}
-use Rattle.formula.proofs.Lowest.{pass-ends}
+use Rattle.answer.proofs.Lowest.{pass-ends}
 use Rattle.image.proofs.Rising.{Rising, rise-begins, out-of-range, rise-fails, rise-steps}
 use Rattle.image.proofs.check_initial.Statement.{statement}
 use Rattle.image.proofs.check_initial.Tie as tie

@@ -2,7 +2,7 @@
 -- Assumes nothing.
 use borrow.Author.Needs.{needs}
 use mathlib.Core.Path.{sym, ap, _∙_}
-use Rattle.formula.specs.Rule.{answer}
+use Rattle.answer.specs.Result.{answer}
 use Rattle.image.proofs.Tests.{states-refused, transitions-refused, initial-left}
 use Rattle.image.proofs.check_records.Statement.{statement}
 use Rattle.image.proofs.check_records.Tie as tie

@@ -4,8 +4,8 @@ use borrow.Author.Needs.{needs}
 use native.Mathlib.Omega.{arith}
 use Prim.Native.Nat.{_-_}
 use mathlib.Core.Path.{sym, ap, _∙_}
-use Rattle.formula.specs.Rule.{answer}
-use Rattle.formula.proofs.Lowest.{Passing, pass-begins, pass-steps, pass-fails, pass-ends}
+use Rattle.answer.specs.Result.{answer}
+use Rattle.answer.proofs.Lowest.{Passing, pass-begins, pass-steps, pass-fails, pass-ends}
 use Rattle.image.specs.Reader.{transitionCheck}
 use Rattle.image.proofs.check_transitions.Statement.{statement}
 use Rattle.image.proofs.check_transitions.Tie as tie

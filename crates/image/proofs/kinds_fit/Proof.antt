@@ -1,7 +1,7 @@
 -- `image::kinds_fit` meets its contract: each way through the code settles the three tests in a row.
 -- Assumes nothing.
 use borrow.Author.Needs.{needs}
-use Rattle.image.specs.Reader.{numberAt}
+use Rattle.answer.specs.Bytes.{numberAt}
 use Rattle.image.proofs.Tests.{first-differs, second-differs, third-agrees}
 use Rattle.image.proofs.kinds_fit.Statement.{statement}
 use Rattle.image.proofs.kinds_fit.Tie as tie

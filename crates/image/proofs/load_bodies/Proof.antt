@@ -1,7 +1,7 @@
 -- `image::load_bodies` meets its contract: the parts that go to the image's end are what is left there.
 -- Assumes nothing.
 use borrow.Author.Needs.{needs}
-use Rattle.image.specs.Calls.{countsOf}
+use Rattle.automaton.specs.Tables.{countsOf}
 use Rattle.image.proofs.Contents.{parts-loaded}
 use Rattle.image.proofs.load_bodies.Statement.{statement}
 use Rattle.image.proofs.load_bodies.Tie as tie

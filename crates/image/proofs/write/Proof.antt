@@ -4,7 +4,7 @@ use borrow.Author.Needs.{needs}
 use native.Mathlib.Omega.{arith}
 use mathlib.Core.Path.{sym, ap, _∙_}
 use borrow.Author.Tests.{not-false}
-use Rattle.formula.specs.Rule.{answer}
+use Rattle.answer.specs.Result.{answer}
 use Rattle.image.proofs.Tests.{counts-small}
 use Rattle.image.proofs.Answers.{tables-long, write-short, buffer-short, counts-refused, records-refused, write-accepted}
 use Rattle.image.proofs.write.Statement.{statement}

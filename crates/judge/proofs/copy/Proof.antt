@@ -4,7 +4,7 @@ use borrow.Author.Needs.{needs}
 use native.Mathlib.Omega.{arith}
 use Prim.Native.Nat.{_-_}
 use lib.ListN.{length, length-set}
-use Rattle.image.proofs.Stores.{Storing, store-begins, store-steps, store-ends}
+use Rattle.answer.proofs.Storing.{Storing, store-begins, store-steps, store-ends}
 use Rattle.judge.proofs.Turns.{all-copied}
 use Rattle.judge.proofs.copy.Statement.{statement}
 use Rattle.judge.proofs.copy.Tie as tie

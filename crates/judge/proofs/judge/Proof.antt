@@ -3,7 +3,7 @@
 use native.Mathlib.Omega.{arith}
 use mathlib.Core.Path.{sym, ap, _∙_}
 use Rattle.image.specs.Calls.{readAnswer}
-use Rattle.judge.proofs.Accepted.{known}
+use Rattle.image.proofs.Accepted.{known}
 use Rattle.judge.proofs.Answers.{work-short, image-refused, image-judged}
 use borrow.Author.Needs.{needs}
 use Rattle.judge.proofs.judge.Statement.{statement}

@@ -4,7 +4,7 @@ use borrow.Author.Needs.{needs}
 use native.Mathlib.Omega.{arith}
 use Prim.Native.Nat.{_-_, _+_, _*_}
 use mathlib.Core.Path.{_≡_}
-use Rattle.image.specs.Reader.{numberAt}
+use Rattle.answer.specs.Bytes.{numberAt}
 use Rattle.judge.proofs.Gathers.{Gathering, gather-begins, gather-steps, gather-ends}
 use Rattle.judge.proofs.Turns.{all-initial, initial-place, initial-fits}
 use Rattle.judge.proofs.mark_initial.Statement.{statement}

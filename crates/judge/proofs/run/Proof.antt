@@ -4,7 +4,7 @@ use borrow.Author.Needs.{needs}
 use native.Mathlib.Omega.{arith}
 use Prim.Native.Nat.{_-_}
 use lib.ListN.{length}
-use Rattle.judge.specs.Marks.{machine}
+use Rattle.image.specs.Lookup.{machine}
 use Rattle.judge.proofs.Letters.{Running, run-begins, run-steps, run-ends}
 use Rattle.judge.proofs.run.Statement.{statement}
 use Rattle.judge.proofs.run.Tie as tie

@@ -1,8 +1,8 @@
 -- `judge::search` meets its contract: the rows are made one after another, and what the last ones hold is the verdict.
 -- Assumes nothing.
 use native.Mathlib.Omega.{arith}
-use Rattle.judge.specs.Marks.{machine}
-use Rattle.judge.proofs.Records.{step-target, initial-state}
+use Rattle.image.specs.Lookup.{machine}
+use Rattle.image.proofs.Lookup.{step-target, initial-state}
 use Rattle.judge.proofs.Verdict.{verdict}
 use borrow.Author.Needs.{needs}
 use Rattle.judge.proofs.search.Statement.{statement}

@@ -2,8 +2,8 @@
 -- Assumes nothing.
 use native.Mathlib.Omega.{arith}
 use Rattle.judge.proofs.Letters.{stepped}
-use Rattle.judge.proofs.Records.{step-inside}
-use Rattle.judge.specs.Marks.{machine}
+use Rattle.image.proofs.Lookup.{step-inside}
+use Rattle.image.specs.Lookup.{machine}
 use borrow.Author.Needs.{needs}
 use Rattle.judge.proofs.step.Statement.{statement}
 use Rattle.judge.proofs.step.Tie as tie

@@ -1,7 +1,7 @@
 -- `office::pack_translated` meets its contract: each arm returns what `packCounts` gives of the variant that the match found.
 -- Assumes nothing.
 use mathlib.Core.Path.{sym, ap, _∙_}
-use Rattle.automaton.specs.Translate.{answer}
+use Rattle.translation.specs.Translate.{answer}
 use Rattle.office.specs.Packing.{packCounts}
 use borrow.Author.Needs.{needs}
 use Rattle.office.proofs.pack_translated.Statement.{statement}

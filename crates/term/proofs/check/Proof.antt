@@ -2,7 +2,7 @@
 -- Assumes nothing.
 use borrow.Author.Needs.{needs}
 use mathlib.Core.Path.{refl, sym, ap, _∙_}
-use Rattle.formula.specs.Rule.{answer}
+use Rattle.answer.specs.Result.{answer}
 use Rattle.term.proofs.Sizes.{bytes-refused, sizes-left}
 use Rattle.term.proofs.check.Statement.{statement}
 use Rattle.term.proofs.check.Tie as tie

@@ -4,8 +4,8 @@ use borrow.Author.Needs.{needs}
 use native.Mathlib.Omega.{arith}
 use Prim.Native.Nat.{_-_}
 use mathlib.Core.Path.{sym, ap, _∙_}
-use Rattle.formula.specs.Rule.{answer}
-use Rattle.formula.proofs.Lowest.{Passing, pass-begins, pass-steps, pass-fails, pass-ends}
+use Rattle.answer.specs.Result.{answer}
+use Rattle.answer.proofs.Lowest.{Passing, pass-begins, pass-steps, pass-fails, pass-ends}
 use Rattle.term.specs.Size.{sizeCheck}
 use Rattle.term.proofs.check_sizes.Statement.{statement}
 use Rattle.term.proofs.check_sizes.Tie as tie

@@ -1,0 +1,61 @@
+// What the answers and the bytes of every call are said with: a refusal's number and place, numbers of two bytes, zeros
+// and copies.
+ghost use mathlib.Core.Path.{_≡_};
+ghost use mathlib.Core.List.{_++_};
+ghost use Prim.Native.Nat.{_+_, _<_, _≤_};
+ghost use lib.ListN.{length, take, drop, replicate};
+ghost use lib.Seq.{sets};
+ghost use Rattle.answer.specs.Bytes.{twoBytes, numberAt};
+
+// The answer of a check: accepted, or a refusal's number and place.
+pub enum Checked {
+    Accepted,
+    Refused(u8, usize),
+}
+
+// A byte as a number.
+pub fn wide(x: u8) -> usize
+    ensures { λ r. ⌜ r ≡ x ⌝ }
+{
+    x as usize
+}
+
+// The number at place i, low byte first.
+pub fn number_at(bytes: &[u8], i: usize) -> usize
+    requires { ⌜ i + 1 < length (now bytes) ⌝ }
+    ensures { λ r. ⌜ r ≡ numberAt (now (bytes .entry)) i ⌝ }
+{
+    wide(bytes[i]) + 256 * wide(bytes[i + 1])
+}
+
+// A number of two bytes, low byte first.
+pub fn put_number(table: &mut [u8], at: usize, x: usize)
+    requires { ⌜ (at + 2 ≤ length (now table)) × (x < 65536) ⌝ }
+    ensures { λ _. ⌜ now (table .exit) ≡ sets (now (table .entry)) at (twoBytes x) ⌝ }
+{
+    table[at] = (x % 256) as u8;
+    table[at + 1] = (x / 256) as u8;
+}
+
+// All of a slice set to 0.
+pub fn zero(table: &mut [u8])
+    ensures { λ _. ⌜ now (table .exit) ≡ replicate (length (now (table .entry))) 0 ⌝ }
+{
+    let mut i = 0;
+    while i < table.len() {
+        table[i] = 0;
+        i += 1;
+    }
+}
+
+// The first n bytes of source in the first places of target.
+pub fn copy(target: &mut [u8], source: &[u8], n: usize)
+    requires { ⌜ (n ≤ length (now target)) × (n ≤ length (now source)) ⌝ }
+    ensures { λ _. ⌜ now (target .exit) ≡ take n (now (source .entry)) ++ drop n (now (target .entry)) ⌝ }
+{
+    let mut k = 0;
+    while k < n {
+        target[k] = source[k];
+        k += 1;
+    }
+}

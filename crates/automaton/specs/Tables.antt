@@ -1,0 +1,42 @@
+-- Three lent tables with an automaton's records: how many of each, and 25.
+use Prim.Native.Nat.{ℕ, _+_}
+use mathlib.Core.List.{List, [], _∷_}
+use mathlib.Core.Bool.{_&&_}
+use lib.ListN.{length}
+use lib.Dec.{leb}
+use Rattle.answer.specs.Result.{Result, Check, require}
+use Rattle.automaton.specs.Automaton.{State, Automaton}
+
+-- how many states, transitions and initial states there are: the answer of an accepted translate or read (01, Numbers
+-- that come from the state, last paragraph, sentence 2)
+pub record Counts : Type 0 where
+  pub states : ℕ
+  pub transitions : ℕ
+  pub initial : ℕ
+
+-- three numbers as counts
+abbrev pub countsOf : (states transitions initial : ℕ) → Counts
+countsOf states transitions initial = record { states = states; transitions = transitions; initial = initial }
+
+unfoldable pub transitionCount : List State → ℕ
+transitionCount [] = 0
+transitionCount (s ∷ rest) = length (s .transitions) + transitionCount rest
+
+abbrev pub counts : Automaton → Counts
+counts a = record { states = length (a .states); transitions = transitionCount (a .states); initial = length (a .initial) }
+
+-- an answer, and the three lent tables afterwards
+pub record Outcome : Type 0 where
+  pub answer : Result Counts
+  pub states : List ℕ
+  pub transitions : List ℕ
+  pub initial : List ℕ
+
+abbrev pub outcome : Result Counts → (states transitions initial : List ℕ) → Outcome
+outcome a s t i = record { answer = a; states = s; transitions = t; initial = i }
+
+-- 25, at place 0: a table has no room for 96 records of 4 bytes (states), 12,288 of 4 (transitions) or 96 of 2
+-- (initial) (01, Numbers that come from the state, 25)
+unfoldable pub tableCheck : (states transitions initial : List ℕ) → Check
+tableCheck states transitions initial =
+    require (leb (384) (length states) && (leb 49152 (length transitions) && leb 192 (length initial))) 25 0

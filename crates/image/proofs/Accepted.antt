@@ -1,0 +1,62 @@
+-- What is known of an image that check accepts: its records are within bounds. Assumes nothing.
+use Prim.Native.Nat.{ℕ, zero, suc, _+_, _*_, _<_}
+use mathlib.Core.Path.{_≡_}
+use mathlib.Core.List.{List}
+use mathlib.Core.Bool.{and-eq-true-iff}
+use native.Mathlib.Omega.{arith}
+use borrow.Author.Tests.{ltb-true}
+use Rattle.answer.specs.Result.{accepted, andThen, fine, lowest}
+use Rattle.answer.proofs.Lowest.{fine-first, fine-second, lowest-each}
+use Rattle.answer.proofs.Results.{require-fine}
+use Rattle.automaton.specs.Automaton.{Automaton}
+use Rattle.automaton.specs.Tables.{Counts}
+use Rattle.answer.specs.Bytes.{numberAt}
+use Rattle.image.specs.Reader.{countsAt, stateCheck, sumCheck, transitionCheck, initialCheck, recordsCheck}
+use Rattle.image.specs.Calls.{checks}
+use Rattle.image.proofs.Contents.{Read, read-of, contents-fine, checks-of}
+use Rattle.image.proofs.Tables.{sum-fine}
+use Rattle.image.specs.Lookup.{machine, Readable}
+use Rattle.image.proofs.Lookup.{machine-states, step-target, initial-state}
+use Rattle.automaton.proofs.InRange.{InRange}
+
+module _ (c : Counts) (s t i : List ℕ) (checked : recordsCheck c s t i ≡ fine) where
+  after-sum : andThen (lowest (transitionCheck (c .states) t) (c .transitions)) (λ _. lowest (initialCheck (c .states) i) (c .initial)) ≡ fine
+  unfolding recordsCheck
+  after-sum = fine-second (sumCheck c s) _ (fine-second (lowest (stateCheck s) (c .states)) _ checked)
+
+  target-below : (k : ℕ) → k < c .transitions → numberAt t (4 * k + 2) < c .states
+  unfolding transitionCheck
+  target-below k lt =
+      let each = lowest-each (transitionCheck (c .states) t) (c .transitions) (fine-first (lowest (transitionCheck (c .states) t) (c .transitions)) _ after-sum) k lt in
+      ltb-true _ _ (and-eq-true-iff _ _ .0 (require-fine _ 12 k each) .0)
+
+  initial-below : (k : ℕ) → k < c .initial → numberAt i (2 * k) < c .states
+  unfolding initialCheck
+  initial-below k lt = go k (lowest-each (initialCheck (c .states) i) (c .initial) (fine-second (lowest (transitionCheck (c .states) t) (c .transitions)) _ after-sum) k lt)
+    where
+      go : (k : ℕ) → initialCheck (c .states) i k ≡ fine → numberAt i (2 * k) < c .states
+      go zero e = ltb-true _ _ (require-fine _ 13 0 e)
+      go (suc k) e = ltb-true _ _ (and-eq-true-iff _ _ .0 (require-fine _ 13 (suc k) e) .0)
+
+pub readable : {image : List ℕ} {a : Automaton} → Read image a → Readable image
+readable {image} read =
+    let contents = contents-fine image (read .contents) in
+    record {
+      few = contents .small .states;
+      size = contents .size;
+      sum = sum-fine (countsAt image) _ _ _ (read .bodies);
+      targets = target-below (countsAt image) _ _ _ (read .bodies);
+      starts = initial-below (countsAt image) _ _ _ (read .bodies);
+    }
+
+pub known : (image : List ℕ) {c : Counts} → accepted c ≡ checks image → Readable image
+known image {c} e =
+    let found = checks-of image c e in
+    readable (read-of image (found .automaton) (found .read))
+
+-- the automaton's targets and initial numbers are states
+pub readable-in-range : (image : List ℕ) → Readable image → InRange (machine image)
+readable-in-range image fine = record {
+  targets = λ q x next h. omega (arith, machine-states image, step-target image fine q x next h);
+  initial = λ q h. omega (arith, machine-states image, initial-state image fine q h);
+}

@@ -1,0 +1,221 @@
+-- The reader accepts the image of a well-formed automaton and gives the same automaton: the contents pass 10, the
+-- records pass 11 to 13, and they read back. Assumes nothing.
+use Prim.Native.Nat.{ℕ, zero, suc, _+_, _*_, _≤_, _<_}
+use mathlib.Core.Path.{_≡_, refl, sym, _∙_, ap, subst}
+use mathlib.Core.Logic.{_⊎_, inl, inr}
+use mathlib.Core.List.{List, [], _∷_, _++_, append-nil}
+use mathlib.Core.Bool.{Bool, true, false, cond}
+use native.Mathlib.Omega.{arith}
+use lib.ListN.{getD, length, drop, length-append}
+use lib.Seq.{drop-at, drop-drop}
+use lib.Dec.{leb}
+use lib.Bits.{bitAnd}
+use borrow.Author.Tests.{lt-ltb, le-leb, eq-eqb}
+use Rattle.answer.specs.Result.{accepted, Check, fine, lowest}
+use Rattle.automaton.specs.Automaton.{Transition, State, Automaton, noState}
+use Rattle.sets.specs.Sets.{In}
+use Rattle.automaton.specs.Records.{records, stateRecord, transitionRecord, stateRecords, transitionRecords, initialRecords}
+use Rattle.answer.specs.Bytes.{twoBytes, numberAt}
+use Rattle.automaton.specs.Tables.{Counts, counts, transitionCount}
+use Rattle.image.specs.Image.{entry, transitionsAt, initialAt, imageLength, contents, imageBytes}
+use Rattle.image.specs.Reader.{countsAt, countsFit, contentsCheck, stateCheck, sumCheck, transitionCheck, initialCheck, recordsCheck, automatonFrom, readTables, readImage}
+use Rattle.sets.proofs.Members.{at-in, append-in}
+use Rattle.automaton.proofs.WellFormed.{WellFormed, few-together}
+use Rattle.automaton.proofs.Records.{records-append, number-length, state-length, transition-length}
+use Rattle.image.proofs.Sizes.{states-size, transitions-size, image-size}
+use Rattle.image.proofs.ReadRecords.{byte-at, number-at, number-read, numbers-read, states-read, counts-add}
+
+-- checks that are fine each are fine together
+each-fine : (check : ℕ → Check) (n : ℕ) → ((k : ℕ) → k < n → check k ≡ fine) → lowest check n ≡ fine
+unfolding lowest
+each-fine check zero h = refl
+each-fine check (suc n) h = rw (each-fine check n (λ k l. h k (omega arith))) (h n (omega arith))
+
+-- ---- the transitions of all states, one after another
+together : List State → List Transition
+together [] = []
+together (s ∷ ss) = s .transitions ++ together ss
+
+together-records : (ss : List State) → records (λ s. records transitionRecord (s .transitions)) ss ≡ records transitionRecord (together ss)
+unfolding records together
+together-records [] = refl
+together-records (s ∷ ss) = rw (records-append, together-records ss)
+
+together-length : (ss : List State) → length (together ss) ≡ transitionCount ss
+unfolding together transitionCount
+together-length [] = refl
+together-length (s ∷ ss) = omega (arith, length-append (s .transitions) (together ss), together-length ss)
+
+together-in : (t : Transition) (ss : List State) → In t (together ss) → (s : State) × In s ss × In t (s .transitions)
+unfolding together
+together-in t [] m = absurd m
+together-in t (s ∷ ss) m = go (append-in t (s .transitions) (together ss) m) (together-in t ss)
+  where
+    go : In t (s .transitions) ⊎ In t (together ss) → (In t (together ss) → (u : State) × In u ss × In t (u .transitions)) → (u : State) × In u (s ∷ ss) × In t (u .transitions)
+    go (inl h) ih = (s, inl refl, h)
+    go (inr h) ih = let (u, n, k) = ih h in (u, inr n, k)
+
+-- the numbers in the contents of an image with these counts, and its length
+record Contents (c : Counts) (image : List ℕ) : Type 0 where
+  states-kind : numberAt image 0 ≡ 1
+  states-count : numberAt image 2 ≡ c .states
+  states-offset : numberAt image 4 ≡ 18
+  transitions-kind : numberAt image 6 ≡ 2
+  transitions-count : numberAt image 8 ≡ c .transitions
+  transitions-offset : numberAt image 10 ≡ transitionsAt c
+  initial-kind : numberAt image 12 ≡ 3
+  initial-count : numberAt image 14 ≡ c .initial
+  initial-offset : numberAt image 16 ≡ initialAt c
+  size : length image ≡ imageLength c
+
+contents-counts : (c : Counts) (image : List ℕ) → Contents c image → countsAt image ≡ c
+contents-counts c image h = λ i. record { states = h .states-count i; transitions = h .transitions-count i; initial = h .initial-count i }
+
+contents-pass : (c : Counts) (image : List ℕ) → Contents c image → countsFit c ≡ true → contentsCheck image ≡ fine
+unfolding contentsCheck
+contents-pass c image h fit =
+    rw (h .states-kind, h .states-count, h .states-offset, h .transitions-kind, h .transitions-count, h .transitions-offset, h .initial-kind, h .initial-count, h .initial-offset, h .size, le-leb 18 (imageLength c) (omega arith), fit, eq-eqb (transitionsAt c) (transitionsAt c) refl, eq-eqb (initialAt c) (initialAt c) refl, eq-eqb (imageLength c) (imageLength c) refl)
+
+zero-or-one : (b : Bool) → leb (cond b 1 0) 1 ≡ true
+zero-or-one true = refl
+zero-or-one false = refl
+
+-- any automaton: its contents, where its bodies stand, and what is read from them
+module _ (a : Automaton) where
+  transitions-are : transitionRecords a ≡ records transitionRecord (together (a .states))
+  unfolding transitionRecords
+  transitions-are = together-records (a .states)
+
+  image-contents : Contents (counts a) (imageBytes a)
+  unfolding imageBytes contents entry twoBytes
+  image-contents = record {
+    states-kind = refl;
+    states-count = number-read (length (a .states));
+    states-offset = refl;
+    transitions-kind = refl;
+    transitions-count = number-read (transitionCount (a .states));
+    transitions-offset = number-read (transitionsAt (counts a));
+    initial-kind = refl;
+    initial-count = number-read (length (a .initial));
+    initial-offset = number-read (initialAt (counts a));
+    size = image-size a;
+  }
+
+  states-body : drop 18 (imageBytes a) ≡ stateRecords a ++ (transitionRecords a ++ initialRecords a)
+  unfolding imageBytes contents entry twoBytes
+  states-body = refl
+
+  transitions-body : drop (transitionsAt (counts a)) (imageBytes a) ≡ transitionRecords a ++ initialRecords a
+  transitions-body =
+      sym (drop-drop (4 * length (a .states)) 18 (imageBytes a))
+      ∙ ap (drop (4 * length (a .states))) states-body
+      ∙ drop-at (stateRecords a) (transitionRecords a ++ initialRecords a) (4 * length (a .states)) (states-size a)
+
+  initial-body : drop (initialAt (counts a)) (imageBytes a) ≡ initialRecords a ++ []
+  initial-body =
+      sym (drop-drop (4 * transitionCount (a .states)) (transitionsAt (counts a)) (imageBytes a))
+      ∙ ap (drop (4 * transitionCount (a .states))) transitions-body
+      ∙ drop-at (transitionRecords a) (initialRecords a) (4 * transitionCount (a .states)) (transitions-size a)
+      ∙ sym (append-nil (initialRecords a))
+
+  -- whatever follows each body
+  automaton-read : (s t i : List ℕ) → automatonFrom (counts a) (stateRecords a ++ s) (transitionRecords a ++ t) (initialRecords a ++ i) ≡ a
+  unfolding automatonFrom stateRecords transitionRecords initialRecords
+  automaton-read s t i = λ k. record { states = states-read (a .states) s t k; initial = numbers-read (a .initial) i k }
+
+-- an automaton that keeps the limits
+module _ (a : Automaton) (formed : WellFormed a) where
+  pub counts-fit : countsFit (counts a) ≡ true
+  unfolding countsFit
+  counts-fit =
+      let few : transitionCount (a .states) ≤ 12288 = omega (arith, formed .states, few-together (length (a .states)) (a .states) (formed .each)) in
+      rw (le-leb (length (a .states)) 96 (formed .states), le-leb (transitionCount (a .states)) 12288 few, le-leb (length (a .initial)) 96 (formed .initial))
+
+  -- ---- 11 to 13
+  module _ (rest : List ℕ) (i : ℕ) (inside : i < length (a .states)) where
+    abbrev state : State
+    state = getD (a .states) i noState
+
+    state-count : numberAt (stateRecords a ++ rest) (4 * i) ≡ length (state .transitions)
+    unfolding stateRecords stateRecord twoBytes
+    state-count = number-at stateRecord 4 state-length noState (a .states) rest i 0 (4 * i) inside (omega arith) (omega arith) ∙ number-read (length (state .transitions))
+
+    accepting-byte : getD (stateRecords a ++ rest) (4 * i + 2) 0 ≡ cond (state .accepting) 1 0
+    unfolding stateRecords stateRecord twoBytes
+    accepting-byte = byte-at stateRecord 4 state-length noState (a .states) rest i 2 (4 * i + 2) inside (omega arith) refl
+
+    last-byte : getD (stateRecords a ++ rest) (4 * i + 3) 0 ≡ 0
+    unfolding stateRecords stateRecord twoBytes
+    last-byte = byte-at stateRecord 4 state-length noState (a .states) rest i 3 (4 * i + 3) inside (omega arith) refl
+
+    state-fine : stateCheck (stateRecords a ++ rest) i ≡ fine
+    unfolding stateCheck
+    state-fine =
+        let few = formed .each state (at-in noState (a .states) i inside) .few in
+        rw (state-count, accepting-byte, last-byte, le-leb (length (state .transitions)) 128 few, zero-or-one (state .accepting))
+
+  module _ (rest : List ℕ) (i : ℕ) (inside : i < transitionCount (a .states)) where
+    none : Transition
+    none = record { must = 0; mustNot = 0; target = 0 }
+
+    abbrev transition : Transition
+    transition = getD (together (a .states)) i none
+
+    within : i < length (together (a .states))
+    within = omega (arith, together-length (a .states))
+
+    transition-target : numberAt (transitionRecords a ++ rest) (4 * i + 2) ≡ transition .target
+    unfolding transitionRecord twoBytes
+    transition-target = rw (transitions-are a) (number-at transitionRecord 4 transition-length none (together (a .states)) rest i 2 (4 * i + 2) within (omega arith) refl ∙ number-read (transition .target))
+
+    transition-must : getD (transitionRecords a ++ rest) (4 * i) 0 ≡ transition .must
+    unfolding transitionRecord
+    transition-must = rw (transitions-are a) (byte-at transitionRecord 4 transition-length none (together (a .states)) rest i 0 (4 * i) within (omega arith) (omega arith))
+
+    transition-not : getD (transitionRecords a ++ rest) (4 * i + 1) 0 ≡ transition .mustNot
+    unfolding transitionRecord
+    transition-not = rw (transitions-are a) (byte-at transitionRecord 4 transition-length none (together (a .states)) rest i 1 (4 * i + 1) within (omega arith) refl)
+
+    transition-fine : transitionCheck (length (a .states)) (transitionRecords a ++ rest) i ≡ fine
+    unfolding transitionCheck
+    transition-fine =
+        let (s, m, n) = together-in transition (a .states) (at-in none (together (a .states)) i within) in
+        rw (transition-target, transition-must, transition-not, lt-ltb (transition .target) (length (a .states)) (formed .each s m .targets transition n), eq-eqb (bitAnd (transition .must) (transition .mustNot)) 0 (formed .each s m .labels transition n .disjoint))
+
+  initial-at : (rest : List ℕ) (i : ℕ) → i < length (a .initial) → numberAt (initialRecords a ++ rest) (2 * i) ≡ getD (a .initial) i 0
+  unfolding initialRecords twoBytes
+  initial-at rest i l = number-at twoBytes 2 number-length 0 (a .initial) rest i 0 (2 * i) l (omega arith) (omega arith) ∙ number-read (getD (a .initial) i 0)
+
+  initial-fine : (rest : List ℕ) (i : ℕ) → i < length (a .initial) → initialCheck (length (a .states)) (initialRecords a ++ rest) i ≡ fine
+  unfolding initialCheck
+  initial-fine rest zero l = rw (initial-at rest 0 l, lt-ltb (getD (a .initial) 0 0) (length (a .states)) (formed .inside 0 l))
+  initial-fine rest (suc i) l =
+      rw (initial-at rest (suc i) l, initial-at rest i (omega arith), lt-ltb (getD (a .initial) (suc i) 0) (length (a .states)) (formed .inside (suc i) l), lt-ltb (getD (a .initial) i 0) (getD (a .initial) (suc i) 0) (formed .rising i l))
+
+  -- ---- the three bodies, each with what follows it
+  module _ (s t i : List ℕ) where
+    sum-fine : sumCheck (counts a) (stateRecords a ++ s) ≡ fine
+    unfolding stateRecords
+    sum-fine = rw (counts-add, eq-eqb (transitionCount (a .states)) (transitionCount (a .states)) refl)
+
+    records-fine : recordsCheck (counts a) (stateRecords a ++ s) (transitionRecords a ++ t) (initialRecords a ++ i) ≡ fine
+    unfolding recordsCheck
+    records-fine =
+        rw (each-fine (stateCheck (stateRecords a ++ s)) (length (a .states)) (state-fine s), sum-fine, each-fine (transitionCheck (length (a .states)) (transitionRecords a ++ t)) (transitionCount (a .states)) (transition-fine t))
+        (each-fine (initialCheck (length (a .states)) (initialRecords a ++ i)) (length (a .initial)) (initial-fine i))
+
+    pub tables-read : readTables (counts a) (stateRecords a ++ s) (transitionRecords a ++ t) (initialRecords a ++ i) ≡ accepted a
+    unfolding readTables
+    tables-read = rw records-fine (ap accepted (automaton-read a s t i))
+
+  bodies-read : readTables (counts a) (drop 18 (imageBytes a)) (drop (transitionsAt (counts a)) (imageBytes a)) (drop (initialAt (counts a)) (imageBytes a)) ≡ accepted a
+  bodies-read = rw (states-body a, transitions-body a, initial-body a) (tables-read (transitionRecords a ++ initialRecords a) (initialRecords a) [])
+
+-- what the reader makes of an automaton's image is that automaton
+pub image-accepted : (a : Automaton) → WellFormed a → readImage (imageBytes a) ≡ accepted a
+unfolding readImage
+image-accepted a formed =
+    let there = image-contents a in
+    rw (contents-pass (counts a) (imageBytes a) there (counts-fit a formed))
+    (subst (λ (c : Counts). readTables c (drop 18 (imageBytes a)) (drop (transitionsAt c) (imageBytes a)) (drop (initialAt c) (imageBytes a)) ≡ accepted a)
+    (sym (contents-counts (counts a) (imageBytes a) there)) (bodies-read a formed))

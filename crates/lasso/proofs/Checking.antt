@@ -1,0 +1,42 @@
+-- 8 and 9 by the tests in their order, and what a lasso has that they let pass. Assumes nothing.
+use Prim.Native.Nat.{ℕ, _+_, _-_, _<_, _≤_}
+use mathlib.Core.Path.{_≡_, sym, _∙_}
+use mathlib.Core.List.{List}
+use mathlib.Core.Bool.{Bool, true, false, not}
+use native.Mathlib.Omega.{arith}
+use native.Mathlib.Decide.{decLt}
+use lib.ListN.{length}
+use lib.Dec.{leb, ltb}
+use borrow.Author.Tests.{lt-ltb, le-ltb, ltb-true, le-leb, lt-leb, not-true, not-false}
+use Rattle.answer.specs.Result.{refused, fine, require}
+use Rattle.answer.proofs.Lowest.{fine-first}
+use Rattle.answer.proofs.Results.{require-fine}
+use Rattle.lasso.specs.Lasso.{lassoCheck}
+
+-- the sum of two lengths is not made
+pub letters-left : (stem cycle : ℕ) → stem ≤ 128 → leb cycle (128 - stem) ≡ leb (stem + cycle) 128
+letters-left stem cycle le = go (decLt (128 - stem) cycle)
+  where
+    go : Dec (128 - stem < cycle) → leb cycle (128 - stem) ≡ leb (stem + cycle) 128
+    go (yes lt) = lt-leb cycle (128 - stem) lt ∙ sym (lt-leb (stem + cycle) 128 (omega arith))
+    go (no ge) = le-leb cycle (128 - stem) (omega arith) ∙ sym (le-leb (stem + cycle) 128 (omega arith))
+
+module _ (stem cycle : List ℕ) where
+  pub cycle-empty : length cycle ≡ 0 → refused 8 0 ≡ lassoCheck stem cycle
+  unfolding lassoCheck
+  cycle-empty e = rw (le-ltb 0 (length cycle) (omega arith))
+
+  module _ (some : length cycle ≡ 0 → ⊥) {r : Bool} (fits : r ≡ leb (length stem + length cycle) 128) where
+    pub letters-over : not r ≡ true → refused 9 0 ≡ lassoCheck stem cycle
+    unfolding lassoCheck
+    letters-over e = rw (lt-ltb 0 (length cycle) (omega arith), ← fits, not-true r e)
+
+    pub lasso-fine : not r ≡ false → fine ≡ lassoCheck stem cycle
+    unfolding lassoCheck
+    lasso-fine e = rw (lt-ltb 0 (length cycle) (omega arith), ← fits, not-false r e)
+
+  -- a lasso that is not refused has a letter in its cycle
+  pub lasso-some : fine ≡ lassoCheck stem cycle → 0 < length cycle
+  unfolding lassoCheck
+  lasso-some e =
+      ltb-true 0 (length cycle) (require-fine (ltb 0 (length cycle)) 8 0 (fine-first (require (ltb 0 (length cycle)) 8 0) _ (sym e)))

@@ -1,0 +1,3 @@
+-- What is known of lassos, for the crates above.
+pub mod Letters
+pub mod Checking

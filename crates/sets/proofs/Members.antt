@@ -1,0 +1,71 @@
+-- What is in a list: by place, in joined and in mapped lists. Assumes nothing.
+use Prim.Native.Nat.{ℕ, zero, suc, _<_}
+use mathlib.Core.Path.{_≡_, refl, sym, ap, subst}
+use mathlib.Core.Logic.{_⊎_, inl, inr, _↔_}
+use mathlib.Core.List.{List, [], _∷_, _++_, map}
+use mathlib.Core.Bool.{Bool, true, false, _||_, false≢true}
+use native.Mathlib.Omega.{arith}
+use lib.ListN.{getD, length}
+use Rattle.sets.specs.Sets.{any, In}
+
+-- P holds of each
+abbrev pub All : {A : Type 0} → (A → Type 0) → List A → Type 0
+All {A} P xs = (x : A) → In x xs → P x
+
+-- the element at a place, and the place of an element
+pub at-in : {A : Type 0} (d : A) (xs : List A) (i : ℕ) → i < length xs → In (getD xs i d) xs
+at-in d [] i l = absurd (omega arith)
+at-in d (x ∷ xs) zero l = inl refl
+at-in d (x ∷ xs) (suc i) l = inr (at-in d xs i (omega arith))
+
+pub in-at : {A : Type 0} (d x : A) (xs : List A) → In x xs → (i : ℕ) × (i < length xs) × (getD xs i d ≡ x)
+in-at d x [] h = absurd h
+in-at d x (y ∷ xs) (inl e) = (0, omega arith, sym e)
+in-at d x (y ∷ xs) (inr h) = let (i, l, q) = in-at d x xs h in (suc i, omega arith, q)
+
+pub append-in : {A : Type 0} (x : A) (xs ys : List A) → In x (xs ++ ys) → In x xs ⊎ In x ys
+append-in x [] ys h = inr h
+append-in x (y ∷ xs) ys (inl e) = inl (inl e)
+append-in x (y ∷ xs) ys (inr h) = elim (append-in x xs ys h) [ inl a ↦ inl (inr a) | inr b ↦ inr b ]
+
+pub in-append : {A : Type 0} (x : A) (xs ys : List A) → In x xs ⊎ In x ys → In x (xs ++ ys)
+in-append x [] ys (inl a) = absurd a
+in-append x [] ys (inr b) = b
+in-append x (y ∷ xs) ys (inl (inl e)) = inl e
+in-append x (y ∷ xs) ys (inl (inr h)) = inr (in-append x xs ys (inl h))
+in-append x (y ∷ xs) ys (inr h) = inr (in-append x xs ys (inr h))
+
+pub map-in : {A B : Type 0} (f : A → B) (z : B) (xs : List A) → In z (map f xs) → (x : A) × In x xs × (z ≡ f x)
+map-in f z [] h = absurd h
+map-in f z (y ∷ ys) (inl e) = (y, inl refl, e)
+map-in f z (y ∷ ys) (inr h) = let (x, m, q) = map-in f z ys h in (x, inr m, q)
+
+pub in-map : {A B : Type 0} (f : A → B) (x : A) (xs : List A) → In x xs → In (f x) (map f xs)
+in-map f x [] h = absurd h
+in-map f x (y ∷ ys) (inl e) = inl (ap f e)
+in-map f x (y ∷ ys) (inr h) = inr (in-map f x ys h)
+
+pub map-at : {A B : Type 0} (f : A → B) (d : A) (e : B) (xs : List A) (i : ℕ) → i < length xs → getD (map f xs) i e ≡ f (getD xs i d)
+map-at f d e [] i l = absurd (omega arith)
+map-at f d e (x ∷ xs) zero l = refl
+map-at f d e (x ∷ xs) (suc i) l = map-at f d e xs i (omega arith)
+
+-- a test holds of one of them
+pub or-iff : (a b : Bool) → (a || b) ≡ true ↔ ((a ≡ true) ⊎ (b ≡ true))
+or-iff true b = (λ e. inl refl, λ h. refl)
+or-iff false b = (λ e. inr e, λ h. elim h [ inl e ↦ absurd (false≢true e) | inr e ↦ e ])
+
+pub any-iff : {A : Type 0} (test : A → Bool) (us : List A) → any test us ≡ true ↔ ((u : A) × In u us × (test u ≡ true))
+unfolding any
+any-iff {A} test [] = (λ e. absurd (false≢true e), λ (u, m, e). absurd m)
+any-iff {A} test (u ∷ us) = (there (any-iff test us), back (any-iff test us))
+  where
+    Some : List A → Type 0
+    Some vs = (v : A) × In v vs × (test v ≡ true)
+
+    there : any test us ≡ true ↔ Some us → (test u || any test us) ≡ true → Some (u ∷ us)
+    there ih e = elim (or-iff (test u) (any test us) .0 e) [ inl p ↦ (u, inl refl, p) | inr p ↦ (let (v, m, q) = ih .0 p in (v, inr m, q)) ]
+
+    back : any test us ≡ true ↔ Some us → Some (u ∷ us) → (test u || any test us) ≡ true
+    back ih (v, inl p, e) = or-iff (test u) (any test us) .1 (inl (subst (λ (x : A). test x ≡ true) p e))
+    back ih (v, inr m, e) = or-iff (test u) (any test us) .1 (inr (ih .1 (v, m, e)))

@@ -1,0 +1,93 @@
+-- `translation::write_states` meets its contract: the records of the pairs before p are written (`States`).
+-- Assumes nothing.
+use borrow.Author.Needs.{needs}
+use native.Mathlib.Omega.{arith}
+use Prim.Native.Nat.{_-_}
+use mathlib.Core.Path.{refl}
+use lib.ListN.{length}
+use Rattle.translation.proofs.Within.{state-inside}
+use Rattle.translation.proofs.Writing.{States, states-begin, state-room, states-step, states-end, count-rises, count-few}
+use Rattle.translation.proofs.write_states.Statement.{statement}
+use Rattle.translation.proofs.write_states.Tie as tie
+
+abbrev Inv-loop : tie.InvT-loop
+Inv-loop table₀ ends r pairs pair₀ table pair = States ends r pairs table₀ table (pair .0)
+
+abbrev μ-loop : tie.MeasureT-loop
+μ-loop table₀ ends r pairs pair₀ table pair = length pairs - pair .0
+
+loop-holds : tie.Need-loop-holds Inv-loop μ-loop
+loop-holds c = states-begin _ _ _ _ (c .before .before .before .pre .0)
+
+mul-code : tie.Need-mul-code Inv-loop μ-loop
+mul-code c = search needs
+
+shared-slice-read-code : tie.Need-shared-slice-read-code Inv-loop μ-loop
+shared-slice-read-code c = search needs
+
+state-of-requires : tie.Need-state-of-requires Inv-loop μ-loop
+state-of-requires c κs = search needs
+
+row-start-requires : tie.Need-row-start-requires Inv-loop μ-loop
+row-start-requires c κs = state-inside _ _ _ _ (c .before .before .before .before .before .before .before .before .pre .1) (c .before .before .if1 .taken) refl _ (c .state-of .ensures)
+
+state-of-requires-2 : tie.Need-state-of-requires-2 Inv-loop μ-loop
+state-of-requires-2 c κs = search needs
+
+row-end-requires : tie.Need-row-end-requires Inv-loop μ-loop
+row-end-requires c κs = state-inside _ _ _ _ (c .before .before .before .before .before .before .before .before .before .before .pre .1) (c .before .before .before .before .if1 .taken) refl _ (c .state-of2 .ensures)
+
+sub-put-state : tie.Need-sub-put-state Inv-loop μ-loop
+sub-put-state c =
+    let at = c .before .before .before .before .before .before .before .before in
+    count-rises _ _ _ (at .before .before .before .before .pre .1) (omega arith) (c .before .before .before .before .state-of .ensures) (c .before .before .state-of2 .ensures) (c .before .before .before .row-start .ensures) (c .before .row-end .ensures)
+
+level-of-requires : tie.Need-level-of-requires Inv-loop μ-loop
+level-of-requires c κs = search needs
+
+put-state-requires : tie.Need-put-state-requires Inv-loop μ-loop
+put-state-requires c κs =
+    let at = c .before .before .before .before .before .before .before .before .before in
+    (state-room _ _ _ _ _ _ (at .loop .inv) (omega arith) (at .before .before .before .before .pre .2), omega (arith, count-few _ _ _ (at .before .before .before .before .pre .1) (omega arith) (c .before .before .before .before .before .state-of .ensures) (c .before .before .before .state-of2 .ensures) (c .before .before .before .before .row-start .ensures) (c .before .before .row-end .ensures)))
+
+add-t10 : tie.Need-add-t10 Inv-loop μ-loop
+add-t10 c = search needs
+
+loop-less : tie.Need-loop-less Inv-loop μ-loop
+loop-less c = search needs
+
+loop-again : tie.Need-loop-again Inv-loop μ-loop
+loop-again c =
+    let put = c .before .before .before in
+    let end = put .before .before .before in
+    let start = end .before .before in
+    let at = start .before .before .before .before .before in
+    states-step _ _ _ _ _ _ (at .loop .inv) (omega arith) (at .before .before .before .before .pre .2) _ _ _ _ _ _ (start .before .state-of .ensures) (end .before .state-of2 .ensures) (put .before .level-of .ensures) (start .row-start .ensures) (end .row-end .ensures) (put .put-state .kept .0) (put .put-state .ensures)
+
+same-length : tie.Need-same-length Inv-loop μ-loop
+same-length c = c .before .before .loop .inv .size
+
+returns : tie.Need-returns Inv-loop μ-loop
+returns c = states-end _ _ _ _ _ _ (c .before .before .loop .inv) (c .if1 .left)
+
+pub write-states-spec : {M : Type 1} → statement M
+write-states-spec =
+    tie.close
+    (tie.spec
+    Inv-loop
+    μ-loop
+    loop-holds
+    mul-code
+    shared-slice-read-code
+    state-of-requires
+    row-start-requires
+    state-of-requires-2
+    row-end-requires
+    sub-put-state
+    level-of-requires
+    put-state-requires
+    add-t10
+    loop-less
+    loop-again
+    same-length
+    returns)
