@@ -7,10 +7,10 @@ use native.Mathlib.Omega.{arith}
 use native.Mathlib.Decide.{ℕ-discrete, decLt}
 use lib.ListN.{length, getD, set, replicate, length-set}
 use lib.Seq.{getD-set-same, getD-set-other}
-use lib.Bits.{bitAnd, bitOr, and-mask}
+use lib.Bits.{bitAnd, bitOr, and-mask, and-le-l, and-le-r, or-add-and}
 use lib.Dec.{eqb}
 use lib.Pow.{pow-lt}
-use native.Mathlib.Nat.{one-mul, mod-eq-of-lt}
+use native.Mathlib.Nat.{one-mul, mod-eq-of-lt, add-zero}
 use borrow.Author.Tests.{eqb-true, eqb-false}
 use Rattle.judge.specs.Marks.{Token, Lifted, Adds, Ored, Decides}
 use Rattle.term.specs.Term.{Has}
@@ -150,6 +150,29 @@ zeros (suc n) (suc i) = zeros n i
 
 pub none-set : (n q k : ℕ) → Token (replicate n 0) q k → ⊥
 none-set n q k h = zero-has (same-bit (k % 64) (zeros n (4 * q + k / 64)) (h .bit))
+
+pub or-none : (a b : ℕ) → bitOr a b ≡ 0 → (a ≡ 0) × (b ≡ 0)
+or-none a b e =
+    let l = and-le-l a b in
+    let r = and-le-r a b in
+    let s = or-add-and a b in
+    (omega arith, omega arith)
+
+four : (rows : List ℕ) (at j : ℕ) → j < 4 → getD rows at 0 ≡ 0 → getD rows (at + 1) 0 ≡ 0 → getD rows (at + 2) 0 ≡ 0 → getD rows (at + 3) 0 ≡ 0 → getD rows (at + j) 0 ≡ 0
+four rows at zero lt a b c d = rw add-zero a
+four rows at (suc zero) lt a b c d = b
+four rows at (suc (suc zero)) lt a b c d = c
+four rows at (suc (suc (suc zero))) lt a b c d = d
+four rows at (suc (suc (suc (suc j)))) lt a b c d = absurd (omega arith)
+
+-- the four words of a row joined are 0, as the code looks at them
+pub row-none : (rows : List ℕ) (q : ℕ) → bitOr (bitOr (bitOr (getD rows (4 * q) 0) (getD rows (4 * q + 1) 0)) (getD rows (4 * q + 2) 0)) (getD rows (4 * q + 3) 0) ≡ 0
+    → (k : ℕ) → Token rows q k → ⊥
+row-none rows q e k h =
+    let f = or-none _ (getD rows (4 * q + 3) 0) e in
+    let g = or-none _ (getD rows (4 * q + 2) 0) (f .0) in
+    let w = or-none (getD rows (4 * q) 0) (getD rows (4 * q + 1) 0) (g .0) in
+    zero-has (same-bit (k % 64) (four rows (4 * q) (k / 64) (omega (arith, h .within)) (w .0) (w .1) (g .1) (f .1)) (h .bit))
 
 -- ---- one bit
 

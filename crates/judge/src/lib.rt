@@ -91,6 +91,15 @@ fn has(rows: &[u64], q: usize, k: usize) -> bool
     (rows[4 * q + k / 64] >> (k % 64)) & 1 == 1
 }
 
+// Whether row q has no bit. Callers rest on a yes alone.
+fn row_empty(rows: &[u64], q: usize) -> bool
+    requires { ⌜ 4 * q + 4 ≤ length (now rows) ⌝ }
+    ensures { λ r. ⌜ (r ≡ true → (k : ℕ) → Token (now (rows .entry)) q k → ⊥) ⌝ }
+{
+    let at = 4 * q;
+    rows[at] | rows[at + 1] | rows[at + 2] | rows[at + 3] == 0
+}
+
 // Bit k of row q set.
 fn mark(rows: &mut [u64], q: usize, k: usize)
     requires { ⌜ (4 * q + 4 ≤ length (now rows)) × (k < 256) ⌝ }
@@ -110,8 +119,27 @@ fn take_transition(image: &[u8], at: usize, letter: u8, rows: &[u64], q: usize, 
     or_row(next, number_at(image, at + 2), rows, q);
 }
 
-// The runs of row q after the letter, by all transitions of state q, whose records begin at byte `at`; where the
-// next state's begin.
+// The runs of row q after the letter, by the transitions of state q, whose `count` records begin at byte `at`.
+fn take_transitions(
+    image: &[u8],
+    q: usize,
+    at: usize,
+    count: usize,
+    letter: u8,
+    rows: &[u64],
+    next: &mut [u64],
+)
+    requires { ⌜ Readable (now image) × (q < numberAt (now image) 2) × (at ≡ recordsAt (now image) q) × (count ≡ numberAt (now image) (18 + 4 * q)) × (length (now rows) ≡ 384) × (length (now next) ≡ 384) ⌝ }
+    ensures { λ _. ⌜ Adds (now (next .entry)) (now (next .exit)) (λ t k. Step (machine (now (image .entry))) q letter t × Token (now (rows .entry)) q k) ⌝ }
+{
+    let mut i = 0;
+    while i < count {
+        take_transition(image, at + 4 * i, letter, rows, q, next);
+        i += 1;
+    }
+}
+
+// The same, with the transitions passed over if row q is empty; where the records of the next state begin.
 fn step_state(
     image: &[u8],
     q: usize,
@@ -124,12 +152,12 @@ fn step_state(
     ensures { λ r. ⌜ (r ≡ recordsAt (now (image .entry)) (q + 1)) × Adds (now (next .entry)) (now (next .exit)) (λ t k. Step (machine (now (image .entry))) q letter t × Token (now (rows .entry)) q k) ⌝ }
 {
     let count = number_at(image, CONTENTS_BYTES + 4 * q);
-    let mut i = 0;
-    while i < count {
-        take_transition(image, at + 4 * i, letter, rows, q, next);
-        i += 1;
+    let end = at + 4 * count;
+    if row_empty(rows, q) {
+        return end;
     }
-    at + 4 * count
+    take_transitions(image, q, at, count, letter, rows, next);
+    end
 }
 
 // The runs of all rows after the letter.
