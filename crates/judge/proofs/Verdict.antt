@@ -3,12 +3,12 @@ use Prim.Native.Nat.{ℕ, zero, suc, _+_, _<_, _≤_}
 use mathlib.Core.Path.{_≡_}
 use mathlib.Core.List.{List}
 use mathlib.Core.Bool.{Bool}
-use mathlib.Core.Logic.{_⊎_, inl, inr}
+use mathlib.Core.Logic.{_⊎_, inl, inr, ⊎-elim}
 use lib.ListN.{length, getD, replicate}
 use Rattle.automaton.specs.Automaton.{Automaton, In, Step, Accepts, AcceptingPass}
-use Rattle.judge.specs.Marks.{Token, Lifted, Is, Adds, Decides, After, Linked, one, join, joinMet, Found}
+use Rattle.judge.specs.Marks.{Token, Lifted, Is, Adds, Confined, Decides, After, Linked, one, join, joinMet, Found}
 use Rattle.judge.proofs.Rows.{none-set}
-use Rattle.judge.proofs.Letters.{moved-map}
+use Rattle.judge.proofs.Letters.{moved-map, after-inside}
 use Rattle.judge.proofs.Passes.{Passed, found-pass, pass-found}
 
 -- what follows from less follows from more
@@ -56,6 +56,24 @@ is-lifted a p adds = record {
 
 is-linked : (n : ℕ) {x y : List ℕ} {P : (q k : ℕ) → Type 0} → Is x P → Is y (Linked n (Token x)) → Is y (Linked n P)
 is-linked n p is = record { only = λ q k h. linked-map n (p .only) (is .only q k h); all = λ q k h. is .all q k (linked-map n (p .all) h) }
+
+-- no row behind the first n has a bit, once the runs are begun
+more-confined : (n : ℕ) {x y : List ℕ} {New : (q k : ℕ) → Type 0} → Confined n x → ((q k : ℕ) → New q k → q < n) → Adds x y New → Confined n y
+more-confined n old new adds q k h = ⊎-elim (old q k) (new q k) (adds .only q k h)
+
+module _ (a : Automaton) (n : ℕ) (inside : (q x t : ℕ) → Step a q x t → t < n) (initial : (q : ℕ) → In q (a .initial) → q < n) where
+  pub starts-confined : {r1 : List ℕ} → Adds (replicate 384 0) r1 (λ q k. In q (a .initial) × (k ≡ 96)) → Confined n r1
+  starts-confined starts = more-confined n (λ q k h. absurd (none-set 384 q k h)) (λ q k h. initial q (h .0)) starts
+
+  pub begun-confined : (stem : List ℕ) {r1 r2 r3 r4 : List ℕ} → Adds (replicate 384 0) r1 (λ q k. In q (a .initial) × (k ≡ 96)) → Is r2 (After a (λ i. getD stem i 0) (Token r1) (length stem))
+      → Adds r2 r3 (λ q k. (q < n) × (k ≡ q)) → Adds r3 r4 (λ q k. Accepts a q × Lifted (Token r3) q k) → Confined n r4
+  begun-confined stem {r1} {r2} {r3} {r4} starts stemmed placed begun = more-confined n third (λ q k h. third q (h .1 .low) (h .1 .held)) begun
+    where
+      second : Confined n r2
+      second q k h = after-inside a (λ i. getD stem i 0) inside (starts-confined starts) (length stem) q k (stemmed .only q k h)
+
+      third : Confined n r3
+      third = more-confined n second (λ q k h. h .0) placed
 
 module _ (a : Automaton) (n : ℕ) (stem cycle : List ℕ) (few : n ≤ 96) (inside : (q x t : ℕ) → Step a q x t → t < n) (initial : (q : ℕ) → In q (a .initial) → q < n) where
   pub verdict : {r : Bool} {r1 r2 r3 r4 r5 r6 : List ℕ} → Adds (replicate 384 0) r1 (λ q k. In q (a .initial) × (k ≡ 96)) → Is r2 (After a (λ i. getD stem i 0) (Token r1) (length stem))

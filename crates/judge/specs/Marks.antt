@@ -39,6 +39,10 @@ pub record Is (rows : List ℕ) (Held : (q k : ℕ) → Type 0) : Type 0 where
 abbrev pub Adds : (before after : List ℕ) (New : (q k : ℕ) → Type 0) → Type 0
 Adds before after New = Is after (λ q k. Token before q k ⊎ New q k)
 
+-- no row behind the first n has a bit: with n states no others are read, cleared or copied
+abbrev pub Confined : (n : ℕ) (rows : List ℕ) → Type 0
+Confined n rows = (q k : ℕ) → Token rows q k → q < n
+
 -- n words from place a on have been joined with those of another list from place b on
 pub record Ored (before : List ℕ) (a : ℕ) (from : List ℕ) (b n : ℕ) (after : List ℕ) : Type 0 where
   pub inside : (i : ℕ) → i < n → getD after (a + i) 0 ≡ bitOr (getD before (a + i) 0) (getD from (b + i) 0)

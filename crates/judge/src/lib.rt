@@ -8,14 +8,15 @@ ghost use mathlib.Core.Path.{_≡_};
 ghost use mathlib.Core.Bool.{true, _&&_};
 ghost use mathlib.Core.Logic.{_⊎_};
 ghost use Prim.Native.Nat.{ℕ, _+_, _*_, _<_, _≤_};
-ghost use lib.ListN.{length, getD};
+ghost use mathlib.Core.List.{_++_};
+ghost use lib.ListN.{length, getD, replicate, take, drop};
 ghost use lib.Dec.{eqb, leb};
 ghost use lib.Bits.{bitOr, bitAnd};
 ghost use Rattle.automaton.specs.Automaton.{AcceptingPass, Step, Accepts, In, reads};
 ghost use Rattle.image.specs.Reader.{numberAt};
 ghost use Rattle.formula.specs.Rule.{answer};
 ghost use Rattle.judge.specs.Judge.{judgeAnswer, lassoCheck, judgement, judgedBy, judged};
-ghost use Rattle.judge.specs.Marks.{lassoJudgeable, Token, Lifted, Is, Adds, Ored, Decides, machine, recordAt, recordsAt, Readable, Moved, After, Joined, Linked, Found};
+ghost use Rattle.judge.specs.Marks.{lassoJudgeable, Token, Lifted, Is, Adds, Confined, Ored, Decides, machine, recordAt, recordsAt, Readable, Moved, After, Joined, Linked, Found};
 
 // The numbers of document 01 by which a lasso is refused, and working bytes that are too few.
 pub const EMPTY_CYCLE: u8 = 8;
@@ -196,37 +197,50 @@ fn lift(image: &[u8], n: usize, rows: &mut [u64], from: &[u64])
     }
 }
 
-// All words of `from`.
-fn copy(rows: &mut [u64], from: &[u64])
-    requires { ⌜ length (now rows) ≡ length (now from) ⌝ }
-    ensures { λ _. ⌜ now (rows .exit) ≡ now (from .entry) ⌝ }
+// The first n words 0.
+fn clear(rows: &mut [u64], n: usize)
+    requires { ⌜ n ≤ length (now rows) ⌝ }
+    ensures { λ _. ⌜ now (rows .exit) ≡ replicate n 0 ++ drop n (now (rows .entry)) ⌝ }
 {
     let mut i = 0;
-    while i < rows.len() {
+    while i < n {
+        rows[i] = 0;
+        i += 1;
+    }
+}
+
+// The first n words those of `from`.
+fn copy(rows: &mut [u64], from: &[u64], n: usize)
+    requires { ⌜ (n ≤ length (now rows)) × (n ≤ length (now from)) ⌝ }
+    ensures { λ _. ⌜ now (rows .exit) ≡ take n (now (from .entry)) ++ drop n (now (rows .entry)) ⌝ }
+{
+    let mut i = 0;
+    while i < n {
         rows[i] = from[i];
         i += 1;
     }
 }
 
-// The runs after one letter.
-fn step(image: &[u8], n: usize, letter: u8, rows: &mut [u64])
-    requires { ⌜ Readable (now image) × (n ≡ numberAt (now image) 2) × (length (now rows) ≡ 384) ⌝ }
-    ensures { λ _. ⌜ Is (now (rows .exit)) (Moved (machine (now (image .entry))) letter (Token (now (rows .entry)))) ⌝ }
+// The runs after one letter. In `next` are those that have taken a transition; what it held does not count.
+fn step(image: &[u8], n: usize, letter: u8, rows: &mut [u64], next: &mut [u64])
+    requires { ⌜ Readable (now image) × (n ≡ numberAt (now image) 2) × (length (now rows) ≡ 384) × (length (now next) ≡ 384) × Confined n (now rows) × Confined n (now next) ⌝ }
+    ensures { λ _. ⌜ Is (now (rows .exit)) (Moved (machine (now (image .entry))) letter (Token (now (rows .entry)))) × Confined n (now (next .exit)) ⌝ }
 {
-    let mut next = [0u64; ROWS];
-    step_states(image, n, letter, rows, &mut next);
-    copy(rows, &next);
-    lift(image, n, rows, &next);
+    clear(next, 4 * n);
+    step_states(image, n, letter, rows, next);
+    copy(rows, next, 4 * n);
+    lift(image, n, rows, next);
 }
 
 // The runs after all letters of a word.
 fn run(image: &[u8], n: usize, word: &[u8], rows: &mut [u64])
-    requires { ⌜ Readable (now image) × (n ≡ numberAt (now image) 2) × (length (now rows) ≡ 384) ⌝ }
+    requires { ⌜ Readable (now image) × (n ≡ numberAt (now image) 2) × (length (now rows) ≡ 384) × Confined n (now rows) ⌝ }
     ensures { λ _. ⌜ Is (now (rows .exit)) (After (machine (now (image .entry))) (λ i. getD (now (word .entry)) i 0) (Token (now (rows .entry))) (length (now (word .entry)))) ⌝ }
 {
+    let mut next = [0u64; ROWS];
     let mut i = 0;
     while i < word.len() {
-        step(image, n, word[i], rows);
+        step(image, n, word[i], rows, &mut next);
         i += 1;
     }
 }

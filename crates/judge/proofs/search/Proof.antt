@@ -3,7 +3,7 @@
 use native.Mathlib.Omega.{arith}
 use Rattle.judge.specs.Marks.{machine}
 use Rattle.judge.proofs.Records.{step-target, initial-state}
-use Rattle.judge.proofs.Verdict.{verdict}
+use Rattle.judge.proofs.Verdict.{starts-confined, begun-confined, verdict}
 use borrow.Author.Needs.{needs}
 use Rattle.judge.proofs.search.Statement.{statement}
 use Rattle.judge.proofs.search.Tie as tie
@@ -18,7 +18,11 @@ slice-aggregate-run : tie.Need-slice-aggregate-run
 slice-aggregate-run c = search needs
 
 run-requires : tie.Need-run-requires
-run-requires c κs = search needs
+run-requires c κs =
+    let s = c .before .before .before .before .before .before .before in
+    let image = s .args .image .now in
+    let fine = s .pre .0 in
+    (fine, s .pre .1, search needs, starts-confined (machine image) (s .args .n) (λ q x t h. rw (s .pre .1) (step-target image fine q x t h)) (λ q h. rw (s .pre .1) (initial-state image fine q h)) (c .before .before .mark-initial .ensures))
 
 slice-aggregate-mark-states : tie.Need-slice-aggregate-mark-states
 slice-aggregate-mark-states c = search needs
@@ -39,7 +43,11 @@ slice-aggregate-run-2 : tie.Need-slice-aggregate-run-2
 slice-aggregate-run-2 c = search needs
 
 run-requires-2 : tie.Need-run-requires-2
-run-requires-2 c κs = search needs
+run-requires-2 c κs =
+    let s = c .before .before .before .before .before .before .before .before .before .before .before .before .before .before .before .before .before in
+    let image = s .args .image .now in
+    let fine = s .pre .0 in
+    (fine, s .pre .1, search needs, begun-confined (machine image) (s .args .n) (λ q x t h. rw (s .pre .1) (step-target image fine q x t h)) (λ q h. rw (s .pre .1) (initial-state image fine q h)) (s .args .stem .now) (c .before .before .before .before .before .before .before .before .before .before .before .before .mark-initial .ensures) (c .before .before .before .before .before .before .before .before .before .run .ensures) (c .before .before .before .before .before .before .mark-states .ensures) (c .before .before .lift .ensures))
 
 slice-aggregate-close : tie.Need-slice-aggregate-close
 slice-aggregate-close c = search needs
