@@ -2,16 +2,17 @@
 use Prim.Native.Nat.{ℕ, zero, suc, _+_, _-_, _*_, _/_, _%_, _^_, _<_, _≤_}
 use mathlib.Core.Path.{_≡_, refl, sym, _∙_, ap, subst}
 use mathlib.Core.List.{List, _++_}
+use mathlib.Core.Bool.{_&&_}
 use mathlib.Core.Logic.{_⊎_, inl, inr}
 use native.Mathlib.Omega.{arith}
 use native.Mathlib.Decide.{ℕ-discrete, decLt}
 use lib.ListN.{length, getD, set, replicate, take, drop, length-set, length-replicate, List·getD-append}
 use lib.Seq.{getD-set-same, getD-set-other, getD-append-add, getD-take, getD-drop, length-take-le}
-use lib.Bits.{bitAnd, bitOr, and-mask, and-le-l, and-le-r, or-add-and}
+use lib.Bits.{bitAnd, bitOr, bitXor, and-mask, and-le-l, and-le-r, or-add-and, xor-add-and, xor-self}
 use lib.Dec.{eqb}
 use lib.Pow.{pow-lt}
 use native.Mathlib.Nat.{one-mul, mod-eq-of-lt, add-zero}
-use borrow.Author.Tests.{eqb-true, eqb-false}
+use borrow.Author.Tests.{eqb-true, eqb-false, eq-eqb, ne-eqb}
 use Rattle.judge.specs.Marks.{Token, Lifted, Is, Adds, Confined, Ored, Decides}
 use Rattle.term.specs.Term.{Has}
 use Rattle.term.proofs.Bits.{or-has, has-or-l, has-or-r, zero-has, pow-has, has-pow}
@@ -141,6 +142,33 @@ module _ (x from y : List ℕ) (t q : ℕ) where
               let m : k % 64 ≡ l .low % 64 = omega arith in
               rw (i, m) (l .held .bit)
 
+-- ---- words that are 0
+
+pub or-none : (a b : ℕ) → bitOr a b ≡ 0 → (a ≡ 0) × (b ≡ 0)
+or-none a b e =
+    let l = and-le-l a b in
+    let r = and-le-r a b in
+    let s = or-add-and a b in
+    (omega arith, omega arith)
+
+xor-none : (a b : ℕ) → bitXor a b ≡ 0 → a ≡ b
+xor-none a b e =
+    let l = and-le-l a b in
+    let r = and-le-r a b in
+    let s = xor-add-and a b in
+    omega arith
+
+-- two tests in one
+pub tests-joined : (a b c : ℕ) → eqb (bitOr (bitXor a b) c) 0 ≡ (eqb a b && eqb c 0)
+tests-joined a b c = go (ℕ-discrete a b) (ℕ-discrete c 0)
+  where
+    go : Dec (a ≡ b) → Dec (c ≡ 0) → eqb (bitOr (bitXor a b) c) 0 ≡ (eqb a b && eqb c 0)
+    go (no e) d = ne-eqb _ 0 (λ z. e (xor-none a b (or-none (bitXor a b) c z .0))) ∙ rw (ne-eqb a b e)
+    go (yes e) (no f) = ne-eqb _ 0 (λ z. f (or-none (bitXor a b) c z .1)) ∙ rw (eq-eqb a b e, ne-eqb c 0 f)
+    go (yes e) (yes f) =
+        let z : bitOr (bitXor a b) c ≡ 0 = rw (e, f, xor-self b) in
+        eq-eqb _ 0 z ∙ rw (eq-eqb a b e, eq-eqb c 0 f)
+
 -- ---- no bit
 
 zeros : (n i : ℕ) → _≡_ {A = ℕ} (getD (replicate n 0) i 0) 0
@@ -150,13 +178,6 @@ zeros (suc n) (suc i) = zeros n i
 
 pub none-set : (n q k : ℕ) → Token (replicate n 0) q k → ⊥
 none-set n q k h = zero-has (same-bit (k % 64) (zeros n (4 * q + k / 64)) (h .bit))
-
-pub or-none : (a b : ℕ) → bitOr a b ≡ 0 → (a ≡ 0) × (b ≡ 0)
-or-none a b e =
-    let l = and-le-l a b in
-    let r = and-le-r a b in
-    let s = or-add-and a b in
-    (omega arith, omega arith)
 
 four : (rows : List ℕ) (at j : ℕ) → j < 4 → getD rows at 0 ≡ 0 → getD rows (at + 1) 0 ≡ 0 → getD rows (at + 2) 0 ≡ 0 → getD rows (at + 3) 0 ≡ 0 → getD rows (at + j) 0 ≡ 0
 four rows at zero lt a b c d = rw add-zero a

@@ -49,11 +49,12 @@ pub enum Judged {
     Refused(u8, usize),
 }
 
-// Whether a transition with these propositions reads the letter.
+// Whether a transition with these propositions reads the letter, by one test: those that must hold and do not, joined
+// with those that must not and do, are none.
 fn reads_letter(must: u8, must_not: u8, letter: u8) -> bool
     ensures { λ r. ⌜ r ≡ (eqb (bitOr must letter) letter && eqb (bitAnd «must_not» letter) 0) ⌝ }
 {
-    must | letter == letter && must_not & letter == 0
+    ((must | letter) ^ letter) | (must_not & letter) == 0
 }
 
 // n words from place a on, each joined with one of those from place b on.
