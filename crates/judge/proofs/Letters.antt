@@ -2,13 +2,16 @@
 use Prim.Native.Nat.{ℕ, zero, suc, _+_, _<_, _≤_}
 use mathlib.Core.Path.{_≡_, refl, sym, _∙_, subst}
 use mathlib.Core.List.{List}
+use mathlib.Core.Bool.{true, false}
 use mathlib.Core.Logic.{_⊎_, inl, inr}
 use native.Mathlib.Omega.{arith}
 use native.Mathlib.Numerals.{add-one}
+use native.Mathlib.Decide.{ℕ-discrete}
 use lib.ListN.{length, getD, replicate}
 use Rattle.automaton.specs.Automaton.{Automaton, Step, Accepts}
-use Rattle.judge.specs.Marks.{Token, Lifted, Is, Adds, Confined, Moved, moved, lifted, After}
+use Rattle.judge.specs.Marks.{Token, Lifted, Is, Adds, Confined, Moved, moved, lifted, After, Ran}
 use Rattle.judge.proofs.Rows.{none-set}
+use Rattle.judge.proofs.Decisions.{true-false, false-true}
 
 module _ (a : Automaton) (x : ℕ) where
   -- the transitions taken into empty rows, and what stands in an accepting state lifted
@@ -47,6 +50,10 @@ module _ (a : Automaton) (x : ℕ) where
   moved-inside target (moved p q k h s) = target p q s
   moved-inside target (lifted p q j lt h s acc) = target p q s
 
+  moved-low : {Held : (q k : ℕ) → Type 0} {q k : ℕ} → k < 128 → Moved a x Held q k → (p : ℕ) × Held p k
+  moved-low lt (moved p q k h s) = (p, h)
+  moved-low lt (lifted p q j lj h s acc) = absurd (omega arith)
+
   pub moved-map : {P Q : (q k : ℕ) → Type 0} → ((q k : ℕ) → P q k → Q q k) → {q k : ℕ} → Moved a x P q k → Moved a x Q q k
   moved-map f (moved p q k h s) = moved p q k (f p k h) s
   moved-map f (lifted p q j lt h s acc) = lifted p q j lt (f p j h) s acc
@@ -55,6 +62,19 @@ pub after-inside : (a : Automaton) (w : ℕ → ℕ) {n : ℕ} {Held : (q k : �
     → (i q k : ℕ) → After a w Held i q k → q < n
 after-inside a w target held zero q k h = held q k h
 after-inside a w target held (suc i) q k h = moved-inside a (w i) (λ p t s. target p (w i) t s) h
+
+-- where no run from an initial state is left, none will be
+lost-later : (a : Automaton) (w : ℕ → ℕ) (Held : (q k : ℕ) → Type 0) (i : ℕ) → ((q : ℕ) → After a w Held i q 96 → ⊥) → (d : ℕ) → i ≤ d → (q : ℕ) → After a w Held d q 96 → ⊥
+lost-later a w Held i lost zero le q h =
+    let e : i ≡ 0 = omega arith in
+    lost q (rw e h)
+lost-later a w Held i lost (suc d) le q h = go (ℕ-discrete i (suc d)) (λ l. lost-later a w Held i lost d l)
+  where
+    go : Dec (i ≡ suc d) → (i ≤ d → (q : ℕ) → After a w Held d q 96 → ⊥) → ⊥
+    go (yes e) before = lost q (rw e h)
+    go (no e) before =
+        let m : (p : ℕ) × After a w Held d p 96 = moved-low a (w d) (omega arith) h in
+        before (omega arith) (m .0) (m .1)
 
 -- a loop that has taken the first i letters of a word; `next` is what the last one left there
 pub record Running (a : Automaton) (n : ℕ) (word before after next : List ℕ) (i : ℕ) : Type 0 where
@@ -90,7 +110,17 @@ module _ (a : Automaton) (n : ℕ) (word before : List ℕ) where
     });
   }
 
-  pub run-ends : (y : List ℕ) {next : List ℕ} (i : ℕ) → length word ≤ i → Running a n word before y next i → Is y (After a (λ j. getD word j 0) (Token before) (length word))
+  pub run-ends : (y : List ℕ) {next : List ℕ} (i : ℕ) → length word ≤ i → Running a n word before y next i → Ran true y (After a (λ j. getD word j 0) (Token before) (length word))
   run-ends y i le inv =
       let e : i ≡ length word = omega (arith, inv .within) in
-      rw e at (inv .marks)
+      record { on = λ t. rw e at (inv .marks); lost = λ t. true-false t }
+
+  pub run-stops : ((p x q : ℕ) → Step a p x q → q < n) → Confined n before → (y : List ℕ) {next : List ℕ} (i : ℕ) → Running a n word before y next i → ((q : ℕ) × (q < n) × Token y q 96 → ⊥)
+      → Ran false y (After a (λ j. getD word j 0) (Token before) (length word))
+  run-stops target held y i inv none = record {
+    on = λ t. false-true t;
+    lost = λ t. lost-later a (λ j. getD word j 0) (Token before) i (λ q h. left q (inv .marks .all q 96 h)) (length word) (inv .within);
+  }
+    where
+      left : (q : ℕ) → Token y q 96 → ⊥
+      left q h = none (q, run-confined target held i inv q 96 h, h)

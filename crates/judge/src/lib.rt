@@ -16,7 +16,7 @@ ghost use Rattle.automaton.specs.Automaton.{AcceptingPass, Step, Accepts, In, r
 ghost use Rattle.image.specs.Reader.{numberAt};
 ghost use Rattle.formula.specs.Rule.{answer};
 ghost use Rattle.judge.specs.Judge.{judgeAnswer, lassoCheck, judgement, judgedBy, judged};
-ghost use Rattle.judge.specs.Marks.{lassoJudgeable, Token, Lifted, Is, Adds, Confined, Ored, Decides, machine, recordAt, recordsAt, Readable, Moved, After, Joined, Linked, Found};
+ghost use Rattle.judge.specs.Marks.{lassoJudgeable, Token, Lifted, Is, Adds, Confined, Ored, Decides, machine, recordAt, recordsAt, Readable, Moved, After, Ran, Joined, Linked, Found};
 
 // The numbers of document 01 by which a lasso is refused, and working bytes that are too few.
 pub const EMPTY_CYCLE: u8 = 8;
@@ -233,17 +233,37 @@ fn step(image: &[u8], n: usize, letter: u8, rows: &mut [u64], next: &mut [u64])
     lift(image, n, rows, next);
 }
 
-// The runs after all letters of a word.
-fn run(image: &[u8], n: usize, word: &[u8], rows: &mut [u64])
+// Whether a run from an initial state at letter 0 is left.
+fn some_started(rows: &[u64], n: usize) -> bool
+    requires { ⌜ (n ≤ 96) × (length (now rows) ≡ 384) ⌝ }
+    ensures { λ r. ⌜ Decides r ((q : ℕ) × (q < n) × Token (now (rows .entry)) q 96) ⌝ }
+{
+    let mut q = 0;
+    while q < n {
+        if has(rows, q, START) {
+            return true;
+        }
+        q += 1;
+    }
+    false
+}
+
+// The runs after all letters of a word. False at the first letter after which none from an initial state is left: then
+// none will be.
+fn run(image: &[u8], n: usize, word: &[u8], rows: &mut [u64]) -> bool
     requires { ⌜ Readable (now image) × (n ≡ numberAt (now image) 2) × (length (now rows) ≡ 384) × Confined n (now rows) ⌝ }
-    ensures { λ _. ⌜ Is (now (rows .exit)) (After (machine (now (image .entry))) (λ i. getD (now (word .entry)) i 0) (Token (now (rows .entry))) (length (now (word .entry)))) ⌝ }
+    ensures { λ r. ⌜ Ran r (now (rows .exit)) (After (machine (now (image .entry))) (λ i. getD (now (word .entry)) i 0) (Token (now (rows .entry))) (length (now (word .entry)))) ⌝ }
 {
     let mut next = [0u64; ROWS];
     let mut i = 0;
     while i < word.len() {
         step(image, n, word[i], rows, &mut next);
+        if !some_started(rows, n) {
+            return false;
+        }
         i += 1;
     }
+    true
 }
 
 // A run begins in each initial state.
@@ -357,18 +377,40 @@ fn found(rows: &[u64], n: usize) -> bool
     false
 }
 
+// Whether some state accepts.
+fn some_accepting(image: &[u8], n: usize) -> bool
+    requires { ⌜ Readable (now image) × (n ≡ numberAt (now image) 2) ⌝ }
+    ensures { λ r. ⌜ Decides r ((q : ℕ) × (q < n) × (getD (now (image .entry)) (20 + 4 * q) 0 ≡ 1)) ⌝ }
+{
+    let mut q = 0;
+    while q < n {
+        if image[ACCEPTING_AT + 4 * q] == 1 {
+            return true;
+        }
+        q += 1;
+    }
+    false
+}
+
 // Whether the automaton of an image that is not refused has an accepting pass on the lasso.
 fn search(image: &[u8], n: usize, stem: &[u8], cycle: &[u8]) -> bool
     requires { ⌜ Readable (now image) × (n ≡ numberAt (now image) 2) ⌝ }
     ensures { λ r. ⌜ Decides r (AcceptingPass (machine (now (image .entry))) (now (stem .entry)) (now (cycle .entry))) ⌝ }
 {
+    if !some_accepting(image, n) {
+        return false;
+    }
     let mut rows = [0u64; ROWS];
     mark_initial(image, &mut rows);
-    run(image, n, stem, &mut rows);
+    if !run(image, n, stem, &mut rows) {
+        return false;
+    }
     mark_states(n, &mut rows);
     let begin = rows;
     lift(image, n, &mut rows, &begin);
-    run(image, n, cycle, &mut rows);
+    if !run(image, n, cycle, &mut rows) {
+        return false;
+    }
     close(&mut rows, n);
     found(&rows, n)
 }
