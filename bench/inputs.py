@@ -7,7 +7,7 @@ import sys
 sys.path.insert(0, os.path.join(os.path.dirname(os.path.abspath(__file__)), "..", "tests"))
 import lassos  # noqa: E402
 import rules  # noqa: E402
-from rules import AND, FALSE, NEGATION, PROPOSITION, RELEASE, TRUE, UNTIL, Builder, second  # noqa: E402
+from rules import AND, FALSE, NEGATION, OR, PROPOSITION, RELEASE, TRUE, UNTIL, Builder, second  # noqa: E402
 
 
 def theta(n):
@@ -36,15 +36,35 @@ def phi(n):
     return b.bytes(), f"!{text}"
 
 
+def fairness(n):
+    """always eventually p0 and .. and always eventually p(n-1)."""
+    b = Builder()
+    true, false = b.add(TRUE), b.add(FALSE)
+    b.joined(AND, [b.add(RELEASE, false, b.add(UNTIL, true, b.add(PROPOSITION, i))) for i in range(n)])
+    return b.bytes()
+
+
+def responses(n):
+    """always (p0 implies eventually p1) and .. of n pairs of propositions."""
+    b = Builder()
+    true, false = b.add(TRUE), b.add(FALSE)
+    b.joined(AND, [b.add(RELEASE, false, b.add(OR, b.add(NEGATION, 2 * i), b.add(UNTIL, true, b.add(PROPOSITION, 2 * i + 1))))
+                   for i in range(n)])
+    return b.bytes()
+
+
+# rules that no letters keep or break: their runs never end, and none comes to rest
+UNDECIDED = [fairness(n) for n in (1, 2, 3, 4)] + [responses(n) for n in (1, 2, 3)]
+
 FORMULAS = [(f"theta_{n}", *theta(n)) for n in (1, 2, 3)] + [(f"phi_{n}", *phi(n)) for n in (2, 3, 4, 5)]
 
 
 def full_image(states=96, row=128):
-    """An automaton with as many transitions as fit, of which most letters take about half; never accepting, so that
-    nothing is decided early."""
+    """An automaton with as many transitions as fit, of which most letters take about half; one state accepts, so that
+    every letter is read."""
     rng = random.Random(states * 1000 + row)
-    rows = [(False, [(rng.choice((0, 0, 1, 2)), rng.choice((0, 4)), rng.randrange(states)) for _ in range(row)])
-            for _ in range(states)]
+    rows = [(q == states - 1, [(rng.choice((0, 0, 1, 2)), rng.choice((0, 4)), rng.randrange(states)) for _ in range(row)])
+            for q in range(states)]
     return second.write(second.Watcher(rows, [0]))
 
 
@@ -89,6 +109,9 @@ def groups():
          plans((image, lassos.letters(letters, 4), lassos.letters(letters, 8)) for image in images)),
         ("judge: 200 random images, 128 slots",
          plans((image, lassos.letters(letters, 64), lassos.letters(letters, 64)) for image in images)),
+        ("judge: 7 undecided rules on 20 plans of 128 slots each",
+         plans((image, lassos.letters(letters, 64), lassos.letters(letters, 64))
+               for image in map(second.write, map(second.translate, UNDECIDED)) for _ in range(20))),
         ("judge: a full image, 128 slots", plans([(full, b"", lassos.letters(letters, 128))])),
     ]
 

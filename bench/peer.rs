@@ -262,33 +262,46 @@ fn lift(a: &Automaton, rows: &mut [Runs]) {
     }
 }
 
-fn run(a: &Automaton, word: &[u8], rows: &mut Vec<Runs>) {
+/// The runs after the word, or false once none from an initial state is left.
+fn run(a: &Automaton, word: &[u8], rows: &mut Vec<Runs>) -> bool {
+    let mut next = vec![Runs::default(); rows.len()];
     for &letter in word {
-        let mut next = vec![Runs::default(); rows.len()];
-        for (row, state) in rows.iter().zip(&a.states) {
+        next.fill(Runs::default());
+        for (row, state) in rows.iter().zip(&a.states).filter(|(row, _)| row.all != 0) {
             for &(must, must_not, t) in &state.transitions {
-                if letter & must == must && letter & must_not == 0 {
+                if must & !letter | must_not & letter == 0 {
                     next[t as usize].join(*row);
                 }
             }
         }
         lift(a, &mut next);
-        *rows = next;
+        std::mem::swap(rows, &mut next);
+        if !rows.iter().any(|row| has(row.all, START)) {
+            return false;
+        }
     }
+    true
 }
 
 /// Some state at the beginning of a pass comes back to itself through an accepting state.
 pub fn judge(a: &Automaton, stem: &[u8], cycle: &[u8]) -> bool {
+    if !a.states.iter().any(|state| state.accepting) {
+        return false;
+    }
     let mut rows = vec![Runs::default(); a.states.len()];
     for &i in &a.initial {
         rows[i as usize].all |= 1 << START;
     }
-    run(a, stem, &mut rows);
+    if !run(a, stem, &mut rows) {
+        return false;
+    }
     for (q, row) in rows.iter_mut().enumerate() {
         row.all |= 1 << q;
     }
     lift(a, &mut rows);
-    run(a, cycle, &mut rows);
+    if !run(a, cycle, &mut rows) {
+        return false;
+    }
     for m in 0..rows.len() {
         let mut via = rows[m];
         if has(via.met, m) {

@@ -20,9 +20,15 @@ module _ {r : Bool} {P : Type 0} (d : Decides r P) where
   pub decided-so : not r ≡ false → P
   decided-so e = d .yes (not-false r e)
 
+pub holds-not : {P : Type 0} → (P → ⊥) → Decides false P
+holds-not np = record { yes = λ e. false-true e; no = λ e h. np h }
+
+pub holds-so : {P : Type 0} → P → Decides true P
+holds-so p = record { yes = λ e. p; no = λ e h. true-false e }
+
 -- the second test is made only if the first holds
 pub both-not : {P Q : Type 0} → (P → ⊥) → Decides false (P × Q)
-both-not np = record { yes = λ e. false-true e; no = λ e h. np (h .0) }
+both-not np = holds-not (λ h. np (h .0))
 
 pub both-so : {s : Bool} {P Q : Type 0} → P → Decides s Q → Decides s (P × Q)
 both-so p d = record { yes = λ e. (p, d .yes e); no = λ e h. d .no e (h .1) }
@@ -40,7 +46,7 @@ module _ (n : ℕ) (P : ℕ → Type 0) where
   miss-steps i lt inv d e = record { within = omega arith; none = below-more _ i (inv .none) (d .no e) }
 
   pub miss-finds : {r : Bool} (i : ℕ) → i < n → Decides r (P i) → r ≡ true → Decides true ((q : ℕ) × (q < n) × P q)
-  miss-finds i lt d e = record { yes = λ f. (i, lt, d .yes e); no = λ f h. true-false f }
+  miss-finds i lt d e = holds-so (i, lt, d .yes e)
 
   pub miss-ends : (i : ℕ) → n ≤ i → Missing n P i → Decides false ((q : ℕ) × (q < n) × P q)
-  miss-ends i le inv = record { yes = λ f. false-true f; no = λ f h. inv .none (h .0) (omega (arith, h .1)) (h .2) }
+  miss-ends i le inv = holds-not (λ h. inv .none (h .0) (omega (arith, h .1)) (h .2))

@@ -1,10 +1,10 @@
 -- What the proofs of several functions cite, and why the search is right.
 pub mod Rows
+pub mod Decisions
 pub mod Gathers
 pub mod Turns
 pub mod Letters
 pub mod Closure
-pub mod Decisions
 pub mod Runs
 pub mod Marking
 pub mod Passes

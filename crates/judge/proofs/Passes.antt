@@ -365,6 +365,13 @@ module _ (a : Automaton) (n : ℕ) (stem cycle : List ℕ) where
               (one _ _ (met-passed (state (suc (pass .first + d))) (state-inside (suc (pass .first + d)) (omega arith)) (pass-met (suc (pass .first + d)) i (omega arith) (omega arith) (subst (λ (e : ℕ). i ≤ place (suc e)) (sym z) hi) acc))) (back d (omega arith)))
           go (no l) below = subst (λ (e : ℕ). Linked n Passed (state (suc e)) (128 + state (pass .first))) z (through (suc (pass .first + d)) (128 + state (pass .first)) (omega arith) (below (omega arith)))
 
+      -- its run shows after the stem, and after the first pass
+      pub pass-stemmed : (q : ℕ) × Stemmed q 96
+      pass-stemmed = (state 0, run-marks a inStem Initial (length stem) (pass .begins, refl) stem-run)
+
+      pub pass-passed : (q : ℕ) × Passed q 96
+      pass-passed = (state 1, start-passed (pass .at 0) (pass .begins) stem-run (pass-run 0 (omega (arith, pass .later))))
+
       pub pass-found : (q : ℕ) × (q < n) × (Linked n Passed q 96 × Linked n Passed q (128 + q))
       pass-found = made (pass .accepts)
         where

@@ -1,18 +1,19 @@
 -- What joining words, setting a bit and looking at one say of the bits of rows.
 use Prim.Native.Nat.{ℕ, zero, suc, _+_, _-_, _*_, _/_, _%_, _^_, _<_, _≤_}
 use mathlib.Core.Path.{_≡_, refl, sym, _∙_, ap, subst}
-use mathlib.Core.List.{List}
+use mathlib.Core.List.{List, _++_}
+use mathlib.Core.Bool.{_&&_}
 use mathlib.Core.Logic.{_⊎_, inl, inr}
 use native.Mathlib.Omega.{arith}
 use native.Mathlib.Decide.{ℕ-discrete, decLt}
-use lib.ListN.{length, getD, set, replicate, length-set}
-use lib.Seq.{getD-set-same, getD-set-other}
-use lib.Bits.{bitAnd, bitOr, and-mask}
+use lib.ListN.{length, getD, set, replicate, take, drop, length-set, length-replicate, List·getD-append}
+use lib.Seq.{getD-set-same, getD-set-other, getD-append-add, getD-take, getD-drop, length-take-le}
+use lib.Bits.{bitAnd, bitOr, bitXor, and-mask, and-le-l, and-le-r, or-add-and, xor-add-and, xor-self}
 use lib.Dec.{eqb}
 use lib.Pow.{pow-lt}
-use native.Mathlib.Nat.{one-mul, mod-eq-of-lt}
-use borrow.Author.Tests.{eqb-true, eqb-false}
-use Rattle.judge.specs.Marks.{Token, Lifted, Adds, Ored, Decides}
+use native.Mathlib.Nat.{one-mul, mod-eq-of-lt, add-zero}
+use borrow.Author.Tests.{eqb-true, eqb-false, eq-eqb, ne-eqb}
+use Rattle.judge.specs.Marks.{Token, Lifted, Is, Adds, Confined, Ored, Decides}
 use Rattle.sets.specs.Bits.{Has}
 use Rattle.sets.proofs.Bits.{or-has, has-or-l, has-or-r, zero-has, pow-has, has-pow}
 
@@ -141,6 +142,33 @@ module _ (x from y : List ℕ) (t q : ℕ) where
               let m : k % 64 ≡ l .low % 64 = omega arith in
               rw (i, m) (l .held .bit)
 
+-- ---- words that are 0
+
+pub or-none : (a b : ℕ) → bitOr a b ≡ 0 → (a ≡ 0) × (b ≡ 0)
+or-none a b e =
+    let l = and-le-l a b in
+    let r = and-le-r a b in
+    let s = or-add-and a b in
+    (omega arith, omega arith)
+
+xor-none : (a b : ℕ) → bitXor a b ≡ 0 → a ≡ b
+xor-none a b e =
+    let l = and-le-l a b in
+    let r = and-le-r a b in
+    let s = xor-add-and a b in
+    omega arith
+
+-- two tests in one
+pub tests-joined : (a b c : ℕ) → eqb (bitOr (bitXor a b) c) 0 ≡ (eqb a b && eqb c 0)
+tests-joined a b c = go (ℕ-discrete a b) (ℕ-discrete c 0)
+  where
+    go : Dec (a ≡ b) → Dec (c ≡ 0) → eqb (bitOr (bitXor a b) c) 0 ≡ (eqb a b && eqb c 0)
+    go (no e) d = ne-eqb _ 0 (λ z. e (xor-none a b (or-none (bitXor a b) c z .0))) ∙ rw (ne-eqb a b e)
+    go (yes e) (no f) = ne-eqb _ 0 (λ z. f (or-none (bitXor a b) c z .1)) ∙ rw (eq-eqb a b e, ne-eqb c 0 f)
+    go (yes e) (yes f) =
+        let z : bitOr (bitXor a b) c ≡ 0 = rw (e, f, xor-self b) in
+        eq-eqb _ 0 z ∙ rw (eq-eqb a b e, eq-eqb c 0 f)
+
 -- ---- no bit
 
 zeros : (n i : ℕ) → _≡_ {A = ℕ} (getD (replicate n 0) i 0) 0
@@ -150,6 +178,68 @@ zeros (suc n) (suc i) = zeros n i
 
 pub none-set : (n q k : ℕ) → Token (replicate n 0) q k → ⊥
 none-set n q k h = zero-has (same-bit (k % 64) (zeros n (4 * q + k / 64)) (h .bit))
+
+four : (rows : List ℕ) (at j : ℕ) → j < 4 → getD rows at 0 ≡ 0 → getD rows (at + 1) 0 ≡ 0 → getD rows (at + 2) 0 ≡ 0 → getD rows (at + 3) 0 ≡ 0 → getD rows (at + j) 0 ≡ 0
+four rows at zero lt a b c d = rw add-zero a
+four rows at (suc zero) lt a b c d = b
+four rows at (suc (suc zero)) lt a b c d = c
+four rows at (suc (suc (suc zero))) lt a b c d = d
+four rows at (suc (suc (suc (suc j)))) lt a b c d = absurd (omega arith)
+
+-- the four words of a row joined are 0, as the code looks at them
+pub row-none : (rows : List ℕ) (q : ℕ) → bitOr (bitOr (bitOr (getD rows (4 * q) 0) (getD rows (4 * q + 1) 0)) (getD rows (4 * q + 2) 0)) (getD rows (4 * q + 3) 0) ≡ 0
+    → (k : ℕ) → Token rows q k → ⊥
+row-none rows q e k h =
+    let f = or-none _ (getD rows (4 * q + 3) 0) e in
+    let g = or-none _ (getD rows (4 * q + 2) 0) (f .0) in
+    let w = or-none (getD rows (4 * q) 0) (getD rows (4 * q + 1) 0) (g .0) in
+    zero-has (same-bit (k % 64) (four rows (4 * q) (k / 64) (omega (arith, h .within)) (w .0) (w .1) (g .1) (f .1)) (h .bit))
+
+-- ---- the first rows stored
+
+-- what stands in front, and what was behind it before
+module _ (m : ℕ) (new old : List ℕ) (size : length new ≡ m) where
+  front : (i : ℕ) → i < m → getD (new ++ drop m old) i 0 ≡ getD new i 0
+  front i lt = List·getD-append new (drop m old) 0 i (omega arith)
+
+  behind : (i : ℕ) → m ≤ i → getD (new ++ drop m old) i 0 ≡ getD old i 0
+  behind i le =
+      let e : i ≡ length new + (i - m) = omega arith in
+      let f : m + (i - m) ≡ i = omega arith in
+      ap (λ (j : ℕ). getD (new ++ drop m old) j 0) e ∙ getD-append-add new (drop m old) (i - m) 0 ∙ getD-drop m old (i - m) 0 ∙ ap (λ (j : ℕ). getD old j 0) f
+
+module _ (n : ℕ) (old : List ℕ) (confined : Confined n old) where
+  -- where nothing stood behind them, the bits are those of the rows stored
+  stored : (new : List ℕ) → length new ≡ 4 * n → Is (new ++ drop (4 * n) old) (λ q k. (q < n) × Token new q k)
+  stored new size = record { only = λ q k h. only q k h (decLt q n); all = λ q k h. all q k (h .0) (h .1) }
+    where
+      only : (q k : ℕ) → Token (new ++ drop (4 * n) old) q k → Dec (q < n) → (q < n) × Token new q k
+      only q k h (yes lt) = (lt, record { within = h .within; bit = same-bit (k % 64) (front (4 * n) new old size (4 * q + k / 64) (omega (arith, h .within))) (h .bit) })
+      only q k h (no ge) = absurd (ge (confined q k (record { within = h .within; bit = same-bit (k % 64) (behind (4 * n) new old size (4 * q + k / 64) (omega arith)) (h .bit) })))
+
+      all : (q k : ℕ) → q < n → Token new q k → Token (new ++ drop (4 * n) old) q k
+      all q k lt h = record { within = h .within; bit = same-bit (k % 64) (sym (front (4 * n) new old size (4 * q + k / 64) (omega (arith, h .within)))) (h .bit) }
+
+  pub cleared : {rows : List ℕ} → rows ≡ replicate (4 * n) 0 ++ drop (4 * n) old → (q k : ℕ) → Token rows q k → ⊥
+  cleared {rows} e q k h = none-set (4 * n) q k (stored (replicate (4 * n) 0) (length-replicate (4 * n) 0) .only q k (subst (λ (r : List ℕ). Token r q k) e h) .1)
+
+  pub copied : {rows : List ℕ} (from : List ℕ) → 4 * n ≤ length from → Confined n from → rows ≡ take (4 * n) from ++ drop (4 * n) old → Is rows (Token from)
+  copied {rows} from fits within e = record {
+    only = λ q k h. only q k (is .only q k (subst (λ (r : List ℕ). Token r q k) e h));
+    all = λ q k h. subst (λ (r : List ℕ). Token r q k) (sym e) (is .all q k (all q k (within q k h) h));
+  }
+    where
+      is : Is (take (4 * n) from ++ drop (4 * n) old) (λ q k. (q < n) × Token (take (4 * n) from) q k)
+      is = stored (take (4 * n) from) (length-take-le (4 * n) from fits)
+
+      word : (q k : ℕ) → q < n → k < 256 → getD (take (4 * n) from) (4 * q + k / 64) 0 ≡ getD from (4 * q + k / 64) 0
+      word q k lt w = getD-take (4 * n) from (4 * q + k / 64) 0 (omega arith)
+
+      only : (q k : ℕ) → (q < n) × Token (take (4 * n) from) q k → Token from q k
+      only q k (lt, h) = record { within = h .within; bit = same-bit (k % 64) (word q k lt (h .within)) (h .bit) }
+
+      all : (q k : ℕ) → q < n → Token from q k → (q < n) × Token (take (4 * n) from) q k
+      all q k lt h = (lt, record { within = h .within; bit = same-bit (k % 64) (sym (word q k lt (h .within))) (h .bit) })
 
 -- ---- one bit
 

@@ -1,12 +1,11 @@
 -- What each turn of the loops over records and states adds, and what the loops add together.
 use Prim.Native.Nat.{ℕ, _+_, _*_, _<_, _≤_}
 use mathlib.Core.Path.{_≡_, refl, sym, _∙_}
-use mathlib.Core.List.{List, _++_, append-nil}
+use mathlib.Core.List.{List}
 use mathlib.Core.Bool.{Bool, true, false, not}
 use native.Mathlib.Omega.{arith}
 use native.Mathlib.Numerals.{add-one}
-use lib.ListN.{length, getD, take, drop}
-use lib.Seq.{drop-length, take-all}
+use lib.ListN.{length, getD, drop}
 use borrow.Author.Tests.{not-true, not-false}
 use Rattle.sets.specs.Sets.{In}
 use Rattle.automaton.specs.Automaton.{reads, Step, Accepts}
@@ -120,8 +119,3 @@ all-states n adds = adds-as adds to from
 
     from : (q k : ℕ) → (q < n) × (k ≡ q) → (p : ℕ) × (p < n) × ((q ≡ p) × (k ≡ p))
     from q k (lt, e) = (q, lt, (refl, e))
-
--- ---- words copied
-
-pub all-copied : (x from : List ℕ) {y : List ℕ} → length x ≡ length from → y ≡ take (length x) from ++ drop (length x) x → y ≡ from
-all-copied x from e copied = copied ∙ rw (drop-length, append-nil, take-all (length x) from (omega arith))

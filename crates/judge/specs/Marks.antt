@@ -37,6 +37,10 @@ pub record Is (rows : List ℕ) (Held : (q k : ℕ) → Type 0) : Type 0 where
 abbrev pub Adds : (before after : List ℕ) (New : (q k : ℕ) → Type 0) → Type 0
 Adds before after New = Is after (λ q k. Token before q k ⊎ New q k)
 
+-- no row behind the first n has a bit: with n states no others are read, cleared or copied
+abbrev pub Confined : (n : ℕ) (rows : List ℕ) → Type 0
+Confined n rows = (q k : ℕ) → Token rows q k → q < n
+
 -- n words from place a on have been joined with those of another list from place b on
 pub record Ored (before : List ℕ) (a : ℕ) (from : List ℕ) (b n : ℕ) (after : List ℕ) : Type 0 where
   pub inside : (i : ℕ) → i < n → getD after (a + i) 0 ≡ bitOr (getD before (a + i) 0) (getD from (b + i) 0)
@@ -62,6 +66,11 @@ pub data Moved (a : Automaton) (x : ℕ) (Held : (q k : ℕ) → Type 0) : (q k 
 abbrev pub After : (a : Automaton) (w : ℕ → ℕ) (Held : (q k : ℕ) → Type 0) (i q k : ℕ) → Type 0
 After a w Held zero q k = Held q k
 After a w Held (suc i) q k = Moved a (w i) (After a w Held i) q k
+
+-- the rows hold this, or it has no run from an initial state
+pub record Ran (r : Bool) (rows : List ℕ) (Held : (q k : ℕ) → Type 0) : Type 0 where
+  pub on : r ≡ true → Is rows Held
+  pub lost : r ≡ false → (q : ℕ) → Held q 96 → ⊥
 
 -- runs of which one leads to state m and one on from there to q; `round` goes from m to m in between
 pub data Joined (Held : (q k : ℕ) → Type 0) (m q k : ℕ) : Type 0 where

@@ -10,14 +10,15 @@ ghost use mathlib.Core.Path.{_≡_};
 ghost use mathlib.Core.Bool.{true, _&&_};
 ghost use mathlib.Core.Logic.{_⊎_};
 ghost use Prim.Native.Nat.{ℕ, _+_, _*_, _<_, _≤_};
-ghost use lib.ListN.{length, getD};
+ghost use mathlib.Core.List.{_++_};
+ghost use lib.ListN.{length, getD, replicate, take, drop};
 ghost use lib.Dec.{eqb};
 ghost use lib.Bits.{bitOr, bitAnd};
 ghost use Rattle.automaton.specs.Automaton.{AcceptingPass, Step, Accepts, reads};
 ghost use Rattle.sets.specs.Sets.{In};
 ghost use Rattle.answer.specs.Bytes.{numberAt};
 ghost use Rattle.judge.specs.Judge.{judgeAnswer, judgement, judgedBy, judged};
-ghost use Rattle.judge.specs.Marks.{lassoJudgeable, Token, Lifted, Is, Adds, Ored, Decides, Moved, After, Joined, Linked, Found};
+ghost use Rattle.judge.specs.Marks.{lassoJudgeable, Token, Lifted, Is, Adds, Ored, Decides, Moved, After, Joined, Linked, Found, Confined, Ran};
 ghost use Rattle.image.specs.Lookup.{machine, recordAt, recordsAt, Readable};
 
 // The number of document 01 for working bytes that are too few, and how many judging asks for.
@@ -44,11 +45,12 @@ pub enum Judged {
     Refused(u8, usize),
 }
 
-// Whether a transition with these propositions reads the letter.
+// Whether a transition with these propositions reads the letter, by one test: those that must hold and do not, joined
+// with those that must not and do, are none.
 fn reads_letter(must: u8, must_not: u8, letter: u8) -> bool
     ensures { λ r. ⌜ r ≡ (eqb (bitOr must letter) letter && eqb (bitAnd «must_not» letter) 0) ⌝ }
 {
-    must | letter == letter && must_not & letter == 0
+    ((must | letter) ^ letter) | (must_not & letter) == 0
 }
 
 // n words from place a on, each joined with one of those from place b on.
@@ -87,6 +89,15 @@ fn has(rows: &[u64], q: usize, k: usize) -> bool
     (rows[4 * q + k / 64] >> (k % 64)) & 1 == 1
 }
 
+// Whether row q has no bit. Callers rest on a yes alone.
+fn row_empty(rows: &[u64], q: usize) -> bool
+    requires { ⌜ 4 * q + 4 ≤ length (now rows) ⌝ }
+    ensures { λ r. ⌜ (r ≡ true → (k : ℕ) → Token (now (rows .entry)) q k → ⊥) ⌝ }
+{
+    let at = 4 * q;
+    rows[at] | rows[at + 1] | rows[at + 2] | rows[at + 3] == 0
+}
+
 // Bit k of row q set.
 fn mark(rows: &mut [u64], q: usize, k: usize)
     requires { ⌜ (4 * q + 4 ≤ length (now rows)) × (k < 256) ⌝ }
@@ -106,8 +117,27 @@ fn take_transition(image: &[u8], at: usize, letter: u8, rows: &[u64], q: usize, 
     or_row(next, number_at(image, at + 2), rows, q);
 }
 
-// The runs of row q after the letter, by all transitions of state q, whose records begin at byte `at`; where the
-// next state's begin.
+// The runs of row q after the letter, by the transitions of state q, whose `count` records begin at byte `at`.
+fn take_transitions(
+    image: &[u8],
+    q: usize,
+    at: usize,
+    count: usize,
+    letter: u8,
+    rows: &[u64],
+    next: &mut [u64],
+)
+    requires { ⌜ Readable (now image) × (q < numberAt (now image) 2) × (at ≡ recordsAt (now image) q) × (count ≡ numberAt (now image) (18 + 4 * q)) × (length (now rows) ≡ 384) × (length (now next) ≡ 384) ⌝ }
+    ensures { λ _. ⌜ Adds (now (next .entry)) (now (next .exit)) (λ t k. Step (machine (now (image .entry))) q letter t × Token (now (rows .entry)) q k) ⌝ }
+{
+    let mut i = 0;
+    while i < count {
+        take_transition(image, at + 4 * i, letter, rows, q, next);
+        i += 1;
+    }
+}
+
+// The same, with the transitions passed over if row q is empty; where the records of the next state begin.
 fn step_state(
     image: &[u8],
     q: usize,
@@ -120,12 +150,12 @@ fn step_state(
     ensures { λ r. ⌜ (r ≡ recordsAt (now (image .entry)) (q + 1)) × Adds (now (next .entry)) (now (next .exit)) (λ t k. Step (machine (now (image .entry))) q letter t × Token (now (rows .entry)) q k) ⌝ }
 {
     let count = number_at(image, CONTENTS_BYTES + 4 * q);
-    let mut i = 0;
-    while i < count {
-        take_transition(image, at + 4 * i, letter, rows, q, next);
-        i += 1;
+    let end = at + 4 * count;
+    if row_empty(rows, q) {
+        return end;
     }
-    at + 4 * count
+    take_transitions(image, q, at, count, letter, rows, next);
+    end
 }
 
 // The runs of all rows after the letter.
@@ -164,39 +194,72 @@ fn lift(image: &[u8], n: usize, rows: &mut [u64], from: &[u64])
     }
 }
 
-// All words of `from`.
-fn copy(rows: &mut [u64], from: &[u64])
-    requires { ⌜ length (now rows) ≡ length (now from) ⌝ }
-    ensures { λ _. ⌜ now (rows .exit) ≡ now (from .entry) ⌝ }
+// The first n words 0.
+fn clear(rows: &mut [u64], n: usize)
+    requires { ⌜ n ≤ length (now rows) ⌝ }
+    ensures { λ _. ⌜ now (rows .exit) ≡ replicate n 0 ++ drop n (now (rows .entry)) ⌝ }
 {
     let mut i = 0;
-    while i < rows.len() {
+    while i < n {
+        rows[i] = 0;
+        i += 1;
+    }
+}
+
+// The first n words those of `from`.
+fn copy(rows: &mut [u64], from: &[u64], n: usize)
+    requires { ⌜ (n ≤ length (now rows)) × (n ≤ length (now from)) ⌝ }
+    ensures { λ _. ⌜ now (rows .exit) ≡ take n (now (from .entry)) ++ drop n (now (rows .entry)) ⌝ }
+{
+    let mut i = 0;
+    while i < n {
         rows[i] = from[i];
         i += 1;
     }
 }
 
-// The runs after one letter.
-fn step(image: &[u8], n: usize, letter: u8, rows: &mut [u64])
-    requires { ⌜ Readable (now image) × (n ≡ numberAt (now image) 2) × (length (now rows) ≡ 384) ⌝ }
-    ensures { λ _. ⌜ Is (now (rows .exit)) (Moved (machine (now (image .entry))) letter (Token (now (rows .entry)))) ⌝ }
+// The runs after one letter. In `next` are those that have taken a transition; what it held does not count.
+fn step(image: &[u8], n: usize, letter: u8, rows: &mut [u64], next: &mut [u64])
+    requires { ⌜ Readable (now image) × (n ≡ numberAt (now image) 2) × (length (now rows) ≡ 384) × (length (now next) ≡ 384) × Confined n (now rows) × Confined n (now next) ⌝ }
+    ensures { λ _. ⌜ Is (now (rows .exit)) (Moved (machine (now (image .entry))) letter (Token (now (rows .entry)))) × Confined n (now (next .exit)) ⌝ }
 {
-    let mut next = [0u64; ROWS];
-    step_states(image, n, letter, rows, &mut next);
-    copy(rows, &next);
-    lift(image, n, rows, &next);
+    clear(next, 4 * n);
+    step_states(image, n, letter, rows, next);
+    copy(rows, next, 4 * n);
+    lift(image, n, rows, next);
 }
 
-// The runs after all letters of a word.
-fn run(image: &[u8], n: usize, word: &[u8], rows: &mut [u64])
-    requires { ⌜ Readable (now image) × (n ≡ numberAt (now image) 2) × (length (now rows) ≡ 384) ⌝ }
-    ensures { λ _. ⌜ Is (now (rows .exit)) (After (machine (now (image .entry))) (λ i. getD (now (word .entry)) i 0) (Token (now (rows .entry))) (length (now (word .entry)))) ⌝ }
+// Whether a run from an initial state at letter 0 is left.
+fn some_started(rows: &[u64], n: usize) -> bool
+    requires { ⌜ (n ≤ 96) × (length (now rows) ≡ 384) ⌝ }
+    ensures { λ r. ⌜ Decides r ((q : ℕ) × (q < n) × Token (now (rows .entry)) q 96) ⌝ }
 {
+    let mut q = 0;
+    while q < n {
+        if has(rows, q, START) {
+            return true;
+        }
+        q += 1;
+    }
+    false
+}
+
+// The runs after all letters of a word. False at the first letter after which none from an initial state is left: then
+// none will be.
+fn run(image: &[u8], n: usize, word: &[u8], rows: &mut [u64]) -> bool
+    requires { ⌜ Readable (now image) × (n ≡ numberAt (now image) 2) × (length (now rows) ≡ 384) × Confined n (now rows) ⌝ }
+    ensures { λ r. ⌜ Ran r (now (rows .exit)) (After (machine (now (image .entry))) (λ i. getD (now (word .entry)) i 0) (Token (now (rows .entry))) (length (now (word .entry)))) ⌝ }
+{
+    let mut next = [0u64; ROWS];
     let mut i = 0;
     while i < word.len() {
-        step(image, n, word[i], rows);
+        step(image, n, word[i], rows, &mut next);
+        if !some_started(rows, n) {
+            return false;
+        }
         i += 1;
     }
+    true
 }
 
 // A run begins in each initial state.
@@ -310,18 +373,40 @@ fn found(rows: &[u64], n: usize) -> bool
     false
 }
 
+// Whether some state accepts.
+fn some_accepting(image: &[u8], n: usize) -> bool
+    requires { ⌜ Readable (now image) × (n ≡ numberAt (now image) 2) ⌝ }
+    ensures { λ r. ⌜ Decides r ((q : ℕ) × (q < n) × (getD (now (image .entry)) (20 + 4 * q) 0 ≡ 1)) ⌝ }
+{
+    let mut q = 0;
+    while q < n {
+        if image[ACCEPTING_AT + 4 * q] == 1 {
+            return true;
+        }
+        q += 1;
+    }
+    false
+}
+
 // Whether the automaton of an image that is not refused has an accepting pass on the lasso.
 fn search(image: &[u8], n: usize, stem: &[u8], cycle: &[u8]) -> bool
     requires { ⌜ Readable (now image) × (n ≡ numberAt (now image) 2) ⌝ }
     ensures { λ r. ⌜ Decides r (AcceptingPass (machine (now (image .entry))) (now (stem .entry)) (now (cycle .entry))) ⌝ }
 {
+    if !some_accepting(image, n) {
+        return false;
+    }
     let mut rows = [0u64; ROWS];
     mark_initial(image, &mut rows);
-    run(image, n, stem, &mut rows);
+    if !run(image, n, stem, &mut rows) {
+        return false;
+    }
     mark_states(n, &mut rows);
     let begin = rows;
     lift(image, n, &mut rows, &begin);
-    run(image, n, cycle, &mut rows);
+    if !run(image, n, cycle, &mut rows) {
+        return false;
+    }
     close(&mut rows, n);
     found(&rows, n)
 }

@@ -3,17 +3,15 @@
 use borrow.Author.Needs.{needs}
 use native.Mathlib.Omega.{arith}
 use Prim.Native.Nat.{_-_}
-use lib.ListN.{length, length-set}
 use Rattle.answer.proofs.Storing.{Storing, store-begins, store-steps, store-ends}
-use Rattle.judge.proofs.Turns.{all-copied}
 use Rattle.judge.proofs.copy.Statement.{statement}
 use Rattle.judge.proofs.copy.Tie as tie
 
 abbrev Inv-loop : tie.InvT-loop
-Inv-loop rows₀ from i₀ rows i = Storing rows₀ from (length rows₀) rows i
+Inv-loop rows₀ from n i₀ rows i = Storing rows₀ from n rows i
 
 abbrev μ-loop : tie.MeasureT-loop
-μ-loop rows₀ from i₀ rows i = length rows - i
+μ-loop rows₀ from n i₀ rows i = n - i
 
 loop-holds : tie.Need-loop-holds Inv-loop μ-loop
 loop-holds c = store-begins _ _ _
@@ -34,7 +32,7 @@ add-i : tie.Need-add-i Inv-loop μ-loop
 add-i c = search needs
 
 loop-less : tie.Need-loop-less Inv-loop μ-loop
-loop-less c = simp length-set (omega arith)
+loop-less c = search needs
 
 loop-again : tie.Need-loop-again Inv-loop μ-loop
 loop-again c =
@@ -45,8 +43,7 @@ same-length : tie.Need-same-length Inv-loop μ-loop
 same-length c = c .before .loop .inv .size
 
 returns : tie.Need-returns Inv-loop μ-loop
-returns c =
-    all-copied (c .before .before .args .rows .now) _ (c .before .before .pre) (store-ends _ _ _ _ (c .before .loop .i) (omega (arith, c .before .loop .inv .size)) (c .before .loop .inv))
+returns c = store-ends _ _ _ _ (c .before .loop .i) (omega arith) (c .before .loop .inv)
 
 pub copy-spec : {M : Type 1} → statement M
 copy-spec =

@@ -1,14 +1,12 @@
--- `judge::reads_letter` meets its contract: the two tests of `reads`, in its order.
+-- `judge::reads_letter` meets its contract: the two tests of `reads` in one (`tests-joined`).
 -- Assumes nothing.
-use borrow.Author.Tests.{eq-eqb, ne-eqb}
+use lib.Bits.{bitAnd, bitOr}
+use Rattle.judge.proofs.Rows.{tests-joined}
 use Rattle.judge.proofs.reads_letter.Statement.{statement}
 use Rattle.judge.proofs.reads_letter.Tie as tie
 
 returns : tie.Need-returns
-returns c = rw (eq-eqb _ (c .before .args .letter) (c .if1 .taken))
-
-returns-2 : tie.Need-returns-2
-returns-2 c = rw (ne-eqb _ (c .before .args .letter) (c .if1 .left))
+returns c = tests-joined (bitOr (c .args .must) (c .args .letter)) (c .args .letter) (bitAnd (c .args .must-not) (c .args .letter))
 
 pub reads-letter-spec : {M : Type 1} → statement M
-reads-letter-spec = tie.close (tie.spec returns returns-2)
+reads-letter-spec = tie.close (tie.spec returns)

@@ -1,12 +1,36 @@
--- `judge::search` meets its contract: the rows are made one after another, and what the last ones hold is the verdict.
--- Assumes nothing.
-use native.Mathlib.Omega.{arith}
-use Rattle.image.specs.Lookup.{machine}
-use Rattle.image.proofs.Lookup.{step-target, initial-state}
-use Rattle.judge.proofs.Verdict.{verdict}
+-- `judge::search` meets its contract: the rows are made one after another, and what the last ones hold is the verdict;
+-- it ends early only where there is no accepting pass. Assumes nothing.
 use borrow.Author.Needs.{needs}
+use borrow.Author.Tests.{not-true, not-false}
+use native.Mathlib.Omega.{arith}
+use Prim.Native.Nat.{ℕ, _<_, _≤_}
+use Rattle.sets.specs.Sets.{In}
+use Rattle.automaton.specs.Automaton.{Step}
+use Rattle.image.specs.Lookup.{machine}
+use Rattle.judge.proofs.Decisions.{decided-not}
+use Rattle.image.proofs.Lookup.{step-target, initial-state, accepts-inside, accepts-byte}
+use Rattle.judge.proofs.Verdict.{starts-confined, begun-confined, never-accepts, lost-in-stem, lost-in-cycle, verdict}
 use Rattle.judge.proofs.search.Statement.{statement}
 use Rattle.judge.proofs.search.Tie as tie
+
+-- what is known of the n states
+few : (c : tie.Start) → c .args .n ≤ 96
+few c = omega (arith, c .pre .1, c .pre .0 .few)
+
+inside : (c : tie.Start) → (q x t : ℕ) → Step (machine (c .args .image .now)) q x t → t < c .args .n
+inside c q x t h = rw (c .pre .1) (step-target (c .args .image .now) (c .pre .0) q x t h)
+
+initial : (c : tie.Start) → (q : ℕ) → In q (machine (c .args .image .now) .initial) → q < c .args .n
+initial c q h = rw (c .pre .1) (initial-state (c .args .image .now) (c .pre .0) q h)
+
+some-accepting-requires : tie.Need-some-accepting-requires
+some-accepting-requires c κs = search needs
+
+returns : tie.Need-returns
+returns c =
+    let s = c .before .before .before .before .before in
+    let image = s .args .image .now in
+    never-accepts (machine image) _ _ (λ q h. decided-not (c .before .some-accepting .ensures) (c .if1 .taken) (q, rw (s .pre .1) (accepts-inside image q h), accepts-byte image q h))
 
 slice-aggregate-mark-initial : tie.Need-slice-aggregate-mark-initial
 slice-aggregate-mark-initial c = search needs
@@ -18,7 +42,14 @@ slice-aggregate-run : tie.Need-slice-aggregate-run
 slice-aggregate-run c = search needs
 
 run-requires : tie.Need-run-requires
-run-requires c κs = search needs
+run-requires c κs =
+    let s = c .before .before .before .before .before .before .before .before .before in
+    (s .pre .0, s .pre .1, search needs, starts-confined (machine (s .args .image .now)) (s .args .n) (inside s) (initial s) (c .before .before .mark-initial .ensures))
+
+returns-2 : tie.Need-returns-2
+returns-2 c =
+    let s = c .before .before .before .before .before .before .before .before .before .before .before .before in
+    lost-in-stem (machine (s .args .image .now)) (s .args .n) _ _ (few s) (inside s) (initial s) (c .before .before .before .before .before .mark-initial .ensures) (c .before .before .run .ensures .lost (not-true _ (c .if2 .taken)))
 
 slice-aggregate-mark-states : tie.Need-slice-aggregate-mark-states
 slice-aggregate-mark-states c = search needs
@@ -39,7 +70,14 @@ slice-aggregate-run-2 : tie.Need-slice-aggregate-run-2
 slice-aggregate-run-2 c = search needs
 
 run-requires-2 : tie.Need-run-requires-2
-run-requires-2 c κs = search needs
+run-requires-2 c κs =
+    let s = c .before .before .before .before .before .before .before .before .before .before .before .before .before .before .before .before .before .before .before .before in
+    (s .pre .0, s .pre .1, search needs, begun-confined (machine (s .args .image .now)) (s .args .n) (inside s) (initial s) (s .args .stem .now) (c .before .before .before .before .before .before .before .before .before .before .before .before .before .mark-initial .ensures) (c .before .before .before .before .before .before .before .before .before .before .run .ensures .on (not-false _ (c .before .before .before .before .before .before .before .before .if2 .left))) (c .before .before .before .before .before .before .mark-states .ensures) (c .before .before .lift .ensures))
+
+returns-3 : tie.Need-returns-3
+returns-3 c =
+    let s = c .before .before .before .before .before .before .before .before .before .before .before .before .before .before .before .before .before .before .before .before .before .before .before in
+    lost-in-cycle (machine (s .args .image .now)) (s .args .n) _ _ (few s) (inside s) (initial s) (c .before .before .before .before .before .before .before .before .before .before .before .before .before .before .before .before .mark-initial .ensures) (c .before .before .before .before .before .before .before .before .before .before .before .before .before .run .ensures .on (not-false _ (c .before .before .before .before .before .before .before .before .before .before .before .if2 .left))) (c .before .before .before .before .before .before .before .before .before .mark-states .ensures) (c .before .before .before .before .before .lift .ensures) (c .before .before .run2 .ensures .lost (not-true _ (c .if3 .taken)))
 
 slice-aggregate-close : tie.Need-slice-aggregate-close
 slice-aggregate-close c = search needs
@@ -51,24 +89,26 @@ slice-aggregate-found : tie.Need-slice-aggregate-found
 slice-aggregate-found c = search needs
 
 found-requires : tie.Need-found-requires
-found-requires c κs = search needs
+found-requires c κs =
+    let s = c .before .before .before .before .before .before .before .before .before .before .before .before .before .before .before .before .before .before .before .before .before .before .before .before .before .before .before in
+    (few s, omega (arith, c .before .before .close .kept .0))
 
-returns : tie.Need-returns
-returns c =
-    let s = c .before .before .before .before .before .before .before .before .before .before .before .before .before .before .before .before .before .before .before .before .before .before .before .before in
-    let image = s .args .image .now in
-    let fine = s .pre .0 in
-    verdict (machine image) (s .args .n) _ _ (omega (arith, s .pre .1, fine .few)) (λ q x t h. rw (s .pre .1) (step-target image fine q x t h)) (λ q h. rw (s .pre .1) (initial-state image fine q h))
-    (c .before .before .before .before .before .before .before .before .before .before .before .before .before .before .before .before .before .before .before .mark-initial .ensures) (c .before .before .before .before .before .before .before .before .before .before .before .before .before .before .before .before .run .ensures) (c .before .before .before .before .before .before .before .before .before .before .before .before .before .mark-states .ensures) (c .before .before .before .before .before .before .before .before .before .lift .ensures) (c .before .before .before .before .before .before .run2 .ensures) (c .before .before .before .close .ensures) (c .found .ensures)
+returns-4 : tie.Need-returns-4
+returns-4 c =
+    let s = c .before .before .before .before .before .before .before .before .before .before .before .before .before .before .before .before .before .before .before .before .before .before .before .before .before .before .before .before in
+    verdict (machine (s .args .image .now)) (s .args .n) _ _ (few s) (inside s) (initial s) (c .before .before .before .before .before .before .before .before .before .before .before .before .before .before .before .before .before .before .before .before .before .mark-initial .ensures) (c .before .before .before .before .before .before .before .before .before .before .before .before .before .before .before .before .before .before .run .ensures .on (not-false _ (c .before .before .before .before .before .before .before .before .before .before .before .before .before .before .before .before .if2 .left))) (c .before .before .before .before .before .before .before .before .before .before .before .before .before .before .mark-states .ensures) (c .before .before .before .before .before .before .before .before .before .before .lift .ensures) (c .before .before .before .before .before .before .before .run2 .ensures .on (not-false _ (c .before .before .before .before .before .if3 .left))) (c .before .before .before .close .ensures) (c .found .ensures)
 
 pub search-spec : {M : Type 1} → statement M
 search-spec =
     tie.close
     (tie.spec
+    some-accepting-requires
+    returns
     slice-aggregate-mark-initial
     mark-initial-requires
     slice-aggregate-run
     run-requires
+    returns-2
     slice-aggregate-mark-states
     mark-states-requires
     slice-aggregate-lift
@@ -76,8 +116,9 @@ search-spec =
     lift-requires
     slice-aggregate-run-2
     run-requires-2
+    returns-3
     slice-aggregate-close
     close-requires
     slice-aggregate-found
     found-requires
-    returns)
+    returns-4)

@@ -1,97 +1,69 @@
--- `judge::step_state` meets its contract: each turn adds what one record of the state adds (`Gathers`), and the records
--- are those of the state's transitions. Assumes nothing.
-use borrow.Author.Needs.{needs}
+-- `judge::step_state` meets its contract: an empty row has no run to take along, and the records of the next state
+-- follow. Assumes nothing.
 use native.Mathlib.Omega.{arith}
-use Prim.Native.Nat.{_+_, _-_, _*_, _≤_}
+use Prim.Native.Nat.{_+_, _*_, _≤_}
 use lib.ListN.{length}
-use Rattle.judge.proofs.Gathers.{Gathering, gather-begins, gather-steps, gather-ends}
-use Rattle.judge.proofs.Turns.{ByRecord, all-records, records-next, transition-fits, records-fit}
+use Rattle.judge.proofs.Gathers.{adds-none}
+use Rattle.judge.proofs.Turns.{records-next, records-fit}
+use borrow.Author.Needs.{needs}
 use Rattle.judge.proofs.step_state.Statement.{statement}
 use Rattle.judge.proofs.step_state.Tie as tie
 
-abbrev Inv-loop : tie.InvT-loop
-Inv-loop image q at letter rows next₀ count i₀ next i = Gathering next₀ (ByRecord image rows q letter at) count next i
-
-abbrev μ-loop : tie.MeasureT-loop
-μ-loop image q at letter rows next₀ count i₀ next i = count - i
-
 -- the records of the state lie within the image
-records-inside : (c : tie.After-number-at Inv-loop μ-loop)
-    → c .before .before .before .before .args .at + 4 * c .number-at .result ≤ length (c .before .before .before .before .args .image .now)
+records-inside : (c : tie.After-number-at) → c .before .before .before .before .args .at + 4 * c .number-at .result ≤ length (c .before .before .before .before .args .image .now)
 records-inside c =
     let s = c .before .before .before .before in
     records-fit _ (s .args .rows .now) (s .args .q) (s .args .letter) (s .pre .0) _ _ (s .pre .1) (s .pre .2) (c .number-at .ensures)
 
-mul-number-at : tie.Need-mul-number-at Inv-loop μ-loop
+mul-number-at : tie.Need-mul-number-at
 mul-number-at c = search needs
 
-add-number-at : tie.Need-add-number-at Inv-loop μ-loop
+add-number-at : tie.Need-add-number-at
 add-number-at c = search needs
 
-number-at-requires : tie.Need-number-at-requires Inv-loop μ-loop
+number-at-requires : tie.Need-number-at-requires
 number-at-requires c κs = search needs
 
-loop-holds : tie.Need-loop-holds Inv-loop μ-loop
-loop-holds c = gather-begins _ _ _
+mul-end : tie.Need-mul-end
+mul-end c = omega (arith, records-inside c)
 
-mul-take-transition : tie.Need-mul-take-transition Inv-loop μ-loop
-mul-take-transition c = omega (arith, records-inside (c .before .before))
+add-end : tie.Need-add-end
+add-end c = omega (arith, records-inside c)
 
-add-take-transition : tie.Need-add-take-transition Inv-loop μ-loop
-add-take-transition c = omega (arith, records-inside (c .before .before))
+row-empty-requires : tie.Need-row-empty-requires
+row-empty-requires c κs = search needs
 
-take-transition-requires : tie.Need-take-transition-requires Inv-loop μ-loop
-take-transition-requires c κs =
-    let at = c .before .before in
-    let s = at .before .before .before .before .before in
-    let fits = transition-fits _ (s .args .rows .now) (s .args .q) (s .args .letter) (s .pre .0) _ _ (at .loop .i) (s .pre .1) (s .pre .2) (at .before .number-at .ensures) (omega arith) in
-    (fits .0, omega arith, omega (arith, fits .1, at .loop .inv .size))
-
-add-i : tie.Need-add-i Inv-loop μ-loop
-add-i c = search needs
-
-loop-less : tie.Need-loop-less Inv-loop μ-loop
-loop-less c = search needs
-
-loop-again : tie.Need-loop-again Inv-loop μ-loop
-loop-again c =
-    let at = c .before .before .before .before .before in
-    gather-steps _ _ _ _ _ (at .loop .i) (omega arith) (at .loop .inv) (c .before .before .take-transition .kept .1 .1 .1 .1 .1 .0) (c .before .before .take-transition .ensures)
-
-mul-result : tie.Need-mul-result Inv-loop μ-loop
-mul-result c = omega (arith, records-inside (c .before .before))
-
-add-result : tie.Need-add-result Inv-loop μ-loop
-add-result c = omega (arith, records-inside (c .before .before))
-
-same-length : tie.Need-same-length Inv-loop μ-loop
-same-length c = c .before .loop .inv .size
-
-returns : tie.Need-returns Inv-loop μ-loop
+returns : tie.Need-returns
 returns c =
-    let s = c .before .before .before .before .before .before in
-    let count = c .before .before .number-at .ensures in (
-      records-next (s .args .image .now) (s .args .rows .now) _ (s .args .letter) _ _ (s .pre .2) count,
-      all-records (s .args .image .now) (s .args .rows .now) _ _ _ _ _ _ (s .pre .1) (s .pre .2) count (gather-ends _ _ _ _ (c .before .loop .i) (omega arith) (c .before .loop .inv)),
+    let s = c .before .before .before .before .before .before in (
+      records-next (s .args .image .now) (s .args .rows .now) _ (s .args .letter) _ _ (s .pre .2) (c .before .before .number-at .ensures),
+      adds-none (λ t k h. c .before .row-empty .ensures (c .if1 .taken) k (h .1)),
+    )
+
+take-transitions-requires : tie.Need-take-transitions-requires
+take-transitions-requires c κs = search needs
+
+same-length : tie.Need-same-length
+same-length c = search needs
+
+returns-2 : tie.Need-returns-2
+returns-2 c =
+    let s = c .before .before .before .before .before .before .before .before .before .before in (
+      records-next (s .args .image .now) (s .args .rows .now) _ (s .args .letter) _ _ (s .pre .2) (c .before .before .before .before .before .before .number-at .ensures),
+      c .before .before .take-transitions .ensures,
     )
 
 pub step-state-spec : {M : Type 1} → statement M
 step-state-spec =
     tie.close
     (tie.spec
-    Inv-loop
-    μ-loop
     mul-number-at
     add-number-at
     number-at-requires
-    loop-holds
-    mul-take-transition
-    add-take-transition
-    take-transition-requires
-    add-i
-    loop-less
-    loop-again
-    mul-result
-    add-result
+    mul-end
+    add-end
+    row-empty-requires
+    returns
+    take-transitions-requires
     same-length
-    returns)
+    returns-2)
