@@ -1,5 +1,6 @@
 // Prints what the program showwatch prints of a rule: its automaton, or its refusal.
 use automaton::INITIAL_BYTES;
+use automaton::MAX_TRANSITIONS;
 use automaton::STATES_BYTES;
 use automaton::TRANSITIONS_BYTES;
 use libc::STDOUT_FILENO;
@@ -7,9 +8,6 @@ use translation::Translated;
 ghost use mathlib.Core.Path.{_≡_};
 ghost use Prim.Native.Nat.{_≤_, _<_};
 ghost use Rattle.show.specs.Shown.{number, digit, label, rowEnd};
-
-// The most transitions that an automaton has.
-const MAX_TRANSITIONS: usize = 12288;
 
 fn print(text: &[u8]) {
     io::write_all(STDOUT_FILENO, text);
