@@ -21,7 +21,7 @@ use Rattle.translation.specs.Translate.{stored, translated}
 use Rattle.image.specs.Image.{imageBytes}
 use Rattle.image.specs.Calls.{Buffer, buffer, writes}
 use Rattle.image.proofs.Answers.{Long, fine-long, filled-long}
-use Rattle.judge.specs.Judge.{Verdict, verdict, judgement, judged}
+use Rattle.judge.specs.Judge.{workBytes, Verdict, verdict, judgement, judged}
 use Rattle.lasso.specs.Lasso.{lassoCheck}
 use Rattle.judge.proofs.VerdictIff.{image-judged}
 use Rattle.correctness.proofs.WellFormed.{translation-well-formed}
@@ -33,13 +33,13 @@ use Rattle.image.proofs.ImageAccepted.{counts-fit, tables-read}
 -- the test of 25
 abbrev fit : (states transitions initial image work : List ℕ) → Bool
 fit states transitions initial image work =
-    leb 384 (length states) && (leb 49152 (length transitions) && (leb 192 (length initial) && (leb 49746 (length image) && leb 12288 (length work))))
+    leb 384 (length states) && (leb 49152 (length transitions) && (leb 192 (length initial) && (leb 49746 (length image) && leb workBytes (length work))))
 
 -- what 25, 1 to 7, 8 and 9 let pass
 record Passed (rule stem cycle states transitions initial image work : List ℕ) : Type 0 where
   tables-room : Long states transitions initial
   image-room : 49746 ≤ length image
-  work-room : 12288 ≤ length work
+  work-room : workBytes ≤ length work
   bytes : Rule.checked rule ≡ fine
   lasso : lassoCheck stem cycle ≡ fine
 
@@ -58,7 +58,7 @@ module _ (rule stem cycle s t i image work : List ℕ) (passes : inputCheck rule
       record {
         tables-room = record { states = leb-true 384 (length s) (one .0); transitions = leb-true 49152 (length t) (two .0); initial = leb-true 192 (length i) (three .0) };
         image-room = leb-true 49746 (length image) (four .0);
-        work-room = leb-true 12288 (length work) (four .1);
+        work-room = leb-true workBytes (length work) (four .1);
         bytes = bytes;
         lasso = lasso;
       }

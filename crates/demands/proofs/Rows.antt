@@ -26,7 +26,7 @@ use Rattle.automaton.specs.Tables.{transitionCount}
 use Rattle.sets.proofs.Members.{All}
 use Rattle.image.specs.Image.{entry, contents, imageBytes}
 use Rattle.judge.specs.Search
-use Rattle.judge.specs.Judge.{Verdict, kept, broken, verdict, Judgement, judged}
+use Rattle.judge.specs.Judge.{workBytes, Verdict, kept, broken, verdict, Judgement, judged}
 use Rattle.judge.proofs.VerdictIff.{image-judged}
 use Rattle.correctness.proofs.WellFormed.{translation-well-formed}
 
@@ -52,7 +52,7 @@ pub record Right (row : Row) : Type 0 where
   pub counted : length (allTransitions (row .rule) (row .sets)) ≡ row .count
   pub translated : translation (row .rule) ≡ accepted (row .automaton)
   pub imaged : All (λ image. imageBytes (row .automaton) ≡ image) (row .images)
-  pub judges : All (λ c. (work : List ℕ) → 12288 ≤ length work → judged (imageBytes (row .automaton)) (c .stem) (c .cycle) work .answer ≡ accepted (c .verdict)) (row .cases)
+  pub judges : All (λ c. (work : List ℕ) → workBytes ≤ length work → judged (imageBytes (row .automaton)) (c .stem) (c .cycle) work .answer ≡ accepted (c .verdict)) (row .cases)
 
 on : (stem cycle : List ℕ) → Verdict → Case
 on stem cycle verdict = record { stem = stem; cycle = cycle; verdict = verdict }

@@ -5,19 +5,20 @@ use mathlib.Core.Path.{_≡_}
 use mathlib.Core.List.{List}
 use lib.ListN.{length}
 use Rattle.answer.specs.Result.{accepted}
+use Rattle.lasso.specs.Lasso.{maxLetters}
 use Rattle.automaton.specs.Automaton.{Automaton}
 use Rattle.formula.specs.Satisfaction.{Satisfies}
 use Rattle.translation.specs.Degeneralized.{translation}
 use Rattle.image.specs.Image.{imageBytes}
-use Rattle.judge.specs.Judge.{Exactly, judged}
+use Rattle.judge.specs.Judge.{workBytes, Exactly, judged}
 use Rattle.judge.proofs.VerdictIff.{recognized-verdict}
 use Rattle.correctness.proofs.WellFormed.{translation-well-formed}
 use Rattle.correctness.proofs.AcceptingPass.{translation-recognizes}
 
 -- Demand 3, of judging: the rule is accepted, and a is its automaton; the image is the one byte string of a, whoever
--- wrote it; the lasso has a letter in its cycle and at most 128 letters, and there are 12,288 working bytes or more.
+-- wrote it; the lasso has a letter in its cycle and is within the limit of letters, and there are working bytes enough.
 -- Then the answer is kept exactly when the lasso satisfies the rule, and broken exactly when it does not.
-pub verdict-iff-satisfied : (rule stem cycle : List ℕ) (a : Automaton) → translation rule ≡ accepted a → (work : List ℕ) → 0 < length cycle → length stem + length cycle ≤ 128 → 12288 ≤ length work
+pub verdict-iff-satisfied : (rule stem cycle : List ℕ) (a : Automaton) → translation rule ≡ accepted a → (work : List ℕ) → 0 < length cycle → length stem + length cycle ≤ maxLetters → workBytes ≤ length work
     → Exactly (judged (imageBytes a) stem cycle work .answer) (Satisfies rule stem cycle)
 verdict-iff-satisfied rule stem cycle a e work pos few enough =
     recognized-verdict a (translation-well-formed rule a e) stem cycle (translation-recognizes rule a e) pos work few enough

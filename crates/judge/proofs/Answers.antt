@@ -12,7 +12,7 @@ use Rattle.automaton.specs.Tables.{Counts}
 use Rattle.image.specs.Calls.{checks}
 use Rattle.image.proofs.Contents.{read-of, checks-of, checks-refused}
 use Rattle.judge.specs.Search.{hasAcceptingPass}
-use Rattle.judge.specs.Judge.{Verdict, kept, broken, judgeable, verdict, Judgement, judgement, judgedBy, judged}
+use Rattle.judge.specs.Judge.{workBytes, Verdict, kept, broken, judgeable, verdict, Judgement, judgement, judgedBy, judged}
 use Rattle.lasso.specs.Lasso.{lassoCheck}
 use Rattle.judge.specs.Marks.{Decides, lassoJudgeable}
 use Rattle.image.specs.Lookup.{machine}
@@ -51,19 +51,19 @@ module _ (stem cycle work : List ℕ) where
       lasso-broken e = judged-by (rw (decided-pass a stem cycle range (lasso-some stem cycle passed) tells, e, verdict))
 
   module _ (image : List ℕ) where
-    pub work-short : length work < 12288 → judgement (refused 25 0) work ≡ judged image stem cycle work
+    pub work-short : length work < workBytes → judgement (refused 25 0) work ≡ judged image stem cycle work
     unfolding judged judgeable
-    work-short lt = judged-refused {x = judgeable image stem cycle work} (rw (lt-leb 12288 (length work) lt))
+    work-short lt = judged-refused {x = judgeable image stem cycle work} (rw (lt-leb workBytes (length work) lt))
 
-    module _ (long : 12288 ≤ length work) where
+    module _ (long : workBytes ≤ length work) where
       pub image-refused : {number place : ℕ} → refused number place ≡ checks image → judgement (refused number place) work ≡ judged image stem cycle work
       unfolding judged judgeable
-      image-refused e = judged-refused {x = judgeable image stem cycle work} (rw (le-leb 12288 (length work) long, checks-refused image e))
+      image-refused e = judged-refused {x = judgeable image stem cycle work} (rw (le-leb workBytes (length work) long, checks-refused image e))
 
       pub image-judged : {c : Counts} → accepted c ≡ checks image → {j : Judgement} → j ≡ judgedBy (lassoJudgeable (machine image) stem cycle) stem cycle work → j ≡ judged image stem cycle work
       unfolding judged judgeable
       image-judged {c} e h =
           let found = checks-of image c e in
           let read = read-of image (found .automaton) (found .read) in
-          let same : judgeable image stem cycle work ≡ lassoJudgeable (machine image) stem cycle = rw (le-leb 12288 (length work) long, found .read, read .automaton) in
+          let same : judgeable image stem cycle work ≡ lassoJudgeable (machine image) stem cycle = rw (le-leb workBytes (length work) long, found .read, read .automaton) in
           rw same h

@@ -18,8 +18,8 @@ use Rattle.image.specs.Reader.{readImage}
 use Rattle.image.proofs.ImageAccepted.{image-accepted}
 use Rattle.image.proofs.Contents.{read-of}
 use Rattle.judge.specs.Search.{hasAcceptingPass}
-use Rattle.judge.specs.Judge.{kept, broken, Exactly, workCheck, judgeable, verdict, judgement, judged}
-use Rattle.lasso.specs.Lasso.{lassoCheck}
+use Rattle.judge.specs.Judge.{workBytes, kept, broken, Exactly, workCheck, judgeable, verdict, judgement, judged}
+use Rattle.lasso.specs.Lasso.{maxLetters, lassoCheck}
 use Rattle.automaton.proofs.InRange.{InRange}
 use Rattle.judge.proofs.HasAcceptingPass.{has-accepting-pass-iff}
 use Rattle.image.proofs.Accepted.{readable, readable-in-range}
@@ -66,16 +66,16 @@ judged-exactly image stem cycle work a e =
 
 module _ (a : Automaton) (formed : WellFormed a) (stem cycle : List ℕ) where
   -- the reader accepts the image, so that the verdict of the automaton is given
-  pub image-judged : (work : List ℕ) → lassoCheck stem cycle ≡ fine → 12288 ≤ length work → judged (imageBytes a) stem cycle work ≡ judgement (accepted (verdict a stem cycle)) (zeros work)
+  pub image-judged : (work : List ℕ) → lassoCheck stem cycle ≡ fine → workBytes ≤ length work → judged (imageBytes a) stem cycle work ≡ judgement (accepted (verdict a stem cycle)) (zeros work)
   unfolding judged judgeable
-  image-judged work fits enough = rw (le-leb 12288 (length work) enough, image-accepted a formed, fits)
+  image-judged work fits enough = rw (le-leb workBytes (length work) enough, image-accepted a formed, fits)
 
   module _ {P : (stem cycle : List ℕ) → Type 0} (recognizes : Recognizes P a) (some : 0 < length cycle) where
     pub recognized-exactly : Exactly (accepted (verdict a stem cycle)) (P stem cycle)
     recognized-exactly = verdict-exactly a stem cycle (image-in-range (imageBytes a) a (image-accepted a formed)) some (recognizes stem cycle some)
 
-    -- with at most 128 letters and enough working bytes, judging the image says so
-    pub recognized-verdict : (work : List ℕ) → length stem + length cycle ≤ 128 → 12288 ≤ length work → Exactly (judged (imageBytes a) stem cycle work .answer) (P stem cycle)
+    -- with letters within the limit and enough working bytes, judging the image says so
+    pub recognized-verdict : (work : List ℕ) → length stem + length cycle ≤ maxLetters → workBytes ≤ length work → Exactly (judged (imageBytes a) stem cycle work .answer) (P stem cycle)
     unfolding lassoCheck
     recognized-verdict work few enough =
-        rw (image-judged work (rw (lt-ltb 0 (length cycle) some, le-leb (length stem + length cycle) 128 few)) enough) recognized-exactly
+        rw (image-judged work (rw (lt-ltb 0 (length cycle) some, le-leb (length stem + length cycle) maxLetters few)) enough) recognized-exactly

@@ -1,5 +1,5 @@
 -- The call judge: answer, place and the working bytes, for every input (01, Judging; Numbers that come from the input).
-use Prim.Native.Nat.{ℕ}
+use Prim.Native.Nat.{ℕ, _*_}
 use mathlib.Core.Path.{_≡_}
 use mathlib.Core.Logic.{_↔_}
 use mathlib.Core.List.{List}
@@ -7,7 +7,7 @@ use mathlib.Core.Bool.{true, false}
 use lib.ListN.{length, replicate}
 use lib.Dec.{leb}
 use Rattle.answer.specs.Result.{Result, accepted, refused, andThen, Check, require}
-use Rattle.lasso.specs.Lasso.{lassoCheck}
+use Rattle.lasso.specs.Lasso.{maxLetters, lassoCheck}
 use Rattle.automaton.specs.Automaton.{Automaton}
 use Rattle.image.specs.Reader.{readImage}
 use Rattle.judge.specs.declared.Judged.{Judged}
@@ -28,9 +28,14 @@ judgeAnswer Kept = accepted kept
 judgeAnswer Broken = accepted broken
 judgeAnswer (Refused number place) = refused number place
 
--- 25: fewer than 12,288 working bytes
+-- the working bytes that judging asks for, one for each state that an automaton may have and each letter (01, Numbers
+-- that come from the state, 25)
+abbrev pub workBytes : ℕ
+workBytes = 96 * maxLetters
+
+-- 25: fewer working bytes than that
 abbrev pub workCheck : List ℕ → Check
-workCheck work = require (leb 12288 (length work)) 25 0
+workCheck work = require (leb workBytes (length work)) 25 0
 
 -- the order of judging's refusals: 25, the image's 10 to 13, the lasso's 8 and 9; else the automaton that is judged
 unfoldable pub judgeable : (image stem cycle work : List ℕ) → Result Automaton

@@ -24,7 +24,7 @@ ghost use Rattle.image.specs.Lookup.{machine, recordAt, recordsAt, Readable};
 // The number of document 01 for working bytes that are too few, and how many judging asks for.
 pub const WORK_TOO_SHORT: u8 = 25;
 
-pub const WORK_BYTES: usize = 12288;
+pub const WORK_BYTES: usize = automaton::MAX_STATES * lasso::MAX_LETTERS;
 
 // A row of marks has four words; there are rows for 96 states (specs/Marks.antt has what the bits are).
 const ROWS: usize = 384;

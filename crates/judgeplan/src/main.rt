@@ -2,13 +2,14 @@
 // and before the stem stands its length, two bytes with the low one first; the cycle goes to the end.
 use judge::Judged;
 use judge::WORK_BYTES;
+use lasso::MAX_LETTERS;
 use libc::STDIN_FILENO;
 use libc::STDOUT_FILENO;
 ghost use Prim.Native.Nat.{_≤_};
 
 // The longest image and stem that two bytes can say, with their lengths, and one letter more than a lasso may have:
 // what comes after that changes no answer.
-const ENOUGH: usize = 131203;
+const ENOUGH: usize = 2 + 65535 + 2 + 65535 + MAX_LETTERS + 1;
 
 fn print(text: &[u8]) {
     io::write_all(STDOUT_FILENO, text);

@@ -11,22 +11,22 @@ use borrow.Author.Tests.{lt-ltb, le-ltb, ltb-true, le-leb, lt-leb, not-true, not
 use Rattle.answer.specs.Result.{refused, fine, require}
 use Rattle.answer.proofs.Lowest.{fine-first}
 use Rattle.answer.proofs.Results.{require-fine}
-use Rattle.lasso.specs.Lasso.{lassoCheck}
+use Rattle.lasso.specs.Lasso.{maxLetters, lassoCheck}
 
 -- the sum of two lengths is not made
-pub letters-left : (stem cycle : ℕ) → stem ≤ 128 → leb cycle (128 - stem) ≡ leb (stem + cycle) 128
-letters-left stem cycle le = go (decLt (128 - stem) cycle)
+pub letters-left : (stem cycle : ℕ) → stem ≤ maxLetters → leb cycle (maxLetters - stem) ≡ leb (stem + cycle) maxLetters
+letters-left stem cycle le = go (decLt (maxLetters - stem) cycle)
   where
-    go : Dec (128 - stem < cycle) → leb cycle (128 - stem) ≡ leb (stem + cycle) 128
-    go (yes lt) = lt-leb cycle (128 - stem) lt ∙ sym (lt-leb (stem + cycle) 128 (omega arith))
-    go (no ge) = le-leb cycle (128 - stem) (omega arith) ∙ sym (le-leb (stem + cycle) 128 (omega arith))
+    go : Dec (maxLetters - stem < cycle) → leb cycle (maxLetters - stem) ≡ leb (stem + cycle) maxLetters
+    go (yes lt) = lt-leb cycle (maxLetters - stem) lt ∙ sym (lt-leb (stem + cycle) maxLetters (omega arith))
+    go (no ge) = le-leb cycle (maxLetters - stem) (omega arith) ∙ sym (le-leb (stem + cycle) maxLetters (omega arith))
 
 module _ (stem cycle : List ℕ) where
   pub cycle-empty : length cycle ≡ 0 → refused 8 0 ≡ lassoCheck stem cycle
   unfolding lassoCheck
   cycle-empty e = rw (le-ltb 0 (length cycle) (omega arith))
 
-  module _ (some : length cycle ≡ 0 → ⊥) {r : Bool} (fits : r ≡ leb (length stem + length cycle) 128) where
+  module _ (some : length cycle ≡ 0 → ⊥) {r : Bool} (fits : r ≡ leb (length stem + length cycle) maxLetters) where
     pub letters-over : not r ≡ true → refused 9 0 ≡ lassoCheck stem cycle
     unfolding lassoCheck
     letters-over e = rw (lt-ltb 0 (length cycle) (omega arith), ← fits, not-true r e)

@@ -13,7 +13,11 @@ unfoldable pub letter : (stem cycle : List ℕ) → ℕ → ℕ
 letter stem cycle i =
     cond (ltb i (length stem)) (getD stem i 0) (getD cycle ((i - length stem) % length cycle) 0)
 
--- 8: the cycle has no letter; then 9: stem and cycle have over 128 together
+-- the most letters that a lasso may have, stem and cycle together (01, Numbers that come from the input, 9)
+abbrev pub maxLetters : ℕ
+maxLetters = 128
+
+-- 8: the cycle has no letter; then 9: stem and cycle have over the limit together
 unfoldable pub lassoCheck : (stem cycle : List ℕ) → Check
 lassoCheck stem cycle =
-    andThen (require (ltb 0 (length cycle)) 8 0) (λ _. require (leb (length stem + length cycle) 128) 9 0)
+    andThen (require (ltb 0 (length cycle)) 8 0) (λ _. require (leb (length stem + length cycle) maxLetters) 9 0)

@@ -4,19 +4,19 @@ ghost use mathlib.Core.Path.{_≡_};
 ghost use Prim.Native.Nat.{_+_};
 ghost use lib.Dec.{leb};
 ghost use Rattle.answer.specs.Result.{answer};
-ghost use Rattle.lasso.specs.Lasso.{lassoCheck};
+ghost use Rattle.lasso.specs.Lasso.{maxLetters, lassoCheck};
 
 // The numbers of document 01 by which a lasso is refused.
 pub const EMPTY_CYCLE: u8 = 8;
 
 pub const TOO_MANY_LETTERS: u8 = 9;
 
-// A lasso has at most 128 letters, stem and cycle together.
+// A lasso has at most so many letters, stem and cycle together (`maxLetters` of specs/).
 pub const MAX_LETTERS: usize = 128;
 
-// Whether a lasso with so many letters in its stem and its cycle has at most 128.
+// Whether a lasso with so many letters in its stem and its cycle is within the limit.
 fn letters_fit(stem: usize, cycle: usize) -> bool
-    ensures { λ r. ⌜ r ≡ leb (stem + cycle) 128 ⌝ }
+    ensures { λ r. ⌜ r ≡ leb (stem + cycle) maxLetters ⌝ }
 {
     if MAX_LETTERS < stem {
         return false;
