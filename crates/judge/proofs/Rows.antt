@@ -171,7 +171,7 @@ tests-joined a b c = go (ℕ-discrete a b) (ℕ-discrete c 0)
 
 -- ---- no bit
 
-zeros : (n i : ℕ) → _≡_ {A = ℕ} (getD (replicate n 0) i 0) 0
+pub zeros : (n i : ℕ) → _≡_ {A = ℕ} (getD (replicate n 0) i 0) 0
 zeros zero i = refl
 zeros (suc n) zero = refl
 zeros (suc n) (suc i) = zeros n i

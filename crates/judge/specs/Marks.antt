@@ -67,7 +67,8 @@ abbrev pub After : (a : Automaton) (w : ℕ → ℕ) (Held : (q k : ℕ) → Typ
 After a w Held zero q k = Held q k
 After a w Held (suc i) q k = Moved a (w i) (After a w Held i) q k
 
--- the rows hold this, or it has no run from an initial state
+-- the letters of a word have been read and the rows hold this; or, where the answer is false, it has no run from an
+-- initial state
 pub record Ran (r : Bool) (rows : List ℕ) (Held : (q k : ℕ) → Type 0) : Type 0 where
   pub on : r ≡ true → Is rows Held
   pub lost : r ≡ false → (q : ℕ) → Held q 96 → ⊥
