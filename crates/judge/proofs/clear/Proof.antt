@@ -5,7 +5,7 @@ use native.Mathlib.Omega.{arith}
 use Prim.Native.Nat.{ℕ, _-_}
 use lib.ListN.{replicate, length-replicate}
 use lib.Seq.{take-all}
-use Rattle.image.proofs.Stores.{Storing, store-begins, store-steps, store-ends}
+use Rattle.answer.proofs.Storing.{Storing, store-begins, store-steps, store-ends}
 use Rattle.judge.proofs.Rows.{zeros}
 use Rattle.judge.proofs.clear.Statement.{statement}
 use Rattle.judge.proofs.clear.Tie as tie
