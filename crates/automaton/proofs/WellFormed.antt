@@ -8,6 +8,7 @@ use lib.ListN.{getD, length}
 use lib.Bits.{bitAnd}
 use Rattle.sets.specs.Sets.{In}
 use Rattle.automaton.specs.Automaton.{Transition, State, Automaton}
+use Rattle.automaton.specs.Limits.{maxStates, maxOfState, maxInitial}
 use Rattle.automaton.specs.Tables.{transitionCount}
 
 -- the propositions that a transition asks for and those that it forbids: bytes, with no bit in both
@@ -18,21 +19,21 @@ pub record Label (must mustNot : ℕ) : Type 0 where
 
 -- a state of an automaton that has this many states
 pub record WellFormedState (states : ℕ) (s : State) : Type 0 where
-  pub few : length (s .transitions) ≤ 128
+  pub few : length (s .transitions) ≤ maxOfState
   pub labels : (t : Transition) → In t (s .transitions) → Label (t .must) (t .mustNot)
   pub targets : (t : Transition) → In t (s .transitions) → t .target < states
 
--- an automaton within the limits: at most 96 states and 128 transitions of each, labels of two bytes that share no bit,
--- targets that are states, at most 96 initial numbers that are states and rise
+-- an automaton within the limits of specs/Limits.antt: not too many states, transitions of each and initial numbers,
+-- labels of two bytes that share no bit, targets that are states, initial numbers that are states and rise
 pub record WellFormed (a : Automaton) : Type 0 where
-  pub states : length (a .states) ≤ 96
+  pub states : length (a .states) ≤ maxStates
   pub each : (s : State) → In s (a .states) → WellFormedState (length (a .states)) s
-  pub initial : length (a .initial) ≤ 96
+  pub initial : length (a .initial) ≤ maxInitial
   pub inside : (i : ℕ) → i < length (a .initial) → getD (a .initial) i 0 < length (a .states)
   pub rising : (i : ℕ) → suc i < length (a .initial) → getD (a .initial) i 0 < getD (a .initial) (suc i) 0
 
--- so at most 128 transitions for each state
-pub few-together : (n : ℕ) (ss : List State) → ((s : State) → In s ss → WellFormedState n s) → transitionCount ss ≤ 128 * length ss
+-- so there are at most maxOfState transitions for each state
+pub few-together : (n : ℕ) (ss : List State) → ((s : State) → In s ss → WellFormedState n s) → transitionCount ss ≤ maxOfState * length ss
 unfolding transitionCount
 few-together n [] each = omega arith
 few-together n (s ∷ ss) each = omega (arith, each s (inl refl) .few, few-together n ss (λ u m. each u (inr m)))

@@ -1,4 +1,5 @@
--- The Büchi automaton, its runs, its records as bytes, and three tables that hold them.
+-- The Büchi automaton, its runs, how large it may be, its records as bytes, and three tables that hold them.
 pub mod Automaton
+pub mod Limits
 pub mod Records
 pub mod Tables

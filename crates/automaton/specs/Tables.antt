@@ -6,6 +6,7 @@ use lib.ListN.{length}
 use lib.Dec.{leb}
 use Rattle.answer.specs.Result.{Result, Check, require}
 use Rattle.automaton.specs.Automaton.{State, Automaton}
+use Rattle.automaton.specs.Limits.{statesBytes, transitionsBytes, initialBytes}
 
 -- how many states, transitions and initial states there are: the answer of an accepted translate or read (01, Numbers
 -- that come from the state, last paragraph, sentence 2)
@@ -35,8 +36,8 @@ pub record Outcome : Type 0 where
 abbrev pub outcome : Result Counts → (states transitions initial : List ℕ) → Outcome
 outcome a s t i = record { answer = a; states = s; transitions = t; initial = i }
 
--- 25, at place 0: a table has no room for 96 records of 4 bytes (states), 12,288 of 4 (transitions) or 96 of 2
--- (initial) (01, Numbers that come from the state, 25)
+-- 25, at place 0: a table has no room for the most states, transitions or initial numbers (01, Numbers that come from
+-- the state, 25)
 unfoldable pub tableCheck : (states transitions initial : List ℕ) → Check
 tableCheck states transitions initial =
-    require (leb (384) (length states) && (leb 49152 (length transitions) && leb 192 (length initial))) 25 0
+    require (leb statesBytes (length states) && (leb transitionsBytes (length transitions) && leb initialBytes (length initial))) 25 0

@@ -3,14 +3,19 @@
 // The number of document 01 for a lent table that is too short.
 pub const TABLE_TOO_SHORT: u8 = 25;
 
-// An automaton has at most 96 states and so at most 12,288 transitions and 96 initial states. In a table a state and a
-// transition take 4 bytes each, an initial number 2.
+// The limits of an automaton (specs/Limits.antt has where they come from): its states, the transitions of one state and
+// so of all, its initial states.
 pub const MAX_STATES: usize = 96;
 
-pub const MAX_TRANSITIONS: usize = 12288;
+pub const MAX_OF_STATE: usize = 128;
 
-pub const STATES_BYTES: usize = 384;
+pub const MAX_TRANSITIONS: usize = MAX_STATES * MAX_OF_STATE;
 
-pub const TRANSITIONS_BYTES: usize = 49152;
+pub const MAX_INITIAL: usize = 96;
 
-pub const INITIAL_BYTES: usize = 192;
+// What a table for so many has: a state and a transition take 4 bytes each, an initial number 2.
+pub const STATES_BYTES: usize = 4 * MAX_STATES;
+
+pub const TRANSITIONS_BYTES: usize = 4 * MAX_TRANSITIONS;
+
+pub const INITIAL_BYTES: usize = 2 * MAX_INITIAL;

@@ -26,6 +26,7 @@ use Rattle.sets.specs.Sets.{In}
 use Rattle.acceptance.specs.Acceptance.{untilCount}
 use Rattle.translation.specs.Degeneralized.{nextLevel, Pair, pair, samePair, numbers, initialNumbers, pairTransitions, target, degeneralized, stateOf}
 use Rattle.sets.proofs.Members.{All, at-in, in-at, map-in, in-map, map-at}
+use Rattle.automaton.specs.Limits.{maxStates}
 use Rattle.correctness.proofs.Runs.{Reads, Represents}
 use Rattle.correctness.proofs.Tests.{reads-iff}
 use Rattle.automaton.proofs.Passes.{numbered}
@@ -127,9 +128,9 @@ module _ (rule : List ℕ) (accepted-rule : checked rule ≡ fine) (states : Lis
   initial-count : length (map (λ i. pair i 0) (numbers count)) ≡ count
   initial-count = length-map (numbers count) (λ i. pair i 0) ∙ numbers-length count
 
-  pub second-walked : Reached (pair 0 0) 96 (λ x. map (target rule states x) (pairTransitions rule states x)) (λ _ _. fine) (map (λ i. pair i 0) (numbers count)) pairs
+  pub second-walked : Reached (pair 0 0) maxStates (λ x. map (target rule states x) (pairTransitions rule states x)) (λ _ _. fine) (map (λ i. pair i 0) (numbers count)) pairs
   unfolding degeneralized initialNumbers
-  second-walked = walked samePair same-equal (pair 0 0) 96 24 (λ _ _. fine) (λ x. map (target rule states x) (pairTransitions rule states x)) (λ _ _. fine)
+  second-walked = walked samePair same-equal (pair 0 0) maxStates 24 (λ _ _. fine) (λ x. map (target rule states x) (pairTransitions rule states x)) (λ _ _. fine)
       (map (λ i. pair i 0) (numbers count)) pairs (omega (arith, cover-small rule accepted-rule, initial-count)) second
 
   -- the first numbers are the initial ones

@@ -14,11 +14,12 @@ use Rattle.formula.specs.Rule
 use Rattle.answer.proofs.Results.{require-fine, never-both, then-accepted}
 use Rattle.automaton.specs.Automaton.{Automaton}
 use Rattle.translation.specs.Degeneralized.{translation}
+use Rattle.automaton.specs.Limits.{statesBytes, transitionsBytes, initialBytes}
 use Rattle.automaton.specs.Records.{stateRecords, transitionRecords, initialRecords}
 use Rattle.automaton.specs.Tables.{Counts, counts, Outcome, outcome}
 use Rattle.answer.specs.Bytes.{zeros, filled}
 use Rattle.translation.specs.Translate.{stored, translated}
-use Rattle.image.specs.Image.{imageBytes}
+use Rattle.image.specs.Image.{imageBytes, largestImage}
 use Rattle.image.specs.Calls.{Buffer, buffer, writes}
 use Rattle.image.proofs.Answers.{Long, fine-long, filled-long}
 use Rattle.judge.specs.Judge.{workBytes, Verdict, verdict, judgement, judged}
@@ -33,12 +34,12 @@ use Rattle.image.proofs.ImageAccepted.{counts-fit, tables-read}
 -- the test of 25
 abbrev fit : (states transitions initial image work : List ℕ) → Bool
 fit states transitions initial image work =
-    leb 384 (length states) && (leb 49152 (length transitions) && (leb 192 (length initial) && (leb 49746 (length image) && leb workBytes (length work))))
+    leb statesBytes (length states) && (leb transitionsBytes (length transitions) && (leb initialBytes (length initial) && (leb largestImage (length image) && leb workBytes (length work))))
 
 -- what 25, 1 to 7, 8 and 9 let pass
 record Passed (rule stem cycle states transitions initial image work : List ℕ) : Type 0 where
   tables-room : Long states transitions initial
-  image-room : 49746 ≤ length image
+  image-room : largestImage ≤ length image
   work-room : workBytes ≤ length work
   bytes : Rule.checked rule ≡ fine
   lasso : lassoCheck stem cycle ≡ fine
@@ -51,13 +52,13 @@ module _ (rule stem cycle s t i image work : List ℕ) (passes : inputCheck rule
   passed =
       let (_, room, after-room) = then-accepted (roomCheck s t i image work) _ passes in
       let (_, bytes, lasso) = then-accepted (Rule.checked rule) _ after-room in
-      let one = and-eq-true-iff (leb 384 (length s)) _ .0 (require-fine (fit s t i image work) 25 0 room) in
-      let two = and-eq-true-iff (leb 49152 (length t)) _ .0 (one .1) in
-      let three = and-eq-true-iff (leb 192 (length i)) _ .0 (two .1) in
-      let four = and-eq-true-iff (leb 49746 (length image)) _ .0 (three .1) in
+      let one = and-eq-true-iff (leb statesBytes (length s)) _ .0 (require-fine (fit s t i image work) 25 0 room) in
+      let two = and-eq-true-iff (leb transitionsBytes (length t)) _ .0 (one .1) in
+      let three = and-eq-true-iff (leb initialBytes (length i)) _ .0 (two .1) in
+      let four = and-eq-true-iff (leb largestImage (length image)) _ .0 (three .1) in
       record {
-        tables-room = record { states = leb-true 384 (length s) (one .0); transitions = leb-true 49152 (length t) (two .0); initial = leb-true 192 (length i) (three .0) };
-        image-room = leb-true 49746 (length image) (four .0);
+        tables-room = record { states = leb-true statesBytes (length s) (one .0); transitions = leb-true transitionsBytes (length t) (two .0); initial = leb-true initialBytes (length i) (three .0) };
+        image-room = leb-true largestImage (length image) (four .0);
         work-room = leb-true workBytes (length work) (four .1);
         bytes = bytes;
         lasso = lasso;
@@ -75,7 +76,7 @@ module _ (rule stem cycle s t i image work : List ℕ) (passes : inputCheck rule
   image-written a e =
       let formed = translation-well-formed rule a e in
       let long = fine-long _ _ _ (filled-long s t i (stateRecords a) (transitionRecords a) (initialRecords a) (passed .tables-room)) in
-      rw (long, le-leb 49746 (length image) (passed .image-room), counts-fit a formed, tables-read a formed)
+      rw (long, le-leb largestImage (length image) (passed .image-room), counts-fit a formed, tables-read a formed)
 
   module _ (s' t' i' : List ℕ) {told : Result Counts} (translates : outcome told s' t' i' ≡ translated rule s t i) where
     is-stored : outcome told s' t' i' ≡ stored (translation rule) s t i

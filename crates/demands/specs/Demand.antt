@@ -11,16 +11,17 @@ use Rattle.formula.specs.Rule
 use Rattle.formula.specs.Satisfaction.{Satisfies}
 use Rattle.automaton.specs.Automaton.{Automaton}
 use Rattle.translation.specs.Degeneralized.{translation}
+use Rattle.automaton.specs.Limits.{statesBytes, transitionsBytes, initialBytes}
 use Rattle.automaton.specs.Records.{stateRecords, transitionRecords, initialRecords}
 use Rattle.answer.specs.Bytes.{zeros, filled}
-use Rattle.image.specs.Image.{imageBytes}
+use Rattle.image.specs.Image.{imageBytes, largestImage}
 use Rattle.judge.specs.Judge.{Verdict, Exactly, workBytes, verdict}
 use Rattle.lasso.specs.Lasso.{lassoCheck}
 
 -- 25: one of the three tables, the image's buffer or the working bytes is too short for its call
 unfoldable pub roomCheck : (states transitions initial image work : List ℕ) → Check
 roomCheck states transitions initial image work =
-    require (leb 384 (length states) && (leb 49152 (length transitions) && (leb 192 (length initial) && (leb 49746 (length image) && leb workBytes (length work))))) 25 0
+    require (leb statesBytes (length states) && (leb transitionsBytes (length transitions) && (leb initialBytes (length initial) && (leb largestImage (length image) && leb workBytes (length work))))) 25 0
 
 -- what is refused before anything is stored: 25, the rule's 1 to 7, the lasso's 8 and 9
 unfoldable pub inputCheck : (rule stem cycle states transitions initial image work : List ℕ) → Check

@@ -19,11 +19,13 @@ ghost use lib.Dec.{leb};
 ghost use Rattle.answer.specs.Result.{fine};
 ghost use Rattle.translation.specs.Degeneralized.{translation};
 ghost use Rattle.judge.specs.Judge.{judgeAnswer, workBytes};
+ghost use Rattle.automaton.specs.Limits.{statesBytes, transitionsBytes, initialBytes};
+ghost use Rattle.image.specs.Image.{largestImage};
 ghost use Rattle.demands.specs.Demand.{inputCheck, decision, concluded, decided};
 
 // Whether lent tables, an image's buffer and working bytes of these lengths are long enough.
 fn room_fits(states: usize, transitions: usize, initial: usize, image: usize, work: usize) -> bool
-    ensures { λ r. ⌜ r ≡ (leb 384 states && (leb 49152 transitions && (leb 192 initial && (leb 49746 image && leb workBytes work)))) ⌝ }
+    ensures { λ r. ⌜ r ≡ (leb statesBytes states && (leb transitionsBytes transitions && (leb initialBytes initial && (leb largestImage image && leb workBytes work)))) ⌝ }
 {
     if states < STATES_BYTES {
         return false;

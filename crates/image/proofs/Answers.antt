@@ -11,10 +11,11 @@ use borrow.Author.Tests.{leb-true, le-leb, lt-leb, not-true, not-false}
 use Rattle.answer.specs.Result.{Result, accepted, refused, fine}
 use Rattle.answer.proofs.Results.{require-fine}
 use Rattle.automaton.specs.Automaton.{Automaton}
+use Rattle.automaton.specs.Limits.{statesBytes, transitionsBytes, initialBytes}
 use Rattle.automaton.specs.Records.{stateRecords, transitionRecords, initialRecords}
 use Rattle.automaton.specs.Tables.{Counts, counts, Outcome, outcome, tableCheck}
 use Rattle.answer.specs.Bytes.{filled}
-use Rattle.image.specs.Image.{transitionsAt, initialAt, imageBytes}
+use Rattle.image.specs.Image.{transitionsAt, initialAt, imageBytes, contentsBytes, largestImage}
 use Rattle.image.specs.Reader.{countsAt, countsFit, recordsCheck, readTables}
 use Rattle.image.specs.Calls.{Buffer, buffer, written, writes, loaded, reads, checks}
 use Rattle.image.specs.Steps.{joinedOver, Loads}
@@ -25,13 +26,13 @@ use Rattle.image.proofs.Contents.{Contents, contents-fine, bodiesCheck,
 
 -- tables of the sizes that 25 asks for
 pub record Long (s t i : List ℕ) : Type 0 where
-  pub states : 384 ≤ length s
-  pub transitions : 49152 ≤ length t
-  pub initial : 192 ≤ length i
+  pub states : statesBytes ≤ length s
+  pub transitions : transitionsBytes ≤ length t
+  pub initial : initialBytes ≤ length i
 
 module _ (s t i : List ℕ) where
   abbrev sizes : Bool
-  sizes = leb 384 (length s) && (leb 49152 (length t) && leb 192 (length i))
+  sizes = leb statesBytes (length s) && (leb transitionsBytes (length t) && leb initialBytes (length i))
 
   tables-short : {r : Bool} → r ≡ sizes → not r ≡ true → tableCheck s t i ≡ refused 25 0
   unfolding tableCheck
@@ -44,13 +45,13 @@ module _ (s t i : List ℕ) where
   pub long-fine : tableCheck s t i ≡ fine → Long s t i
   unfolding tableCheck
   long-fine e =
-      let tests = and-eq-true-iff (leb 384 (length s)) _ .0 (require-fine sizes 25 0 e) in
-      let rest = and-eq-true-iff (leb 49152 (length t)) _ .0 (tests .1) in
-      record { states = leb-true 384 (length s) (tests .0); transitions = leb-true 49152 (length t) (rest .0); initial = leb-true 192 (length i) (rest .1) }
+      let tests = and-eq-true-iff (leb statesBytes (length s)) _ .0 (require-fine sizes 25 0 e) in
+      let rest = and-eq-true-iff (leb transitionsBytes (length t)) _ .0 (tests .1) in
+      record { states = leb-true statesBytes (length s) (tests .0); transitions = leb-true transitionsBytes (length t) (rest .0); initial = leb-true initialBytes (length i) (rest .1) }
 
   pub fine-long : Long s t i → tableCheck s t i ≡ fine
   unfolding tableCheck
-  fine-long long = rw (le-leb 384 (length s) (long .states), le-leb 49152 (length t) (long .transitions), le-leb 192 (length i) (long .initial))
+  fine-long long = rw (le-leb statesBytes (length s) (long .states), le-leb transitionsBytes (length t) (long .transitions), le-leb initialBytes (length i) (long .initial))
 
   pub tables-long : {r : Bool} → r ≡ sizes → not r ≡ false → Long s t i
   tables-long e f = long-fine (tables-fine e f)
@@ -68,32 +69,32 @@ module _ (s t i : List ℕ) where
   }
 
 -- the writer, its tests in their order
-module _ (c : Counts) (s t i image : List ℕ) {r : Bool} (fit : r ≡ (leb 384 (length s) && (leb 49152 (length t) && leb 192 (length i)))) where
+module _ (c : Counts) (s t i image : List ℕ) {r : Bool} (fit : r ≡ (leb statesBytes (length s) && (leb transitionsBytes (length t) && leb initialBytes (length i)))) where
   pub write-short : not r ≡ true → buffer (refused 25 0) image ≡ writes c s t i image
   unfolding writes
   write-short f = rw (tables-short s t i fit f)
 
   module _ (long : not r ≡ false) where
-    pub buffer-short : length image < 49746 → buffer (refused 25 0) image ≡ writes c s t i image
+    pub buffer-short : length image < largestImage → buffer (refused 25 0) image ≡ writes c s t i image
     unfolding writes
-    buffer-short lt = rw (tables-fine s t i fit long, lt-leb 49746 (length image) lt)
+    buffer-short lt = rw (tables-fine s t i fit long, lt-leb largestImage (length image) lt)
 
-    module _ (room : 49746 ≤ length image) {q : Bool} (counted : q ≡ countsFit c) where
+    module _ (room : largestImage ≤ length image) {q : Bool} (counted : q ≡ countsFit c) where
       pub counts-refused : not q ≡ true → buffer (refused 10 0) image ≡ writes c s t i image
       unfolding writes
-      counts-refused f = rw (tables-fine s t i fit long, le-leb 49746 (length image) room, ← counted, not-true q f)
+      counts-refused f = rw (tables-fine s t i fit long, le-leb largestImage (length image) room, ← counted, not-true q f)
 
       module _ (few : not q ≡ false) where
         pub records-refused : {number place : ℕ} → refused number place ≡ recordsCheck c s t i → buffer (refused number place) image ≡ writes c s t i image
         unfolding writes readTables
-        records-refused e = rw (tables-fine s t i fit long, le-leb 49746 (length image) room, ← counted, not-false q few, ← e)
+        records-refused e = rw (tables-fine s t i fit long, le-leb largestImage (length image) room, ← counted, not-false q few, ← e)
 
         pub write-accepted : {w : Buffer} → Bytes s → Bytes t → Bytes i → recordsCheck c s t i ≡ fine → w ≡ joinedOver c s t i image → w ≡ writes c s t i image
         unfolding writes readTables
         write-accepted bs bt bi checked e =
             let small = counts-small c (sym counted ∙ not-false q few) in
             let passed = long-passed s t i c small (tables-long s t i fit long) bs bt bi checked in
-            e ∙ rw (tables-fine s t i fit long, le-leb 49746 (length image) room, ← counted, not-false q few, checked, image-back c s t i passed, image-length c s t i passed)
+            e ∙ rw (tables-fine s t i fit long, le-leb largestImage (length image) room, ← counted, not-false q few, checked, image-back c s t i passed, image-length c s t i passed)
 
 -- what is written when a length is answered
 pub record Writes (r : Result Automaton) (n : ℕ) (before after : List ℕ) : Type 0 where
@@ -148,21 +149,21 @@ filled-long s t i x y z long = record {
 
 -- the bodies of an image, as three tables
 pub body-passed : (image : List ℕ) → Contents image → Bytes image → bodiesCheck (countsAt image) image ≡ fine
-    → Passed (countsAt image) (drop 18 image) (drop (transitionsAt (countsAt image)) image) (drop (initialAt (countsAt image)) image)
+    → Passed (countsAt image) (drop contentsBytes image) (drop (transitionsAt (countsAt image)) image) (drop (initialAt (countsAt image)) image)
 body-passed image contents bytes checked =
     let size = contents .size in
     record {
-      state-bytes = drop-bytes 18 image bytes;
+      state-bytes = drop-bytes contentsBytes image bytes;
       transition-bytes = drop-bytes (transitionsAt (countsAt image)) image bytes;
       initial-bytes = drop-bytes (initialAt (countsAt image)) image bytes;
-      state-room = rw (length-drop 18 image) (omega arith);
+      state-room = rw (length-drop contentsBytes image) (omega arith);
       transition-room = rw (length-drop (transitionsAt (countsAt image)) image) (omega arith);
       initial-room = rw (length-drop (initialAt (countsAt image)) image) (omega arith);
       checked = checked;
     }
 
 -- the reader, its tests in their order
-module _ (image s t i : List ℕ) {r : Bool} (fit : r ≡ (leb 384 (length s) && (leb 49152 (length t) && leb 192 (length i)))) where
+module _ (image s t i : List ℕ) {r : Bool} (fit : r ≡ (leb statesBytes (length s) && (leb transitionsBytes (length t) && leb initialBytes (length i)))) where
   pub read-short : not r ≡ true → outcome (refused 25 0) s t i ≡ reads image s t i
   unfolding reads
   read-short f = rw (tables-short s t i fit f)

@@ -13,7 +13,7 @@ use Rattle.answer.proofs.Results.{require-fine}
 use Rattle.automaton.specs.Automaton.{Automaton}
 use Rattle.automaton.specs.Tables.{Counts, counts}
 use Rattle.answer.specs.Bytes.{filled, numberAt}
-use Rattle.image.specs.Image.{transitionsAt, initialAt, imageLength}
+use Rattle.image.specs.Image.{transitionsAt, initialAt, imageLength, contentsBytes}
 use Rattle.image.specs.Reader.{countsAt, contentsCheck, recordsCheck, automatonFrom, readTables, readImage}
 use Rattle.image.specs.Calls.{checks}
 use Rattle.image.specs.Steps.{Loads}
@@ -27,7 +27,7 @@ pub record Contents (image : List ℕ) : Type 0 where
   pub kind₂ : numberAt image 6 ≡ 2
   pub kind₃ : numberAt image 12 ≡ 3
   pub small : Small (countsAt image)
-  pub offset₁ : numberAt image 4 ≡ 18
+  pub offset₁ : numberAt image 4 ≡ contentsBytes
   pub offset₂ : numberAt image 10 ≡ transitionsAt (countsAt image)
   pub offset₃ : numberAt image 16 ≡ initialAt (countsAt image)
   pub size : length image ≡ imageLength (countsAt image)
@@ -35,7 +35,7 @@ pub record Contents (image : List ℕ) : Type 0 where
 pub contents-fine : (image : List ℕ) → contentsCheck image ≡ fine → Contents image
 unfolding contentsCheck
 contents-fine image e =
-    let long = and-eq-true-iff (leb 18 (length image)) _ .0 (require-fine _ 10 0 e) in
+    let long = and-eq-true-iff (leb contentsBytes (length image)) _ .0 (require-fine _ 10 0 e) in
     let kinds = and-eq-true-iff _ _ .0 (long .1) in
     let kind = and-eq-true-iff _ _ .0 (kinds .0) in
     let last = and-eq-true-iff _ _ .0 (kind .1) in
@@ -48,7 +48,7 @@ contents-fine image e =
       kind₂ = eqb-true (numberAt image 6) 2 (last .0);
       kind₃ = eqb-true (numberAt image 12) 3 (last .1);
       small = counts-small (countsAt image) (small .0);
-      offset₁ = eqb-true (numberAt image 4) 18 (offset .0);
+      offset₁ = eqb-true (numberAt image 4) contentsBytes (offset .0);
       offset₂ = eqb-true (numberAt image 10) (transitionsAt (countsAt image)) (end .0);
       offset₃ = eqb-true (numberAt image 16) (initialAt (countsAt image)) (end .1);
       size = eqb-true (length image) (imageLength (countsAt image)) (size .1);
@@ -62,15 +62,15 @@ pub parts-whole : (c : Counts) (image : List ℕ) (a b d : ℕ) {r : Check} → 
     → r ≡ recordsCheck c (drop a image) (drop b image) (drop d image)
 parts-whole c image a b d e = rw (part-whole image a, part-whole image b, part-whole image d) at e
 
-pub parts-loaded : (image : List ℕ) (c : Counts) (s t i : List ℕ) {s₁ t₁ i₁ : List ℕ} → s₁ ≡ filled s (take (4 * c .states) (take (length image - 18) (drop 18 image)))
+pub parts-loaded : (image : List ℕ) (c : Counts) (s t i : List ℕ) {s₁ t₁ i₁ : List ℕ} → s₁ ≡ filled s (take (4 * c .states) (take (length image - contentsBytes) (drop contentsBytes image)))
     → t₁ ≡ filled t (take (4 * c .transitions) (take (length image - transitionsAt c) (drop (transitionsAt c) image)))
     → i₁ ≡ filled i (take (2 * c .initial) (take (length image - initialAt c) (drop (initialAt c) image))) → Loads image c s t i s₁ t₁ i₁
 parts-loaded image c s t i es et ei =
-    record { states-are = rw (part-whole image 18) at es; transitions-are = rw (part-whole image (transitionsAt c)) at et; initial-are = rw (part-whole image (initialAt c)) at ei }
+    record { states-are = rw (part-whole image contentsBytes) at es; transitions-are = rw (part-whole image (transitionsAt c)) at et; initial-are = rw (part-whole image (initialAt c)) at ei }
 
 -- the bodies of an image, where its contents say that they are
 abbrev pub bodiesCheck : Counts → List ℕ → Check
-bodiesCheck c image = recordsCheck c (drop 18 image) (drop (transitionsAt c) image) (drop (initialAt c) image)
+bodiesCheck c image = recordsCheck c (drop contentsBytes image) (drop (transitionsAt c) image) (drop (initialAt c) image)
 
 -- what the code knows of an image that 10 does not refuse
 pub record Sized (c : Counts) (image : List ℕ) : Type 0 where
@@ -95,7 +95,7 @@ module _ (image : List ℕ) where
         let f = rw (contents .same) at e in
         rw (contents .passed, ← f)
 
-    pub image-read : bodiesCheck c image ≡ fine → readImage image ≡ accepted (automatonFrom c (drop 18 image) (drop (transitionsAt c) image) (drop (initialAt c) image))
+    pub image-read : bodiesCheck c image ≡ fine → readImage image ≡ accepted (automatonFrom c (drop contentsBytes image) (drop (transitionsAt c) image) (drop (initialAt c) image))
     unfolding readImage readTables
     image-read e =
         let f = rw (contents .same) at e in
@@ -103,13 +103,13 @@ module _ (image : List ℕ) where
 
     pub image-accepted : bodiesCheck c image ≡ fine → accepted c ≡ checks image
     unfolding checks
-    image-accepted e = rw (image-read e, counts-back c (drop 18 image) (drop (transitionsAt c) image) (drop (initialAt c) image) e)
+    image-accepted e = rw (image-read e, counts-back c (drop contentsBytes image) (drop (transitionsAt c) image) (drop (initialAt c) image) e)
 
 -- an image that is read says what its contents and its bodies are
 pub record Read (image : List ℕ) (a : Automaton) : Type 0 where
   pub contents : contentsCheck image ≡ fine
   pub bodies : bodiesCheck (countsAt image) image ≡ fine
-  pub automaton : a ≡ automatonFrom (countsAt image) (drop 18 image) (drop (transitionsAt (countsAt image)) image) (drop (initialAt (countsAt image)) image)
+  pub automaton : a ≡ automatonFrom (countsAt image) (drop contentsBytes image) (drop (transitionsAt (countsAt image)) image) (drop (initialAt (countsAt image)) image)
 
 pub read-of : (image : List ℕ) (a : Automaton) → readImage image ≡ accepted a → Read image a
 unfolding readImage readTables
@@ -132,7 +132,7 @@ checks-of image c e = go (readImage image) refl e
     go : (r : Result Automaton) → readImage image ≡ r → accepted c ≡ andThen r (λ a. accepted (counts a)) → Checks image c
     go (accepted a) p e =
         let parts = read-of image a p in
-        let back = counts-back (countsAt image) (drop 18 image) (drop (transitionsAt (countsAt image)) image) (drop (initialAt (countsAt image)) image) (parts .bodies) in
+        let back = counts-back (countsAt image) (drop contentsBytes image) (drop (transitionsAt (countsAt image)) image) (drop (initialAt (countsAt image)) image) (parts .bodies) in
         let counted : c ≡ counts a = cc in
         record { automaton = a; read = p; same = counted ∙ ap counts (parts .automaton) ∙ back }
     go (refused number place) p e = not-both (sym e)

@@ -14,10 +14,11 @@ use borrow.Author.Tests.{lt-ltb, le-leb, eq-eqb}
 use Rattle.answer.specs.Result.{accepted, Check, fine, lowest}
 use Rattle.automaton.specs.Automaton.{Transition, State, Automaton, noState}
 use Rattle.sets.specs.Sets.{In}
+use Rattle.automaton.specs.Limits.{maxStates, maxOfState, maxTransitions, maxInitial}
 use Rattle.automaton.specs.Records.{records, stateRecord, transitionRecord, stateRecords, transitionRecords, initialRecords}
 use Rattle.answer.specs.Bytes.{twoBytes, numberAt}
 use Rattle.automaton.specs.Tables.{Counts, counts, transitionCount}
-use Rattle.image.specs.Image.{entry, transitionsAt, initialAt, imageLength, contents, imageBytes}
+use Rattle.image.specs.Image.{entry, transitionsAt, initialAt, imageLength, contents, imageBytes, contentsBytes}
 use Rattle.image.specs.Reader.{countsAt, countsFit, contentsCheck, stateCheck, sumCheck, transitionCheck, initialCheck, recordsCheck, automatonFrom, readTables, readImage}
 use Rattle.sets.proofs.Members.{at-in, append-in}
 use Rattle.automaton.proofs.WellFormed.{WellFormed, few-together}
@@ -59,7 +60,7 @@ together-in t (s ∷ ss) m = go (append-in t (s .transitions) (together ss) m) (
 record Contents (c : Counts) (image : List ℕ) : Type 0 where
   states-kind : numberAt image 0 ≡ 1
   states-count : numberAt image 2 ≡ c .states
-  states-offset : numberAt image 4 ≡ 18
+  states-offset : numberAt image 4 ≡ contentsBytes
   transitions-kind : numberAt image 6 ≡ 2
   transitions-count : numberAt image 8 ≡ c .transitions
   transitions-offset : numberAt image 10 ≡ transitionsAt c
@@ -74,7 +75,7 @@ contents-counts c image h = λ i. record { states = h .states-count i; transitio
 contents-pass : (c : Counts) (image : List ℕ) → Contents c image → countsFit c ≡ true → contentsCheck image ≡ fine
 unfolding contentsCheck
 contents-pass c image h fit =
-    rw (h .states-kind, h .states-count, h .states-offset, h .transitions-kind, h .transitions-count, h .transitions-offset, h .initial-kind, h .initial-count, h .initial-offset, h .size, le-leb 18 (imageLength c) (omega arith), fit, eq-eqb (transitionsAt c) (transitionsAt c) refl, eq-eqb (initialAt c) (initialAt c) refl, eq-eqb (imageLength c) (imageLength c) refl)
+    rw (h .states-kind, h .states-count, h .states-offset, h .transitions-kind, h .transitions-count, h .transitions-offset, h .initial-kind, h .initial-count, h .initial-offset, h .size, le-leb contentsBytes (imageLength c) (omega arith), fit, eq-eqb (transitionsAt c) (transitionsAt c) refl, eq-eqb (initialAt c) (initialAt c) refl, eq-eqb (imageLength c) (imageLength c) refl)
 
 zero-or-one : (b : Bool) → leb (cond b 1 0) 1 ≡ true
 zero-or-one true = refl
@@ -101,13 +102,13 @@ module _ (a : Automaton) where
     size = image-size a;
   }
 
-  states-body : drop 18 (imageBytes a) ≡ stateRecords a ++ (transitionRecords a ++ initialRecords a)
+  states-body : drop contentsBytes (imageBytes a) ≡ stateRecords a ++ (transitionRecords a ++ initialRecords a)
   unfolding imageBytes contents entry twoBytes
   states-body = refl
 
   transitions-body : drop (transitionsAt (counts a)) (imageBytes a) ≡ transitionRecords a ++ initialRecords a
   transitions-body =
-      sym (drop-drop (4 * length (a .states)) 18 (imageBytes a))
+      sym (drop-drop (4 * length (a .states)) contentsBytes (imageBytes a))
       ∙ ap (drop (4 * length (a .states))) states-body
       ∙ drop-at (stateRecords a) (transitionRecords a ++ initialRecords a) (4 * length (a .states)) (states-size a)
 
@@ -128,8 +129,8 @@ module _ (a : Automaton) (formed : WellFormed a) where
   pub counts-fit : countsFit (counts a) ≡ true
   unfolding countsFit
   counts-fit =
-      let few : transitionCount (a .states) ≤ 12288 = omega (arith, formed .states, few-together (length (a .states)) (a .states) (formed .each)) in
-      rw (le-leb (length (a .states)) 96 (formed .states), le-leb (transitionCount (a .states)) 12288 few, le-leb (length (a .initial)) 96 (formed .initial))
+      let few : transitionCount (a .states) ≤ maxTransitions = omega (arith, formed .states, few-together (length (a .states)) (a .states) (formed .each)) in
+      rw (le-leb (length (a .states)) maxStates (formed .states), le-leb (transitionCount (a .states)) maxTransitions few, le-leb (length (a .initial)) maxInitial (formed .initial))
 
   -- ---- 11 to 13
   module _ (rest : List ℕ) (i : ℕ) (inside : i < length (a .states)) where
@@ -152,7 +153,7 @@ module _ (a : Automaton) (formed : WellFormed a) where
     unfolding stateCheck
     state-fine =
         let few = formed .each state (at-in noState (a .states) i inside) .few in
-        rw (state-count, accepting-byte, last-byte, le-leb (length (state .transitions)) 128 few, zero-or-one (state .accepting))
+        rw (state-count, accepting-byte, last-byte, le-leb (length (state .transitions)) maxOfState few, zero-or-one (state .accepting))
 
   module _ (rest : List ℕ) (i : ℕ) (inside : i < transitionCount (a .states)) where
     none : Transition
@@ -208,7 +209,7 @@ module _ (a : Automaton) (formed : WellFormed a) where
     unfolding readTables
     tables-read = rw records-fine (ap accepted (automaton-read a s t i))
 
-  bodies-read : readTables (counts a) (drop 18 (imageBytes a)) (drop (transitionsAt (counts a)) (imageBytes a)) (drop (initialAt (counts a)) (imageBytes a)) ≡ accepted a
+  bodies-read : readTables (counts a) (drop contentsBytes (imageBytes a)) (drop (transitionsAt (counts a)) (imageBytes a)) (drop (initialAt (counts a)) (imageBytes a)) ≡ accepted a
   bodies-read = rw (states-body a, transitions-body a, initial-body a) (tables-read (transitionRecords a ++ initialRecords a) (initialRecords a) [])
 
 -- what the reader makes of an automaton's image is that automaton
@@ -217,5 +218,5 @@ unfolding readImage
 image-accepted a formed =
     let there = image-contents a in
     rw (contents-pass (counts a) (imageBytes a) there (counts-fit a formed))
-    (subst (λ (c : Counts). readTables c (drop 18 (imageBytes a)) (drop (transitionsAt c) (imageBytes a)) (drop (initialAt c) (imageBytes a)) ≡ accepted a)
+    (subst (λ (c : Counts). readTables c (drop contentsBytes (imageBytes a)) (drop (transitionsAt c) (imageBytes a)) (drop (initialAt c) (imageBytes a)) ≡ accepted a)
     (sym (contents-counts (counts a) (imageBytes a) there)) (bodies-read a formed))

@@ -12,7 +12,7 @@ use Rattle.answer.specs.Result.{accepted, fine}
 use Rattle.automaton.specs.Automaton.{Automaton}
 use Rattle.answer.specs.Bytes.{twoBytes, numberAt}
 use Rattle.automaton.specs.Tables.{Counts}
-use Rattle.image.specs.Image.{entry, transitionsAt, initialAt, imageLength, contents}
+use Rattle.image.specs.Image.{entry, transitionsAt, initialAt, imageLength, contents, contentsBytes}
 use Rattle.image.specs.Reader.{countsAt, countsFit, contentsCheck, readTables, readImage}
 use Rattle.image.specs.Steps.{joined}
 use Rattle.image.proofs.Contents.{Contents}
@@ -32,9 +32,9 @@ module _ (c : Counts) (rest : List ℕ) where
   contents-again : countsFit c ≡ true → length (contents c ++ rest) ≡ imageLength c → contentsCheck (contents c ++ rest) ≡ fine
   unfolding contentsCheck contents entry twoBytes
   contents-again fit size =
-      rw (two-read (c .states), two-read (c .transitions), two-read (c .initial), two-read (transitionsAt c), two-read (initialAt c), fit, eq-eqb (transitionsAt c) (transitionsAt c) refl, eq-eqb (initialAt c) (initialAt c) refl, eq-eqb (length (contents c ++ rest)) (imageLength c) size, le-leb 18 (length (contents c ++ rest)) (rw size (omega arith)))
+      rw (two-read (c .states), two-read (c .transitions), two-read (c .initial), two-read (transitionsAt c), two-read (initialAt c), fit, eq-eqb (transitionsAt c) (transitionsAt c) refl, eq-eqb (initialAt c) (initialAt c) refl, eq-eqb (length (contents c ++ rest)) (imageLength c) size, le-leb contentsBytes (length (contents c ++ rest)) (rw size (omega arith)))
 
-  contents-dropped : drop 18 (contents c ++ rest) ≡ rest
+  contents-dropped : drop contentsBytes (contents c ++ rest) ≡ rest
   unfolding contents entry twoBytes
   contents-dropped = refl
 
@@ -45,7 +45,7 @@ module _ (c : Counts) (s t i : List ℕ) (passed : Passed c s t i) where
 
   transitions-after : drop (transitionsAt c) (joined c s t i) ≡ transitionPart
   transitions-after =
-      sym (drop-drop (4 * c .states) 18 (joined c s t i))
+      sym (drop-drop (4 * c .states) contentsBytes (joined c s t i))
       ∙ ap (drop (4 * c .states)) (contents-dropped c (take (4 * c .states) s ++ transitionPart))
       ∙ drop-at (take (4 * c .states) s) transitionPart (4 * c .states) (length-take-le (4 * c .states) s (passed .state-room))
 
@@ -65,7 +65,7 @@ module _ (c : Counts) (s t i : List ℕ) (passed : Passed c s t i) where
       let found : contentsCheck (joined c s t i) ≡ fine = contents-again c bodies fit (image-length c s t i passed) in
       rw found (same-counts (countsAt (joined c s t i)) (counts-again c bodies))
     where
-      same-counts : (d : Counts) → d ≡ c → readTables d (drop 18 (joined c s t i)) (drop (transitionsAt d) (joined c s t i)) (drop (initialAt d) (joined c s t i)) ≡ accepted a
+      same-counts : (d : Counts) → d ≡ c → readTables d (drop contentsBytes (joined c s t i)) (drop (transitionsAt d) (joined c s t i)) (drop (initialAt d) (joined c s t i)) ≡ accepted a
       same-counts d same =
           rw (same, contents-dropped c (take (4 * c .states) s ++ transitionPart), transitions-after, initial-after)
           (tables-agree c s t i (take (4 * c .states) s ++ transitionPart) transitionPart (take (2 * c .initial) i) (front-agrees (4 * c .states) s transitionPart (passed .state-room)) (front-agrees (4 * c .transitions) t (take (2 * c .initial) i) (passed .transition-room)) initial-agrees a e)
@@ -89,13 +89,13 @@ module _ (image : List ℕ) (bytes : Bytes image) (fits : Contents image) where
   abbrev c : Counts
   c = countsAt image
 
-  contents-front : contents c ++ drop 18 image ≡ image
+  contents-front : contents c ++ drop contentsBytes image ≡ image
   unfolding contents
   contents-front =
       let size = fits .size in
-      rw (nine-together 1 (c .states) 18 2 (c .transitions) (transitionsAt c) 3 (c .initial) (initialAt c) (drop 18 image), number-front image 16 18 (initialAt c) bytes refl (omega arith) (sym (fits .offset₃)), number-front image 14 16 (c .initial) bytes refl (omega arith) refl, number-front image 12 14 3 bytes refl (omega arith) (sym (fits .kind₃)), number-front image 10 12 (transitionsAt c) bytes refl (omega arith) (sym (fits .offset₂)), number-front image 8 10 (c .transitions) bytes refl (omega arith) refl, number-front image 6 8 2 bytes refl (omega arith) (sym (fits .kind₂)), number-front image 4 6 18 bytes refl (omega arith) (sym (fits .offset₁)), number-front image 2 4 (c .states) bytes refl (omega arith) refl, number-front image 0 2 1 bytes refl (omega arith) (sym (fits .kind₁)))
+      rw (nine-together 1 (c .states) contentsBytes 2 (c .transitions) (transitionsAt c) 3 (c .initial) (initialAt c) (drop contentsBytes image), number-front image 16 18 (initialAt c) bytes refl (omega arith) (sym (fits .offset₃)), number-front image 14 16 (c .initial) bytes refl (omega arith) refl, number-front image 12 14 3 bytes refl (omega arith) (sym (fits .kind₃)), number-front image 10 12 (transitionsAt c) bytes refl (omega arith) (sym (fits .offset₂)), number-front image 8 10 (c .transitions) bytes refl (omega arith) refl, number-front image 6 8 2 bytes refl (omega arith) (sym (fits .kind₂)), number-front image 4 6 contentsBytes bytes refl (omega arith) (sym (fits .offset₁)), number-front image 2 4 (c .states) bytes refl (omega arith) refl, number-front image 0 2 1 bytes refl (omega arith) (sym (fits .kind₁)))
 
-  pub whole-image : joined c (drop 18 image) (drop (transitionsAt c) image) (drop (initialAt c) image) ≡ image
+  pub whole-image : joined c (drop contentsBytes image) (drop (transitionsAt c) image) (drop (initialAt c) image) ≡ image
   whole-image =
       let size = fits .size in
-      rw (take-all (2 * c .initial) (drop (initialAt c) image) (rw (length-drop (initialAt c) image) (omega arith)), part-front image (transitionsAt c) (4 * c .transitions) (initialAt c) refl, part-front image 18 (4 * c .states) (transitionsAt c) refl) contents-front
+      rw (take-all (2 * c .initial) (drop (initialAt c) image) (rw (length-drop (initialAt c) image) (omega arith)), part-front image (transitionsAt c) (4 * c .transitions) (initialAt c) refl, part-front image contentsBytes (4 * c .states) (transitionsAt c) refl) contents-front

@@ -13,7 +13,7 @@ use lib.Dec.{eqb}
 use borrow.Author.Tests.{eqb-true, eq-eqb}
 use Rattle.automaton.specs.Automaton.{Transition, State, noState, reads, Step, Accepts}
 use Rattle.sets.specs.Sets.{In}
-use Rattle.image.specs.Image.{transitionsAt, initialAt}
+use Rattle.image.specs.Image.{transitionsAt, initialAt, contentsBytes}
 use Rattle.answer.specs.Bytes.{numberAt}
 use Rattle.image.specs.Reader.{countsAt, countSum, transitionsFrom, statesFrom, numbersFrom, automatonFrom}
 use Rattle.image.proofs.Tables.{sum-first, states-length}
@@ -108,13 +108,13 @@ module _ (image : List ℕ) where
   abbrev count : ℕ
   count = numberAt image 2
 
-  machine-state : (q : ℕ) → q < count → getD (machine image .states) q noState ≡ stateOf (drop 18 image) (drop (transitionsAt (countsAt image)) image) q
+  machine-state : (q : ℕ) → q < count → getD (machine image .states) q noState ≡ stateOf (drop contentsBytes image) (drop (transitionsAt (countsAt image)) image) q
   unfolding automatonFrom
-  machine-state q lt = state-at count (drop 18 image) (drop (transitionsAt (countsAt image)) image) q lt
+  machine-state q lt = state-at count (drop contentsBytes image) (drop (transitionsAt (countsAt image)) image) q lt
 
   pub machine-states : length (machine image .states) ≡ count
   unfolding automatonFrom
-  machine-states = states-length count (drop 18 image) (drop (transitionsAt (countsAt image)) image)
+  machine-states = states-length count (drop contentsBytes image) (drop (transitionsAt (countsAt image)) image)
 
   machine-none : (q : ℕ) → count ≤ q → getD (machine image .states) q noState ≡ noState
   machine-none q le = List·getD-eq-default (machine image .states) noState (omega (arith, machine-states))
@@ -122,14 +122,14 @@ module _ (image : List ℕ) where
   -- a transition of state q that reads x and leads to t, as a record among those of q
   pub record Taken (q x t : ℕ) : Type 0 where
     pub index : ℕ
-    pub below : index < numberAt image (18 + 4 * q)
+    pub below : index < numberAt image (contentsBytes + 4 * q)
     pub takes : reads (recordAt image (recordsAt image q + 4 * index)) x ≡ true
     pub reaches : t ≡ numberAt image (recordsAt image q + 4 * index + 2)
 
-  record-place : (q i : ℕ) → recordAt (drop (4 * countSum (drop 18 image) q) (drop (transitionsAt (countsAt image)) image)) (4 * i) ≡ recordAt image (recordsAt image q + 4 * i)
+  record-place : (q i : ℕ) → recordAt (drop (4 * countSum (drop contentsBytes image) q) (drop (transitionsAt (countsAt image)) image)) (4 * i) ≡ recordAt image (recordsAt image q + 4 * i)
   record-place q i =
-      record-drop (4 * countSum (drop 18 image) q) (drop (transitionsAt (countsAt image)) image) (4 * i)
-      ∙ record-drop (transitionsAt (countsAt image)) image (4 * countSum (drop 18 image) q + 4 * i)
+      record-drop (4 * countSum (drop contentsBytes image) q) (drop (transitionsAt (countsAt image)) image) (4 * i)
+      ∙ record-drop (transitionsAt (countsAt image)) image (4 * countSum (drop contentsBytes image) q + 4 * i)
       ∙ ap (recordAt image) (omega arith)
 
   pub step-inside : (q x t : ℕ) → Step (machine image) q x t → q < count
@@ -143,12 +143,12 @@ module _ (image : List ℕ) where
   step-taken q x t step = go step (step-inside q x t step)
     where
       made : (s : Transition) → reads s x ≡ true → t ≡ s .target
-          → (i : ℕ) × (i < numberAt (drop 18 image) (4 * q)) × (s ≡ recordAt (drop (4 * countSum (drop 18 image) q) (drop (transitionsAt (countsAt image)) image)) (4 * i)) → Taken q x t
+          → (i : ℕ) × (i < numberAt (drop contentsBytes image) (4 * q)) × (s ≡ recordAt (drop (4 * countSum (drop contentsBytes image) q) (drop (transitionsAt (countsAt image)) image)) (4 * i)) → Taken q x t
       made s r e (i, lt, f) =
           let g : s ≡ recordAt image (recordsAt image q + 4 * i) = f ∙ record-place q i in
           record {
             index = i;
-            below = rw (number-drop 18 image (4 * q)) at lt;
+            below = rw (number-drop contentsBytes image (4 * q)) at lt;
             takes = subst (λ (s : Transition). reads s x ≡ true) g r;
             reaches = e ∙ ap (λ (s : Transition). s .target) g;
           }
@@ -160,14 +160,14 @@ module _ (image : List ℕ) where
   taken-step q x t lt h = (
     recordAt image (recordsAt image q + 4 * h .index),
     subst (λ (st : State). In (recordAt image (recordsAt image q + 4 * h .index)) (st .transitions)) (sym (machine-state q lt))
-        (rw (record-place q (h .index)) at (entry-listed every-record (numberAt (drop 18 image) (4 * q)) (drop (4 * countSum (drop 18 image) q) (drop (transitionsAt (countsAt image)) image)) (h .index) (rw (number-drop 18 image (4 * q)) (h .below)))),
+        (rw (record-place q (h .index)) at (entry-listed every-record (numberAt (drop contentsBytes image) (4 * q)) (drop (4 * countSum (drop contentsBytes image) q) (drop (transitionsAt (countsAt image)) image)) (h .index) (rw (number-drop contentsBytes image (4 * q)) (h .below)))),
     h .takes,
     h .reaches,
   )
 
   -- the accepting byte of state q
-  byte-place : (q : ℕ) → getD (drop 18 image) (4 * q + 2) 0 ≡ getD image (20 + 4 * q) 0
-  byte-place q = getD-drop 18 image (4 * q + 2) 0 ∙ ap (λ (i : ℕ). getD image i 0) (omega arith)
+  byte-place : (q : ℕ) → getD (drop contentsBytes image) (4 * q + 2) 0 ≡ getD image (20 + 4 * q) 0
+  byte-place q = getD-drop contentsBytes image (4 * q + 2) 0 ∙ ap (λ (i : ℕ). getD image i 0) (omega arith)
 
   pub accepts-inside : (q : ℕ) → Accepts (machine image) q → q < count
   accepts-inside q h = go (decLt q count)
@@ -181,11 +181,11 @@ module _ (image : List ℕ) where
 
   pub accepts-byte : (q : ℕ) → Accepts (machine image) q → getD image (20 + 4 * q) 0 ≡ 1
   accepts-byte q h =
-      sym (byte-place q) ∙ eqb-true (getD (drop 18 image) (4 * q + 2) 0) 1 (subst (λ (st : State). st .accepting ≡ true) (machine-state q (accepts-inside q h)) h)
+      sym (byte-place q) ∙ eqb-true (getD (drop contentsBytes image) (4 * q + 2) 0) 1 (subst (λ (st : State). st .accepting ≡ true) (machine-state q (accepts-inside q h)) h)
 
   pub byte-accepts : (q : ℕ) → q < count → getD image (20 + 4 * q) 0 ≡ 1 → Accepts (machine image) q
   byte-accepts q lt e =
-      subst (λ (st : State). st .accepting ≡ true) (sym (machine-state q lt)) (eq-eqb (getD (drop 18 image) (4 * q + 2) 0) 1 (byte-place q ∙ e))
+      subst (λ (st : State). st .accepting ≡ true) (sym (machine-state q lt)) (eq-eqb (getD (drop contentsBytes image) (4 * q + 2) 0) 1 (byte-place q ∙ e))
 
   -- the initial numbers
   pub initial-number : (q : ℕ) → In q (machine image .initial) → (i : ℕ) × (i < numberAt image 14) × (q ≡ numberAt image (initialAt (countsAt image) + 2 * i))
@@ -202,19 +202,19 @@ module _ (image : List ℕ) where
   -- what the checks say of these places
   module _ (fine : Readable image) where
     -- a record of state q lies among all records, and its target is a state
-    pub record-inside : (q i : ℕ) → q < count → i < numberAt image (18 + 4 * q) → countSum (drop 18 image) q + i < numberAt image 8
+    pub record-inside : (q i : ℕ) → q < count → i < numberAt image (contentsBytes + 4 * q) → countSum (drop contentsBytes image) q + i < numberAt image 8
     unfolding countSum
     record-inside q i lq li =
-        omega (arith, count-up (drop 18 image) (suc q) count lq, fine .sum, number-drop 18 image (4 * q))
+        omega (arith, count-up (drop contentsBytes image) (suc q) count lq, fine .sum, number-drop contentsBytes image (4 * q))
 
-    pub records-end : (q : ℕ) → q < count → recordsAt image q + 4 * numberAt image (18 + 4 * q) ≤ length image
+    pub records-end : (q : ℕ) → q < count → recordsAt image q + 4 * numberAt image (contentsBytes + 4 * q) ≤ length image
     unfolding countSum
-    records-end q lq = omega (arith, count-up (drop 18 image) (suc q) count lq, fine .sum, fine .size, number-drop 18 image (4 * q))
+    records-end q lq = omega (arith, count-up (drop contentsBytes image) (suc q) count lq, fine .sum, fine .size, number-drop contentsBytes image (4 * q))
 
-    pub target-inside : (q i : ℕ) → q < count → i < numberAt image (18 + 4 * q) → numberAt image (recordsAt image q + 4 * i + 2) < count
+    pub target-inside : (q i : ℕ) → q < count → i < numberAt image (contentsBytes + 4 * q) → numberAt image (recordsAt image q + 4 * i + 2) < count
     target-inside q i lq li =
-        let e : transitionsAt (countsAt image) + (4 * (countSum (drop 18 image) q + i) + 2) ≡ recordsAt image q + 4 * i + 2 = omega arith in
-        subst (λ (j : ℕ). numberAt image j < count) e (rw (number-drop (transitionsAt (countsAt image)) image (4 * (countSum (drop 18 image) q + i) + 2)) at (fine .targets (countSum (drop 18 image) q + i) (record-inside q i lq li)))
+        let e : transitionsAt (countsAt image) + (4 * (countSum (drop contentsBytes image) q + i) + 2) ≡ recordsAt image q + 4 * i + 2 = omega arith in
+        subst (λ (j : ℕ). numberAt image j < count) e (rw (number-drop (transitionsAt (countsAt image)) image (4 * (countSum (drop contentsBytes image) q + i) + 2)) at (fine .targets (countSum (drop contentsBytes image) q + i) (record-inside q i lq li)))
 
     pub step-target : (q x t : ℕ) → Step (machine image) q x t → t < count
     step-target q x t step =

@@ -1,5 +1,5 @@
--- How many bytes the image of an automaton takes: 18 for the contents, and 4, 4 and 2 a record, so that its counts alone
--- decide it. Assumes nothing.
+-- How many bytes the image of an automaton takes: those of the contents, and 4, 4 and 2 a record, so that its counts
+-- alone decide it. Assumes nothing.
 use mathlib.Core.Path.{_≡_}
 use mathlib.Core.List.{_++_}
 use Prim.Native.Nat.{_*_}

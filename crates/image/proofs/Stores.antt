@@ -9,7 +9,7 @@ use borrow.Rule.Slice.PartMut.{midOf, putMid}
 use Rattle.answer.specs.Bytes.{twoBytes, filled}
 use Rattle.automaton.specs.Tables.{Counts}
 use Rattle.answer.specs.Result.{accepted}
-use Rattle.image.specs.Image.{entry, transitionsAt, initialAt, imageLength, contents}
+use Rattle.image.specs.Image.{entry, transitionsAt, initialAt, imageLength, contents, contentsBytes}
 use Rattle.image.specs.Calls.{buffer}
 use Rattle.image.specs.Steps.{joinedOver}
 
@@ -46,13 +46,13 @@ copied-zeroed table source xs ys n room le whole e =
     lent-back (take n source) (drop n table) xs n size whole ys ∙ rw (e, lent-part (take n source) (drop n table) xs n size whole, length-drop n table, size)
 
 -- three entries, the last two in lent parts, are the contents
-pub contents-written : (c : Counts) (image xs ys zs : List ℕ) → xs ≡ entry 1 (c .states) 18 ++ drop 6 image
+pub contents-written : (c : Counts) (image xs ys zs : List ℕ) → xs ≡ entry 1 (c .states) contentsBytes ++ drop 6 image
     → ys ≡ entry 2 (c .transitions) (transitionsAt c) ++ drop 6 (midOf 6 (length xs - 6) xs)
     → zs ≡ entry 3 (c .initial) (initialAt c) ++ drop 6 (midOf 12 (length (putMid 6 (length xs - 6) xs ys) - 12) (putMid 6 (length xs - 6) xs ys))
-    → putMid 12 (length (putMid 6 (length xs - 6) xs ys) - 12) (putMid 6 (length xs - 6) xs ys) zs ≡ contents c ++ drop 18 image
+    → putMid 12 (length (putMid 6 (length xs - 6) xs ys) - 12) (putMid 6 (length xs - 6) xs ys) zs ≡ contents c ++ drop contentsBytes image
 unfolding contents entry twoBytes
 contents-written c image xs ys zs first second third =
-    let one = entry 1 (c .states) 18 in
+    let one = entry 1 (c .states) contentsBytes in
     let two = entry 2 (c .transitions) (transitionsAt c) in
     lent-more (one ++ two) (entry 3 (c .initial) (initialAt c)) image (putMid 6 (length xs - 6) xs ys) zs 12 6 refl (lent-more one two image xs ys 6 6 refl first second) third
 
@@ -61,19 +61,19 @@ four-together a b c d = simp append-assoc
 
 -- and three copies in lent parts after them are an image over the buffer
 module _ (c : Counts) (s t i image xs ys zs ws : List ℕ) (state-room : 4 * c .states ≤ length s) (transition-room : 4 * c .transitions ≤ length t)
-    (first : xs ≡ contents c ++ drop 18 image) (second : ys ≡ take (4 * c .states) s ++ drop (4 * c .states) (midOf 18 (length xs - 18) xs)) where
+    (first : xs ≡ contents c ++ drop contentsBytes image) (second : ys ≡ take (4 * c .states) s ++ drop (4 * c .states) (midOf contentsBytes (length xs - contentsBytes) xs)) where
   abbrev us : List ℕ
-  us = putMid 18 (length xs - 18) xs ys
+  us = putMid contentsBytes (length xs - contentsBytes) xs ys
 
   abbrev vs : List ℕ
   vs = putMid (transitionsAt c) (length us - transitionsAt c) us zs
 
-  contents-length : length (contents c) ≡ 18
+  contents-length : length (contents c) ≡ contentsBytes
   unfolding contents entry twoBytes
   contents-length = refl
 
   states-in : us ≡ (contents c ++ take (4 * c .states) s) ++ drop (transitionsAt c) image
-  states-in = lent-more (contents c) (take (4 * c .states) s) image xs ys 18 (4 * c .states) contents-length first second
+  states-in = lent-more (contents c) (take (4 * c .states) s) image xs ys contentsBytes (4 * c .states) contents-length first second
 
   states-end : length (contents c ++ take (4 * c .states) s) ≡ transitionsAt c
   states-end = rw (length-append (contents c) (take (4 * c .states) s), contents-length, length-take-le (4 * c .states) s state-room)

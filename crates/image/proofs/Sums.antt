@@ -12,12 +12,13 @@ use Rattle.answer.specs.Result.{accepted, refused, andThen, Check, fine, requir
 use Rattle.answer.proofs.Lowest.{Passing, pass-begins, pass-steps, pass-fails, pass-ends}
 use Rattle.answer.proofs.Results.{require-fine}
 use Rattle.answer.specs.Bytes.{numberAt}
+use Rattle.automaton.specs.Limits.{maxOfState}
 use Rattle.image.specs.Reader.{stateCheck, countSum}
 use Rattle.image.proofs.Before.{passes, refuses}
 
 -- what a fine check says of state record i
 pub record StateFits (s : List ℕ) (i : ℕ) : Type 0 where
-  pub count : numberAt s (4 * i) ≤ 128
+  pub count : numberAt s (4 * i) ≤ maxOfState
   pub flag : getD s (4 * i + 2) 0 ≤ 1
   pub last : getD s (4 * i + 3) 0 ≡ 0
 
@@ -26,12 +27,12 @@ unfolding stateCheck
 state-fine s i e =
     let tests = and-eq-true-iff _ _ .0 (require-fine _ 11 i e) in
     let bytes = and-eq-true-iff _ _ .0 (tests .1) in
-    record { count = leb-true (numberAt s (4 * i)) 128 (tests .0); flag = leb-true (getD s (4 * i + 2) 0) 1 (bytes .0); last = eqb-true (getD s (4 * i + 3) 0) 0 (bytes .1) }
+    record { count = leb-true (numberAt s (4 * i)) maxOfState (tests .0); flag = leb-true (getD s (4 * i + 2) 0) 1 (bytes .0); last = eqb-true (getD s (4 * i + 3) 0) 0 (bytes .1) }
 
 pub record Summing (s : List ℕ) (n total i : ℕ) : Type 0 where
   pub passing : Passing (stateCheck s) n i
   pub sum : total ≡ countSum s i
-  pub most : total ≤ 128 * i
+  pub most : total ≤ maxOfState * i
 
 module _ (s : List ℕ) (n : ℕ) where
   pub sum-begins : Summing s n 0 0

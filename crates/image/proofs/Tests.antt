@@ -9,8 +9,9 @@ use lib.Dec.{leb, eqb}
 use lib.Bits.{bitAnd}
 use borrow.Author.Tests.{leb-true, lt-ltb, le-ltb, le-leb, lt-leb, eq-eqb, ne-eqb, not-true, not-false}
 use Rattle.answer.specs.Result.{Result, accepted, refused, andThen, Check, fine, lowest}
+use Rattle.automaton.specs.Limits.{maxStates, maxOfState, maxTransitions, maxInitial}
 use Rattle.automaton.specs.Tables.{Counts, countsOf}
-use Rattle.image.specs.Image.{transitionsAt, initialAt, imageLength}
+use Rattle.image.specs.Image.{transitionsAt, initialAt, imageLength, contentsBytes}
 use Rattle.answer.specs.Bytes.{numberAt}
 use Rattle.image.specs.Reader.{countsAt, countsFit, contentsCheck, stateCheck, sumCheck, transitionCheck, initialCheck, recordsCheck}
 
@@ -39,20 +40,20 @@ module _ (x a y b z d : ℕ) where
 
 -- what it says of counts that they fit
 pub record Small (c : Counts) : Type 0 where
-  pub states : c .states ≤ 96
-  pub transitions : c .transitions ≤ 12288
-  pub initial : c .initial ≤ 96
+  pub states : c .states ≤ maxStates
+  pub transitions : c .transitions ≤ maxTransitions
+  pub initial : c .initial ≤ maxInitial
 
 pub counts-small : (c : Counts) → countsFit c ≡ true → Small c
 unfolding countsFit
 counts-small c e =
     let tests = and-eq-true-iff _ _ .0 e in
     let rest = and-eq-true-iff _ _ .0 (tests .1) in
-    record { states = leb-true (c .states) 96 (tests .0); transitions = leb-true (c .transitions) 12288 (rest .0); initial = leb-true (c .initial) 96 (rest .1) }
+    record { states = leb-true (c .states) maxStates (tests .0); transitions = leb-true (c .transitions) maxTransitions (rest .0); initial = leb-true (c .initial) maxInitial (rest .1) }
 
 pub small-fits : (c : Counts) → Small c → countsFit c ≡ true
 unfolding countsFit
-small-fits c small = rw (le-leb (c .states) 96 (small .states), le-leb (c .transitions) 12288 (small .transitions), le-leb (c .initial) 96 (small .initial))
+small-fits c small = rw (le-leb (c .states) maxStates (small .states), le-leb (c .transitions) maxTransitions (small .transitions), le-leb (c .initial) maxInitial (small .initial))
 
 -- the contents of an image, by the tests in their order
 module _ (image : List ℕ) where
@@ -60,59 +61,59 @@ module _ (image : List ℕ) where
   kinds = eqb (numberAt image 0) 1 && (eqb (numberAt image 6) 2 && eqb (numberAt image 12) 3)
 
   abbrev offsets : Counts → Bool
-  offsets c = eqb (numberAt image 4) 18 && (eqb (numberAt image 10) (transitionsAt c) && eqb (numberAt image 16) (initialAt c))
+  offsets c = eqb (numberAt image 4) contentsBytes && (eqb (numberAt image 10) (transitionsAt c) && eqb (numberAt image 16) (initialAt c))
 
   abbrev contentsAnswer : Result Counts
   contentsAnswer = andThen (contentsCheck image) (λ _. accepted (countsAt image))
 
-  pub image-short : length image < 18 → refused 10 0 ≡ contentsAnswer
+  pub image-short : length image < contentsBytes → refused 10 0 ≡ contentsAnswer
   unfolding contentsCheck
-  image-short lt = rw (lt-leb 18 (length image) lt)
+  image-short lt = rw (lt-leb contentsBytes (length image) lt)
 
-  module _ (long : 18 ≤ length image) where
+  module _ (long : contentsBytes ≤ length image) where
     pub kinds-wrong : {r : Bool} → r ≡ kinds → not r ≡ true → refused 10 0 ≡ contentsAnswer
     unfolding contentsCheck
-    kinds-wrong {r} e f = rw (le-leb 18 (length image) long, ← e, not-true r f)
+    kinds-wrong {r} e f = rw (le-leb contentsBytes (length image) long, ← e, not-true r f)
 
     -- the counts as the code has read them
     module _ {r : Bool} (known : r ≡ kinds) (passed : not r ≡ false) (a b d : ℕ) (states : a ≡ numberAt image 2) (transitions : b ≡ numberAt image 8) (initial : d ≡ numberAt image 14) where
       pub counts-wrong : {t : Bool} → t ≡ countsFit (countsOf a b d) → not t ≡ true → refused 10 0 ≡ contentsAnswer
       unfolding contentsCheck
-      counts-wrong {t} e f = rw (le-leb 18 (length image) long, ← known, not-false r passed, ← states, ← transitions, ← initial, ← e, not-true t f)
+      counts-wrong {t} e f = rw (le-leb contentsBytes (length image) long, ← known, not-false r passed, ← states, ← transitions, ← initial, ← e, not-true t f)
 
       module _ {t : Bool} (small : t ≡ countsFit (countsOf a b d)) (fits : not t ≡ false) where
         pub offsets-wrong : {o : Bool} → o ≡ offsets (countsOf a b d) → not o ≡ true → refused 10 0 ≡ contentsAnswer
         unfolding contentsCheck
-        offsets-wrong {o} e f = rw (le-leb 18 (length image) long, ← known, not-false r passed, ← states, ← transitions, ← initial, ← small, not-false t fits, ← e, not-true o f)
+        offsets-wrong {o} e f = rw (le-leb contentsBytes (length image) long, ← known, not-false r passed, ← states, ← transitions, ← initial, ← small, not-false t fits, ← e, not-true o f)
 
         module _ {o : Bool} (tight : o ≡ offsets (countsOf a b d)) (agree : not o ≡ false) where
           pub length-wrong : (length image ≡ imageLength (countsOf a b d) → ⊥) → refused 10 0 ≡ contentsAnswer
           unfolding contentsCheck
-          length-wrong ne = rw (le-leb 18 (length image) long, ← known, not-false r passed, ← states, ← transitions, ← initial, ← small, not-false t fits, ← tight, not-false o agree, ne-eqb (length image) (imageLength (countsOf a b d)) ne)
+          length-wrong ne = rw (le-leb contentsBytes (length image) long, ← known, not-false r passed, ← states, ← transitions, ← initial, ← small, not-false t fits, ← tight, not-false o agree, ne-eqb (length image) (imageLength (countsOf a b d)) ne)
 
           pub contents-fit : length image ≡ imageLength (countsOf a b d) → accepted (countsOf a b d) ≡ contentsAnswer
           unfolding contentsCheck
-          contents-fit e = rw (le-leb 18 (length image) long, ← known, not-false r passed, ← states, ← transitions, ← initial, ← small, not-false t fits, ← tight, not-false o agree, eq-eqb (length image) (imageLength (countsOf a b d)) e)
+          contents-fit e = rw (le-leb contentsBytes (length image) long, ← known, not-false r passed, ← states, ← transitions, ← initial, ← small, not-false t fits, ← tight, not-false o agree, eq-eqb (length image) (imageLength (countsOf a b d)) e)
 
 -- state record i
 module _ (s : List ℕ) (i : ℕ) where
-  pub count-over : 128 < numberAt s (4 * i) → refused 11 i ≡ andThen (stateCheck s i) (λ _. accepted (numberAt s (4 * i)))
+  pub count-over : maxOfState < numberAt s (4 * i) → refused 11 i ≡ andThen (stateCheck s i) (λ _. accepted (numberAt s (4 * i)))
   unfolding stateCheck
-  count-over lt = rw (lt-leb (numberAt s (4 * i)) 128 lt)
+  count-over lt = rw (lt-leb (numberAt s (4 * i)) maxOfState lt)
 
-  module _ (small : numberAt s (4 * i) ≤ 128) where
+  module _ (small : numberAt s (4 * i) ≤ maxOfState) where
     pub accepting-wrong : 1 < getD s (4 * i + 2) 0 → refused 11 i ≡ andThen (stateCheck s i) (λ _. accepted (numberAt s (4 * i)))
     unfolding stateCheck
-    accepting-wrong lt = rw (le-leb (numberAt s (4 * i)) 128 small, lt-leb (getD s (4 * i + 2) 0) 1 lt)
+    accepting-wrong lt = rw (le-leb (numberAt s (4 * i)) maxOfState small, lt-leb (getD s (4 * i + 2) 0) 1 lt)
 
     module _ (flag : getD s (4 * i + 2) 0 ≤ 1) where
       pub last-wrong : (getD s (4 * i + 3) 0 ≡ 0 → ⊥) → refused 11 i ≡ andThen (stateCheck s i) (λ _. accepted (numberAt s (4 * i)))
       unfolding stateCheck
-      last-wrong ne = rw (le-leb (numberAt s (4 * i)) 128 small, le-leb (getD s (4 * i + 2) 0) 1 flag, ne-eqb (getD s (4 * i + 3) 0) 0 ne)
+      last-wrong ne = rw (le-leb (numberAt s (4 * i)) maxOfState small, le-leb (getD s (4 * i + 2) 0) 1 flag, ne-eqb (getD s (4 * i + 3) 0) 0 ne)
 
       pub state-fits : {n : ℕ} → getD s (4 * i + 3) 0 ≡ 0 → n ≡ numberAt s (4 * i) → accepted n ≡ andThen (stateCheck s i) (λ _. accepted (numberAt s (4 * i)))
       unfolding stateCheck
-      state-fits e f = rw (le-leb (numberAt s (4 * i)) 128 small, le-leb (getD s (4 * i + 2) 0) 1 flag, eq-eqb (getD s (4 * i + 3) 0) 0 e, f)
+      state-fits e f = rw (le-leb (numberAt s (4 * i)) maxOfState small, le-leb (getD s (4 * i + 2) 0) 1 flag, eq-eqb (getD s (4 * i + 3) 0) 0 e, f)
 
 -- transition record i, in an automaton of n states
 module _ (n : ℕ) (t : List ℕ) (i : ℕ) where

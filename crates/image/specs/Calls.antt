@@ -12,7 +12,7 @@ use Rattle.image.specs.declared.Written.{Written}
 use Rattle.image.specs.declared.Written.the-variants.{Length, Refused}
 use Rattle.image.specs.declared.Loaded.{Loaded}
 use Rattle.image.specs.declared.Loaded.the-variants.{Counted, Rejected}
-use Rattle.image.specs.Image.{imageBytes}
+use Rattle.image.specs.Image.{imageBytes, largestImage}
 use Rattle.image.specs.Reader.{countsFit, readTables, readImage}
 
 -- what the answer of write says in document 01's numbers and values
@@ -28,10 +28,9 @@ pub record Buffer : Type 0 where
 abbrev pub buffer : Result ℕ → List ℕ → Buffer
 buffer a image = record { answer = a; image = image }
 
--- 25, at place 0: a buffer too small for the largest image, which has 49,746 bytes (01, Numbers that come from the
--- state, 25)
+-- 25, at place 0: a buffer too small for the largest image (01, Numbers that come from the state, 25)
 abbrev pub bufferCheck : List ℕ → Check
-bufferCheck image = require (leb 49746 (length image)) 25 0
+bufferCheck image = require (leb largestImage (length image)) 25 0
 
 -- the buffer with the image at its start, and behind it what was there before; a refusal changes no byte (01, Numbers
 -- that come from the state, last paragraph, sentence 4)

@@ -3,6 +3,7 @@ use Prim.Native.Nat.{ℕ, _+_, _*_}
 use mathlib.Core.List.{List, _++_}
 use Rattle.automaton.specs.Automaton.{Automaton}
 use Rattle.answer.specs.Bytes.{twoBytes}
+use Rattle.automaton.specs.Limits.{statesBytes, transitionsBytes, initialBytes}
 use Rattle.automaton.specs.Records.{stateRecords, transitionRecords, initialRecords}
 use Rattle.automaton.specs.Tables.{Counts, counts}
 
@@ -11,11 +12,15 @@ use Rattle.automaton.specs.Tables.{Counts, counts}
 unfoldable pub entry : (kind count offset : ℕ) → List ℕ
 entry kind count offset = twoBytes kind ++ (twoBytes count ++ twoBytes offset)
 
--- where the transitions begin, where the initial numbers begin and where the image ends: the states begin at 18, and
--- each body begins where the one before it ends; a state or a transition takes 4 bytes, an initial number 2 (01, The
--- image, sentence 4)
+-- the bytes of the table of contents, three entries: where the states begin (01, The image, sentence 4)
+abbrev pub contentsBytes : ℕ
+contentsBytes = 18
+
+-- where the transitions begin, where the initial numbers begin and where the image ends: the states begin behind the
+-- contents, and each body begins where the one before it ends; a state or a transition takes 4 bytes, an initial
+-- number 2 (01, The image, sentence 4)
 abbrev pub transitionsAt : Counts → ℕ
-transitionsAt c = 18 + 4 * c .states
+transitionsAt c = contentsBytes + 4 * c .states
 
 abbrev pub initialAt : Counts → ℕ
 initialAt c = transitionsAt c + 4 * c .transitions
@@ -23,10 +28,14 @@ initialAt c = transitionsAt c + 4 * c .transitions
 abbrev pub imageLength : Counts → ℕ
 imageLength c = initialAt c + 2 * c .initial
 
+-- the bytes of an image with the most records of each kind: 49,746 (01, Numbers that come from the state, 25)
+abbrev pub largestImage : ℕ
+largestImage = contentsBytes + statesBytes + transitionsBytes + initialBytes
+
 -- the table of contents: kind 1 for the states, kind 2 for the transitions, kind 3 for the initial numbers (01, The
 -- image, sentence 3)
 unfoldable pub contents : Counts → List ℕ
-contents c = entry 1 (c .states) 18 ++ (entry 2 (c .transitions) (transitionsAt c) ++ entry 3 (c .initial) (initialAt c))
+contents c = entry 1 (c .states) contentsBytes ++ (entry 2 (c .transitions) (transitionsAt c) ++ entry 3 (c .initial) (initialAt c))
 
 -- an image: its table of contents, and behind it the three bodies (01, The image, sentences 1 and 4)
 unfoldable pub imageBytes : Automaton → List ℕ

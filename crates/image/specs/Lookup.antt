@@ -5,12 +5,13 @@ use mathlib.Core.List.{List}
 use lib.ListN.{getD, length, drop}
 use Rattle.answer.specs.Bytes.{numberAt}
 use Rattle.automaton.specs.Automaton.{Transition, Automaton}
-use Rattle.image.specs.Image.{transitionsAt, initialAt, imageLength}
+use Rattle.automaton.specs.Limits.{maxStates}
+use Rattle.image.specs.Image.{transitionsAt, initialAt, imageLength, contentsBytes}
 use Rattle.image.specs.Reader.{countsAt, countSum, automatonFrom}
 
 abbrev pub machine : List ℕ → Automaton
 machine image =
-    automatonFrom (countsAt image) (drop 18 image) (drop (transitionsAt (countsAt image)) image) (drop (initialAt (countsAt image)) image)
+    automatonFrom (countsAt image) (drop contentsBytes image) (drop (transitionsAt (countsAt image)) image) (drop (initialAt (countsAt image)) image)
 
 -- the transition record at a byte of the image
 abbrev pub recordAt : List ℕ → ℕ → Transition
@@ -18,12 +19,12 @@ recordAt image at = record { must = getD image at 0; mustNot = getD image (at + 
 
 -- where the transition records of state q begin
 abbrev pub recordsAt : List ℕ → ℕ → ℕ
-recordsAt image q = transitionsAt (countsAt image) + 4 * countSum (drop 18 image) q
+recordsAt image q = transitionsAt (countsAt image) + 4 * countSum (drop contentsBytes image) q
 
 -- what is known of an image that is not refused by 10 to 13
 pub record Readable (image : List ℕ) : Type 0 where
-  pub few : numberAt image 2 ≤ 96
+  pub few : numberAt image 2 ≤ maxStates
   pub size : length image ≡ imageLength (countsAt image)
-  pub sum : countSum (drop 18 image) (numberAt image 2) ≡ numberAt image 8
+  pub sum : countSum (drop contentsBytes image) (numberAt image 2) ≡ numberAt image 8
   pub targets : (i : ℕ) → i < numberAt image 8 → numberAt (drop (transitionsAt (countsAt image)) image) (4 * i + 2) < numberAt image 2
   pub starts : (i : ℕ) → i < numberAt image 14 → numberAt (drop (initialAt (countsAt image)) image) (2 * i) < numberAt image 2

@@ -8,30 +8,31 @@ use lib.Bits.{bitAnd}
 use Rattle.answer.specs.Bytes.{numberAt}
 use Rattle.answer.specs.Result.{Result, accepted, andThen, Check, require, lowest}
 use Rattle.automaton.specs.Automaton.{Transition, State, Automaton}
+use Rattle.automaton.specs.Limits.{maxStates, maxOfState, maxTransitions, maxInitial}
 use Rattle.automaton.specs.Tables.{Counts}
-use Rattle.image.specs.Image.{transitionsAt, initialAt, imageLength}
+use Rattle.image.specs.Image.{transitionsAt, initialAt, imageLength, contentsBytes}
 
 -- the counts that an image's contents give
 abbrev pub countsAt : List ℕ → Counts
 countsAt image = record { states = numberAt image 2; transitions = numberAt image 8; initial = numberAt image 14 }
 
--- whether 10 lets counts pass: there are at most 96 states, 12,288 transitions and 96 initial numbers (01, Numbers
--- that come from the input, 10)
+-- whether 10 lets counts pass: those of the states, the transitions and the initial numbers are within their limits
+-- (01, Numbers that come from the input, 10)
 unfoldable pub countsFit : Counts → Bool
-countsFit c = leb (c .states) 96 && (leb (c .transitions) 12288 && leb (c .initial) 96)
+countsFit c = leb (c .states) maxStates && (leb (c .transitions) maxTransitions && leb (c .initial) maxInitial)
 
--- 10, at place 0: an image too short for the 18 bytes of contents, one whose contents have other kinds than 1, 2, 3,
+-- 10, at place 0: an image too short for its table of contents, one whose contents have other kinds than 1, 2, 3,
 -- counts that do not fit or offsets that are not where the bodies begin, or one that does not end with its last body
 -- (01, Numbers that come from the input, 10)
 unfoldable pub contentsCheck : List ℕ → Check
 contentsCheck image =
-    require (leb 18 (length image) && ((eqb (numberAt image 0) 1 && (eqb (numberAt image 6) 2 && eqb (numberAt image 12) 3)) && (countsFit (countsAt image) && ((eqb (numberAt image 4) 18 && (eqb (numberAt image 10) (transitionsAt (countsAt image)) && eqb (numberAt image 16) (initialAt (countsAt image)))) && eqb (length image) (imageLength (countsAt image)))))) 10 0
+    require (leb contentsBytes (length image) && ((eqb (numberAt image 0) 1 && (eqb (numberAt image 6) 2 && eqb (numberAt image 12) 3)) && (countsFit (countsAt image) && ((eqb (numberAt image 4) contentsBytes && (eqb (numberAt image 10) (transitionsAt (countsAt image)) && eqb (numberAt image 16) (initialAt (countsAt image)))) && eqb (length image) (imageLength (countsAt image)))))) 10 0
 
--- 11, at place i: state record i counts more than 128 transitions, has neither 0 nor 1 as its accepting byte, or does
--- not end in 0 (01, Numbers that come from the input, 11)
+-- 11, at place i: state record i counts more transitions than a state may have, has neither 0 nor 1 as its accepting
+-- byte, or does not end in 0 (01, Numbers that come from the input, 11)
 unfoldable pub stateCheck : List ℕ → ℕ → Check
 stateCheck states i =
-    require (leb (numberAt states (4 * i)) 128 && (leb (getD states (4 * i + 2) 0) 1 && eqb (getD states (4 * i + 3) 0) 0)) 11 i
+    require (leb (numberAt states (4 * i)) maxOfState && (leb (getD states (4 * i + 2) 0) 1 && eqb (getD states (4 * i + 3) 0) 0)) 11 i
 
 -- the transition counts of the first n state records, added up
 unfoldable pub countSum : List ℕ → ℕ → ℕ
@@ -92,4 +93,4 @@ readTables c states transitions initial =
 -- the automaton of an image, or its refusal by 10 to 13
 unfoldable pub readImage : List ℕ → Result Automaton
 readImage image =
-    andThen (contentsCheck image) (λ _. readTables (countsAt image) (drop 18 image) (drop (transitionsAt (countsAt image)) image) (drop (initialAt (countsAt image)) image))
+    andThen (contentsCheck image) (λ _. readTables (countsAt image) (drop contentsBytes image) (drop (transitionsAt (countsAt image)) image) (drop (initialAt (countsAt image)) image))

@@ -8,7 +8,7 @@ use Rattle.automaton.specs.Tables.{Counts}
 use Rattle.answer.specs.Bytes.{filled}
 use Rattle.image.specs.declared.StateCount.{StateCount}
 use Rattle.image.specs.declared.StateCount.the-variants.{Count, Wrong}
-use Rattle.image.specs.Image.{transitionsAt, initialAt, imageLength, contents}
+use Rattle.image.specs.Image.{transitionsAt, initialAt, imageLength, contents, contentsBytes}
 use Rattle.image.specs.Calls.{Buffer, buffer}
 
 -- the bytes of a written image: the contents, then the used bytes of three tables
@@ -21,7 +21,7 @@ joinedOver c s t i image = buffer (accepted (imageLength c)) (joined c s t i ++ 
 
 -- three tables before and after an image's bodies are stored in them
 pub record Loads (image : List ℕ) (c : Counts) (before-states before-transitions before-initial states transitions initial : List ℕ) : Type 0 where
-  pub states-are : states ≡ filled before-states (take (4 * c .states) (drop 18 image))
+  pub states-are : states ≡ filled before-states (take (4 * c .states) (drop contentsBytes image))
   pub transitions-are : transitions ≡ filled before-transitions (take (4 * c .transitions) (drop (transitionsAt c) image))
   pub initial-are : initial ≡ filled before-initial (take (2 * c .initial) (drop (initialAt c) image))
 

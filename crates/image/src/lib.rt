@@ -4,6 +4,8 @@ use answer::copy;
 use answer::number_at;
 use answer::zero;
 use automaton::INITIAL_BYTES;
+use automaton::MAX_INITIAL;
+use automaton::MAX_OF_STATE;
 use automaton::MAX_STATES;
 use automaton::MAX_TRANSITIONS;
 use automaton::STATES_BYTES;
@@ -16,9 +18,10 @@ ghost use Prim.Native.Nat.{_+_, _*_, _<_, _≤_};
 ghost use lib.Dec.{eqb, leb};
 ghost use lib.ListN.{length, take, drop};
 ghost use Rattle.answer.specs.Result.{accepted, andThen, require, lowest, answer};
+ghost use Rattle.automaton.specs.Limits.{maxStates, maxTransitions, maxInitial, statesBytes, transitionsBytes, initialBytes};
 ghost use Rattle.automaton.specs.Tables.{outcome, countsOf};
 ghost use Rattle.answer.specs.Bytes.{filled, numberAt};
-ghost use Rattle.image.specs.Image.{entry, transitionsAt, initialAt, imageLength, contents};
+ghost use Rattle.image.specs.Image.{entry, transitionsAt, initialAt, imageLength, contents, contentsBytes, largestImage};
 ghost use Rattle.image.specs.Reader.{countsAt, countsFit, contentsCheck, stateCheck, countSum, transitionCheck, initialCheck, recordsCheck};
 ghost use Rattle.image.specs.Calls.{writeAnswer, buffer, writes, readAnswer, reads, checks};
 ghost use Rattle.image.specs.Steps.{stateAnswer, joinedOver, Loads};
@@ -32,15 +35,10 @@ pub const BAD_TRANSITION: u8 = 12;
 
 pub const BAD_INITIAL: u8 = 13;
 
-// The table of contents takes 18 bytes, a whole image at most 49,746.
+// What the table of contents takes, and the largest image.
 pub const CONTENTS_BYTES: usize = 18;
 
-pub const IMAGE_BYTES: usize = 49746;
-
-// The most initial states, and the most transitions of one state.
-pub const MAX_INITIAL: usize = 96;
-
-pub const MAX_OF_STATE: usize = 128;
+pub const IMAGE_BYTES: usize = CONTENTS_BYTES + STATES_BYTES + TRANSITIONS_BYTES + INITIAL_BYTES;
 
 // The answer of write: the image's length, or a refusal's number and place.
 pub enum Written {
@@ -62,7 +60,7 @@ enum StateCount {
 
 // The lengths of three lent tables against 25.
 fn tables_fit(states: usize, transitions: usize, initial: usize) -> bool
-    ensures { λ r. ⌜ r ≡ (leb 384 states && (leb 49152 transitions && leb 192 initial)) ⌝ }
+    ensures { λ r. ⌜ r ≡ (leb statesBytes states && (leb transitionsBytes transitions && leb initialBytes initial)) ⌝ }
 {
     if states < STATES_BYTES {
         return false;
@@ -106,7 +104,7 @@ fn check_state(states: &[u8], i: usize) -> StateCount
 
 // 11 for the first n state records, whose counts are to add up to transition_count.
 fn check_states(states: &[u8], n: usize, transition_count: usize) -> Checked
-    requires { ⌜ (n ≤ 96) × (4 * n ≤ length (now states)) ⌝ }
+    requires { ⌜ (n ≤ maxStates) × (4 * n ≤ length (now states)) ⌝ }
     ensures { λ r. ⌜ answer r ≡ andThen (lowest (stateCheck (now (states .entry))) n) (λ _. require (eqb (countSum (now (states .entry)) n) «transition_count») 11 n) ⌝ }
 {
     let mut total = 0;
@@ -187,7 +185,7 @@ fn check_records(
     initial: &[u8],
     initial_count: usize,
 ) -> Checked
-    requires { ⌜ («state_count» ≤ 96) × (4 * «state_count» ≤ length (now states)) × (4 * «transition_count» ≤ length (now transitions)) × (2 * «initial_count» ≤ length (now initial)) ⌝ }
+    requires { ⌜ («state_count» ≤ maxStates) × (4 * «state_count» ≤ length (now states)) × (4 * «transition_count» ≤ length (now transitions)) × (2 * «initial_count» ≤ length (now initial)) ⌝ }
     ensures { λ r. ⌜ answer r ≡ recordsCheck (countsOf «state_count» «transition_count» «initial_count») (now (states .entry)) (now (transitions .entry)) (now (initial .entry)) ⌝ }
 {
     let first = check_states(states, state_count, transition_count);
@@ -203,7 +201,7 @@ fn check_records(
 
 // The kinds of the three entries against 10.
 fn kinds_fit(image: &[u8]) -> bool
-    requires { ⌜ 18 ≤ length (now image) ⌝ }
+    requires { ⌜ contentsBytes ≤ length (now image) ⌝ }
     ensures { λ r. ⌜ r ≡ (eqb (numberAt (now (image .entry)) 0) 1 && (eqb (numberAt (now (image .entry)) 6) 2 && eqb (numberAt (now (image .entry)) 12) 3)) ⌝ }
 {
     if number_at(image, 0) != 1 {
@@ -217,8 +215,8 @@ fn kinds_fit(image: &[u8]) -> bool
 
 // The offsets of the three entries against 10: each body begins where the one before ends.
 fn offsets_fit(image: &[u8], transitions_at: usize, initial_at: usize) -> bool
-    requires { ⌜ 18 ≤ length (now image) ⌝ }
-    ensures { λ r. ⌜ r ≡ (eqb (numberAt (now (image .entry)) 4) 18 && (eqb (numberAt (now (image .entry)) 10) «transitions_at» && eqb (numberAt (now (image .entry)) 16) «initial_at»)) ⌝ }
+    requires { ⌜ contentsBytes ≤ length (now image) ⌝ }
+    ensures { λ r. ⌜ r ≡ (eqb (numberAt (now (image .entry)) 4) contentsBytes && (eqb (numberAt (now (image .entry)) 10) «transitions_at» && eqb (numberAt (now (image .entry)) 16) «initial_at»)) ⌝ }
 {
     if number_at(image, 4) != CONTENTS_BYTES {
         return false;
@@ -258,8 +256,8 @@ fn check_contents(image: &[u8]) -> Loaded
 
 // 11 to 13 of an image that has its contents and its length.
 fn check_bodies(image: &[u8], states: usize, transitions: usize, initial: usize) -> Checked
-    requires { ⌜ (states ≤ 96) × (transitions ≤ 12288) × (initial ≤ 96) × (length (now image) ≡ imageLength (countsOf states transitions initial)) ⌝ }
-    ensures { λ r. ⌜ answer r ≡ recordsCheck (countsOf states transitions initial) (drop 18 (now (image .entry))) (drop (transitionsAt (countsOf states transitions initial)) (now (image .entry))) (drop (initialAt (countsOf states transitions initial)) (now (image .entry))) ⌝ }
+    requires { ⌜ (states ≤ maxStates) × (transitions ≤ maxTransitions) × (initial ≤ maxInitial) × (length (now image) ≡ imageLength (countsOf states transitions initial)) ⌝ }
+    ensures { λ r. ⌜ answer r ≡ recordsCheck (countsOf states transitions initial) (drop contentsBytes (now (image .entry))) (drop (transitionsAt (countsOf states transitions initial)) (now (image .entry))) (drop (initialAt (countsOf states transitions initial)) (now (image .entry))) ⌝ }
 {
     let transitions_at = CONTENTS_BYTES + 4 * states;
     let initial_at = transitions_at + 4 * transitions;
@@ -307,7 +305,7 @@ fn load_bodies(
     transitions: &mut [u8],
     initial: &mut [u8],
 )
-    requires { ⌜ («state_count» ≤ 96) × («transition_count» ≤ 12288) × («initial_count» ≤ 96) × (length (now image) ≡ imageLength (countsOf «state_count» «transition_count» «initial_count»)) × (384 ≤ length (now states)) × (49152 ≤ length (now transitions)) × (192 ≤ length (now initial)) ⌝ }
+    requires { ⌜ («state_count» ≤ maxStates) × («transition_count» ≤ maxTransitions) × («initial_count» ≤ maxInitial) × (length (now image) ≡ imageLength (countsOf «state_count» «transition_count» «initial_count»)) × (statesBytes ≤ length (now states)) × (transitionsBytes ≤ length (now transitions)) × (initialBytes ≤ length (now initial)) ⌝ }
     ensures { λ _. ⌜ Loads (now (image .entry)) (countsOf «state_count» «transition_count» «initial_count») (now (states .entry)) (now (transitions .entry)) (now (initial .entry)) (now (states .exit)) (now (transitions .exit)) (now (initial .exit)) ⌝ }
 {
     let transitions_at = CONTENTS_BYTES + 4 * state_count;
@@ -353,10 +351,10 @@ fn write_entry(bytes: &mut [u8], kind: u8, count: usize, offset: usize)
     bytes[5] = (offset / 256) as u8;
 }
 
-// The table of contents in the first 18 places.
+// The table of contents at the start.
 fn write_contents(image: &mut [u8], states: usize, transitions: usize, initial: usize)
-    requires { ⌜ (18 ≤ length (now image)) × (states ≤ 96) × (transitions ≤ 12288) × (initial ≤ 96) ⌝ }
-    ensures { λ _. ⌜ now (image .exit) ≡ contents (countsOf states transitions initial) ++ drop 18 (now (image .entry)) ⌝ }
+    requires { ⌜ (contentsBytes ≤ length (now image)) × (states ≤ maxStates) × (transitions ≤ maxTransitions) × (initial ≤ maxInitial) ⌝ }
+    ensures { λ _. ⌜ now (image .exit) ≡ contents (countsOf states transitions initial) ++ drop contentsBytes (now (image .entry)) ⌝ }
 {
     let transitions_at = CONTENTS_BYTES + 4 * states;
     let initial_at = transitions_at + 4 * transitions;
@@ -375,7 +373,7 @@ fn write_image(
     initial_count: usize,
     image: &mut [u8],
 ) -> usize
-    requires { ⌜ («state_count» ≤ 96) × («transition_count» ≤ 12288) × («initial_count» ≤ 96) × (384 ≤ length (now states)) × (49152 ≤ length (now transitions)) × (192 ≤ length (now initial)) × (49746 ≤ length (now image)) ⌝ }
+    requires { ⌜ («state_count» ≤ maxStates) × («transition_count» ≤ maxTransitions) × («initial_count» ≤ maxInitial) × (statesBytes ≤ length (now states)) × (transitionsBytes ≤ length (now transitions)) × (initialBytes ≤ length (now initial)) × (largestImage ≤ length (now image)) ⌝ }
     ensures { λ r. ⌜ buffer (accepted r) (now (image .exit)) ≡ joinedOver (countsOf «state_count» «transition_count» «initial_count») (now (states .entry)) (now (transitions .entry)) (now (initial .entry)) (now (image .entry)) ⌝ }
 {
     let transitions_at = CONTENTS_BYTES + 4 * state_count;

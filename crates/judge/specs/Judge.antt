@@ -9,6 +9,7 @@ use lib.Dec.{leb}
 use Rattle.answer.specs.Result.{Result, accepted, refused, andThen, Check, require}
 use Rattle.lasso.specs.Lasso.{maxLetters, lassoCheck}
 use Rattle.automaton.specs.Automaton.{Automaton}
+use Rattle.automaton.specs.Limits.{maxStates}
 use Rattle.image.specs.Reader.{readImage}
 use Rattle.judge.specs.declared.Judged.{Judged}
 use Rattle.judge.specs.declared.Judged.the-variants.{Kept, Broken, Refused}
@@ -31,7 +32,7 @@ judgeAnswer (Refused number place) = refused number place
 -- the working bytes that judging asks for, one for each state that an automaton may have and each letter (01, Numbers
 -- that come from the state, 25)
 abbrev pub workBytes : ℕ
-workBytes = 96 * maxLetters
+workBytes = maxStates * maxLetters
 
 -- 25: fewer working bytes than that
 abbrev pub workCheck : List ℕ → Check

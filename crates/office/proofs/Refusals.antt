@@ -18,6 +18,7 @@ use Rattle.generalized.specs.Explore.{find, meet, meetAll, explore}
 use Rattle.generalized.specs.Generalized.{productCheck, generalized}
 use Rattle.automaton.specs.Automaton.{Automaton}
 use Rattle.translation.specs.Degeneralized.{degeneralized, translation}
+use Rattle.automaton.specs.Limits.{maxTransitions}
 use Rattle.automaton.specs.Tables.{Counts, Outcome, tableCheck}
 use Rattle.translation.specs.Translate.{stored, unless, translated}
 use Rattle.image.specs.Reader.{countsAt, countsFit, contentsCheck, stateCheck, transitionCheck, initialCheck, recordsCheck, readTables, readImage}
@@ -29,21 +30,21 @@ use Rattle.lasso.specs.Lasso.{lassoCheck}
 use Rattle.judge.specs.Judge.{judgeable, judgedBy, judged}
 use Rattle.demands.specs.Demand.{roomCheck, inputCheck, Decision, concluded, decidedBy, decided}
 
--- a number that a byte holds, and not 0, ZIMBORALO_ACCEPTED; a place among at most 12,288
+-- a number that a byte holds, and not 0, ZIMBORALO_ACCEPTED; a place at most the number of an automaton's transitions
 pub record Refusal (number place : ℕ) : Type 0 where
   pub some : 0 < number
   pub byte : number < 256
-  pub near : place ≤ 12288
+  pub near : place ≤ maxTransitions
 
-numbered : {number place : ℕ} → (ltb 0 number && ltb number 256) ≡ true → place ≤ 12288 → Refusal number place
+numbered : {number place : ℕ} → (ltb 0 number && ltb number 256) ≡ true → place ≤ maxTransitions → Refusal number place
 numbered {number} e le =
     let tests = and-eq-true-iff (ltb 0 number) (ltb number 256) .0 e in
     record { some = ltb-true 0 number (tests .0); byte = ltb-true number 256 (tests .1); near = le }
 
-at-most : {place : ℕ} → leb place 12288 ≡ true → place ≤ 12288
-at-most {place} e = leb-true place 12288 e
+at-most : {place : ℕ} → leb place maxTransitions ≡ true → place ≤ maxTransitions
+at-most {place} e = leb-true place maxTransitions e
 
-nearer : {k n : ℕ} → k < n → n ≤ 12288 → k ≤ 12288
+nearer : {k n : ℕ} → k < n → n ≤ maxTransitions → k ≤ maxTransitions
 nearer lt le = omega arith
 
 -- an answer that is refused in no other way
@@ -80,27 +81,27 @@ lowest-proper check (suc n) each =
     then-proper (lowest check n) (λ _. check n) (lowest-proper check n (λ k lt. each k (omega arith))) (λ _ _. each n (omega arith))
 
 -- a walk, which takes at most its fuel of states
-module _ {A : Type 0} (same : A → A → Bool) (limit full : ℕ) (over : (place : ℕ) → place ≤ 12288 → Refusal full place) where
-  meet-proper : (place : ℕ) (x : A) (xs : List A) → place ≤ 12288 → Proper (meet same limit full place x xs)
+module _ {A : Type 0} (same : A → A → Bool) (limit full : ℕ) (over : (place : ℕ) → place ≤ maxTransitions → Refusal full place) where
+  meet-proper : (place : ℕ) (x : A) (xs : List A) → place ≤ maxTransitions → Proper (meet same limit full place x xs)
   unfolding meet
   meet-proper place x xs le =
       either-proper (ltb (find same x xs) (length xs)) (accepted xs) _ accepts (either-proper (ltb (length xs) limit) (accepted (xs ++ (x ∷ []))) (refused full place) accepts (refuses (over place le)))
 
-  module _ (each : (place count : ℕ) → Check) (each-is : (place count : ℕ) → place ≤ 12288 → Proper (each place count)) where
-    meetAll-proper : (place : ℕ) (targets : List A) (count : ℕ) (xs : List A) → place ≤ 12288 → Proper (meetAll same limit full each place targets count xs)
+  module _ (each : (place count : ℕ) → Check) (each-is : (place count : ℕ) → place ≤ maxTransitions → Proper (each place count)) where
+    meetAll-proper : (place : ℕ) (targets : List A) (count : ℕ) (xs : List A) → place ≤ maxTransitions → Proper (meetAll same limit full each place targets count xs)
     unfolding meetAll
     meetAll-proper place [] count xs le = accepts
     meetAll-proper place (y ∷ ys) count xs le =
         then-proper (each place count) _ (each-is place count le) (λ _ _. then-proper (meet same limit full place y xs) _ (meet-proper place y xs le) (λ more _. meetAll-proper place ys (suc count) more le))
 
-    module _ (none : A) (targets : A → List A) (before : ℕ → A → Check) (before-is : (place : ℕ) (x : A) → place ≤ 12288 → Proper (before place x)) where
-      explore-proper : (fuel place count : ℕ) (xs : List A) → fuel + place ≤ 12288 → Proper (explore same limit full each none targets before fuel place count xs)
+    module _ (none : A) (targets : A → List A) (before : ℕ → A → Check) (before-is : (place : ℕ) (x : A) → place ≤ maxTransitions → Proper (before place x)) where
+      explore-proper : (fuel place count : ℕ) (xs : List A) → fuel + place ≤ maxTransitions → Proper (explore same limit full each none targets before fuel place count xs)
       unfolding explore
       explore-proper zero place count xs le = accepts
       explore-proper (suc fuel) place count xs le =
           let here = getD xs place none in
-          let near : place ≤ 12288 = omega arith in
-          let next : fuel + suc place ≤ 12288 = omega arith in
+          let near : place ≤ maxTransitions = omega arith in
+          let next : fuel + suc place ≤ maxTransitions = omega arith in
           either-proper (ltb place (length xs)) _ (accepted xs)
           (then-proper (before place here) _ (before-is place here near) (λ _ _. then-proper (meetAll same limit full each place (targets here) count xs) _ (meetAll-proper place (targets here) count xs near) (λ more _. explore-proper fuel (suc place) (count + length (targets here)) more next)))
           accepts
@@ -114,17 +115,17 @@ unfolding lengthCheck
 length-proper rule = search proper
 
 -- a rule that 1 lets pass has few nodes
-few-nodes : (rule : List ℕ) → lengthCheck rule ≡ fine → nodeCount rule ≤ 12288
+few-nodes : (rule : List ℕ) → lengthCheck rule ≡ fine → nodeCount rule ≤ maxTransitions
 unfolding lengthCheck
 few-nodes rule e = omega (arith, leb-true (length rule) 96 (required _ 1 0 _ e .0))
 
 -- 3 to 5
-node-proper : (rule : List ℕ) (n : ℕ) → n ≤ 12288 → Proper (nodeCheck rule n)
+node-proper : (rule : List ℕ) (n : ℕ) → n ≤ maxTransitions → Proper (nodeCheck rule n)
 unfolding nodeCheck
 node-proper rule n le = search proper
 
 -- 6
-place-proper : (rule : List ℕ) (n : ℕ) → n ≤ 12288 → Proper (placeCheck rule n)
+place-proper : (rule : List ℕ) (n : ℕ) → n ≤ maxTransitions → Proper (placeCheck rule n)
 unfolding placeCheck
 place-proper rule n le = search proper
 
@@ -133,10 +134,10 @@ rule-proper : (rule : List ℕ) → Proper (Rule.checked rule)
 unfolding Rule.checked untilCheck
 rule-proper rule =
     then-proper (lengthCheck rule) _ (length-proper rule)
-    (λ u e. let few : nodeCount rule ≤ 12288 = few-nodes rule e in search (proper, node-proper, place-proper) depth 7)
+    (λ u e. let few : nodeCount rule ≤ maxTransitions = few-nodes rule e in search (proper, node-proper, place-proper) depth 7)
 
 -- 20
-size-proper : (rule : List ℕ) (n : ℕ) → n ≤ 12288 → Proper (sizeCheck rule n)
+size-proper : (rule : List ℕ) (n : ℕ) → n ≤ maxTransitions → Proper (sizeCheck rule n)
 unfolding sizeCheck
 size-proper rule n le = search proper
 
@@ -144,10 +145,10 @@ sizes-proper : (rule : List ℕ) → Proper (checked rule)
 unfolding checked Rule.checked
 sizes-proper rule =
     then-proper (Rule.checked rule) _ (rule-proper rule)
-    (λ u e. let few : nodeCount rule ≤ 12288 = few-nodes rule (fine-first (lengthCheck rule) _ e) in search (proper, size-proper))
+    (λ u e. let few : nodeCount rule ≤ maxTransitions = few-nodes rule (fine-first (lengthCheck rule) _ e) in search (proper, size-proper))
 
 -- 21
-product-proper : (rule : List ℕ) (place state : ℕ) → place ≤ 12288 → Proper (productCheck rule place state)
+product-proper : (rule : List ℕ) (place state : ℕ) → place ≤ maxTransitions → Proper (productCheck rule place state)
 unfolding productCheck
 product-proper rule place state le = search proper
 
@@ -186,17 +187,17 @@ translated-proper rule s t i =
     second (refused number place) p = refuses (p .refusal number place refl)
 
 -- 11
-state-proper : (s : List ℕ) (k : ℕ) → k ≤ 12288 → Proper (stateCheck s k)
+state-proper : (s : List ℕ) (k : ℕ) → k ≤ maxTransitions → Proper (stateCheck s k)
 unfolding stateCheck
 state-proper s k le = search proper
 
 -- 12
-transition-proper : (states : ℕ) (t : List ℕ) (k : ℕ) → k ≤ 12288 → Proper (transitionCheck states t k)
+transition-proper : (states : ℕ) (t : List ℕ) (k : ℕ) → k ≤ maxTransitions → Proper (transitionCheck states t k)
 unfolding transitionCheck
 transition-proper states t k le = search proper
 
 -- 13
-initial-proper : (states : ℕ) (i : List ℕ) (k : ℕ) → k ≤ 12288 → Proper (initialCheck states i k)
+initial-proper : (states : ℕ) (i : List ℕ) (k : ℕ) → k ≤ maxTransitions → Proper (initialCheck states i k)
 unfolding initialCheck
 initial-proper states i zero le = search proper
 initial-proper states i (suc k) le = search proper
@@ -205,8 +206,8 @@ initial-proper states i (suc k) le = search proper
 records-proper : (c : Counts) (s t i : List ℕ) → Small c → Proper (readTables c s t i)
 unfolding readTables recordsCheck
 records-proper c s t i small =
-    let states : c .states ≤ 12288 = omega (arith, small .states) in
-    let initial : c .initial ≤ 12288 = omega (arith, small .initial) in
+    let states : c .states ≤ maxTransitions = omega (arith, small .states) in
+    let initial : c .initial ≤ maxTransitions = omega (arith, small .initial) in
     search (proper, state-proper, transition-proper, initial-proper, small .transitions) depth 8
 
 -- 10

@@ -10,9 +10,10 @@ use Rattle.formula.specs.Rule
 use Rattle.answer.proofs.Results.{require-fine}
 use Rattle.automaton.specs.Automaton.{Automaton}
 use Rattle.translation.specs.Degeneralized.{translation}
+use Rattle.automaton.specs.Limits.{maxStates, maxTransitions, maxInitial}
 use Rattle.automaton.specs.Tables.{Counts, counts, tableCheck, countsOf}
 use Rattle.translation.specs.Translate.{stored, unless, translated}
-use Rattle.image.specs.Image.{imageLength}
+use Rattle.image.specs.Image.{imageLength, largestImage}
 use Rattle.image.specs.Reader.{countsFit, recordsCheck, automatonFrom, readTables, readImage}
 use Rattle.image.specs.Calls.{buffer, bufferCheck, writes, loaded, reads, checks}
 use Rattle.image.proofs.Before.{not-both, follows, passes}
@@ -91,7 +92,7 @@ reads-small image s t i c e = first (tableCheck s t i) e
     first (refused number place) e = not-both e
 
 -- of an accepted write, ZIMBORALO_IMAGE_BYTES
-pub writes-small : (c : Counts) (s t i image : List ℕ) (n : ℕ) → writes c s t i image .answer ≡ accepted n → n ≤ 49746
+pub writes-small : (c : Counts) (s t i image : List ℕ) (n : ℕ) → writes c s t i image .answer ≡ accepted n → n ≤ largestImage
 unfolding writes readTables
 writes-small c s t i image n e =
     let whole = andThen (tableCheck s t i) (λ _. andThen (bufferCheck image) (λ _. andThen (require (countsFit c) 10 0) (λ _. readTables c s t i))) in
@@ -172,7 +173,7 @@ three-read c small =
     let i : c .initial % 256 ≡ c .initial = omega (arith, small .initial) in
     rw (s, t, i) (three (c .states) (c .transitions) (c .initial) (small .states) (small .transitions) (small .initial))
   where
-    three : (s t i : ℕ) → s ≤ 96 → t ≤ 12288 → i ≤ 96 → CountsRead (256 * s + 65536 * t + 2 ^ 32 * i) (countsOf s t i)
+    three : (s t i : ℕ) → s ≤ maxStates → t ≤ maxTransitions → i ≤ maxInitial → CountsRead (256 * s + 65536 * t + 2 ^ 32 * i) (countsOf s t i)
     three s t i a b d = record { states = omega arith; transitions = omega arith; initial = omega arith }
 
 counts-unpack : (r : Result Counts) → Proper r → ((c : Counts) → r ≡ accepted c → Small c) → Unpacks CountsRead (packCounts r) r
@@ -180,7 +181,7 @@ unfolding packCounts
 counts-unpack (accepted c) p fits = unpacks-accepted _ c (omega arith) (three-read c (fits c refl))
 counts-unpack (refused number place) p fits = unpacks-refused number place (p .refusal number place refl)
 
-length-unpacks : (r : Result ℕ) → Proper r → ((n : ℕ) → r ≡ accepted n → n ≤ 49746) → Unpacks LengthRead (packLength r) r
+length-unpacks : (r : Result ℕ) → Proper r → ((n : ℕ) → r ≡ accepted n → n ≤ largestImage) → Unpacks LengthRead (packLength r) r
 unfolding packLength
 length-unpacks (accepted n) p fits = unpacks-accepted _ n (omega arith) (omega (arith, fits n refl))
 length-unpacks (refused number place) p fits = unpacks-refused number place (p .refusal number place refl)

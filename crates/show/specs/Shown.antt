@@ -5,6 +5,7 @@ use mathlib.Core.Bool.{cond}
 use mathlib.Core.List.{List, [], _∷_}
 use lib.ListN.{getD, length}
 use lib.Dec.{ltb, leb}
+use Rattle.automaton.specs.Limits.{maxTransitions}
 
 -- a number in two bytes, low byte first (01, The image, sentence 2)
 abbrev pub number : (low high : ℕ) → ℕ
@@ -19,8 +20,8 @@ abbrev pub label : (must mustNot : ℕ) → List ℕ
 label must mustNot =
     digit (must / 16) ∷ (digit (must % 16) ∷ (32 ∷ (digit (mustNot / 16) ∷ (digit (mustNot % 16) ∷ (32 ∷ [])))))
 
--- where the transitions of state i end that begin at from: after as many as its record says. Past the 12,288
--- transitions that a table holds, and past the last record, nothing is shown.
+-- where the transitions of state i end that begin at from: after as many as its record says. Past the most
+-- transitions that an automaton has, and past the last record, nothing is shown.
 unfoldable pub rowEnd : (states : List ℕ) (i from : ℕ) → ℕ
 rowEnd states i from =
-    cond (ltb 12288 from) from (cond (leb (length states / 4) i) from (from + number (getD states (i * 4) 0) (getD states (i * 4 + 1) 0)))
+    cond (ltb maxTransitions from) from (cond (leb (length states / 4) i) from (from + number (getD states (i * 4) 0) (getD states (i * 4 + 1) 0)))

@@ -7,6 +7,7 @@ use libc::STDOUT_FILENO;
 use translation::Translated;
 ghost use mathlib.Core.Path.{_≡_};
 ghost use Prim.Native.Nat.{_≤_, _<_};
+ghost use Rattle.automaton.specs.Limits.{maxTransitions};
 ghost use Rattle.show.specs.Shown.{number, digit, label, rowEnd};
 
 fn print(text: &[u8]) {
@@ -80,7 +81,7 @@ fn print_record(transitions: &[u8], k: usize) {
 
 // Transition records from `from` on, count of them.
 fn print_transitions(transitions: &[u8], from: usize, count: usize)
-    requires { ⌜ (from ≤ 12288) × (count ≤ 65535) ⌝ }
+    requires { ⌜ (from ≤ maxTransitions) × (count ≤ 65535) ⌝ }
 {
     let mut i = 0;
     while i < count {

@@ -12,6 +12,7 @@ use Rattle.generalized.specs.declared.Met.the-variants.{Count, Full}
 use Rattle.generalized.specs.Explore.{meet}
 use Rattle.generalized.specs.Memory.{Meets}
 use Rattle.generalized.proofs.Exploring.{all-full, all-next, all-met}
+use Rattle.automaton.specs.Limits.{maxStates}
 use Rattle.translation.specs.Memory.{rowStart, range, targetN, targetsN, meetAllN, Rows}
 use Rattle.translation.proofs.Within.{row-inside, row-leads, among, same-code}
 
@@ -33,11 +34,11 @@ pub record Meeting (targets marks : List ℕ) (r level from end place : ℕ) (al
   pub inside : end ≤ 1024
   pub leads : (j : ℕ) → j < end → getD targets j 0 < 128
   pub begun : from ≤ i
-  pub size : length pairs ≡ 96
-  pub fits : k ≤ 96
+  pub size : length pairs ≡ maxStates
+  pub fits : k ≤ maxStates
   pub left : (count : ℕ) → meetAllN place (count + (i - from)) (map (targetN targets marks r level) (range (end - i) i)) (take k pairs) ≡ all count
 
-pub meeting-begins : (ends targets marks : List ℕ) (r : ℕ) (pairs : List ℕ) (n place s t level from end : ℕ) → Rows ends targets marks r (take n pairs) → length pairs ≡ 96 → n ≤ 96 → place < n
+pub meeting-begins : (ends targets marks : List ℕ) (r : ℕ) (pairs : List ℕ) (n place s t level from end : ℕ) → Rows ends targets marks r (take n pairs) → length pairs ≡ maxStates → n ≤ maxStates → place < n
     → s ≡ getD pairs place 0 / 16 → t ≡ getD pairs place 0 / 16 → level ≡ getD pairs place 0 % 16 → from ≡ rowStart ends s → end ≡ getD ends t 0
     → Meeting targets marks r level from end place (λ count. meetAllN place count (targetsN ends targets marks r (getD pairs place 0)) (take n pairs)) pairs n from
 meeting-begins ends targets marks r pairs n place s t level from end rows size fits lt es et el ef ee = record {
@@ -52,9 +53,9 @@ meeting-begins ends targets marks r pairs n place s t level from end rows size f
 }
 
 module _ (targets marks : List ℕ) (r level from end place : ℕ) (all : (count : ℕ) → Result (List ℕ)) (pairs : List ℕ) (k i : ℕ) (inv : Meeting targets marks r level from end place all pairs k i) where
-  pub meeting-ends : end ≤ i → (count : ℕ) → (all count ≡ accepted (take k pairs)) × (k ≤ 96)
+  pub meeting-ends : end ≤ i → (count : ℕ) → (all count ≡ accepted (take k pairs)) × (k ≤ maxStates)
   meeting-ends le count = (
-    sym (inv .left count) ∙ rw (range-none end i le) (all-met eqb 96 24 (λ _ _. fine) place _ (take k pairs)),
+    sym (inv .left count) ∙ rw (range-none end i le) (all-met eqb maxStates 24 (λ _ _. fine) place _ (take k pairs)),
     inv .fits,
   )
 
@@ -63,11 +64,11 @@ module _ (targets marks : List ℕ) (r level from end place : ℕ) (all : (count
     left-is count = rw (is, ← inv .left count, range-next end i lt)
 
     pub meeting-full : met ≡ Full → (count : ℕ) → all count ≡ refused 24 place
-    meeting-full e count = sym (left-is count) ∙ all-full eqb 96 24 (λ _ _. fine) place _ _ (count + (i - from)) (take k pairs) refl (rw (e, inv .size) at meets)
+    meeting-full e count = sym (left-is count) ∙ all-full eqb maxStates 24 (λ _ _. fine) place _ _ (count + (i - from)) (take k pairs) refl (rw (e, inv .size) at meets)
 
     pub meeting-steps : {more : ℕ} → met ≡ Count more → length after ≡ length pairs → Meeting targets marks r level from end place all after more (i + 1)
     meeting-steps {more} e same =
-        let m : Meets 24 place (meet eqb 96 24 place x (take k pairs)) (Count more) after = rw (e, inv .size) at meets in
+        let m : Meets 24 place (meet eqb maxStates 24 place x (take k pairs)) (Count more) after = rw (e, inv .size) at meets in
         record {
           inside = inv .inside;
           leads = inv .leads;
@@ -76,5 +77,5 @@ module _ (targets marks : List ℕ) (r level from end place : ℕ) (all : (count
           fits = omega (arith, m .1, inv .size);
           left = λ count.
               let next : count + (i + 1 - from) ≡ suc (count + (i - from)) = omega (arith, inv .begun) in
-              rw next (sym (all-next eqb 96 24 (λ _ _. fine) place _ _ (count + (i - from)) (take k pairs) refl (m .0)) ∙ left-is count);
+              rw next (sym (all-next eqb maxStates 24 (λ _ _. fine) place _ _ (count + (i - from)) (take k pairs) refl (m .0)) ∙ left-is count);
         }

@@ -9,6 +9,7 @@ use lib.Seq.{getD-take, length-take-le}
 use lib.Dec.{eqb}
 use Rattle.answer.specs.Result.{Result, accepted, fine}
 use Rattle.generalized.proofs.Exploring.{explore-next, explore-refused, explore-ends}
+use Rattle.automaton.specs.Limits.{maxStates}
 use Rattle.translation.specs.declared.State.{State}
 use Rattle.translation.specs.declared.Paired.{Paired}
 use Rattle.translation.specs.declared.Paired.the-variants.{Count, Full}
@@ -36,20 +37,20 @@ targets-within ends targets marks r n levels rows closed code lt =
 -- the walk that stands at place, with k pairs numbered and count transitions before, comes to what it is to come to
 pub record Pairing (ends targets marks : List ℕ) (r : ℕ) (all : Result (List ℕ)) (pairs : List ℕ) (k place : ℕ) : Type 0 where
   pub count : ℕ
-  pub size : length pairs ≡ 96
-  pub fits : k ≤ 96
+  pub size : length pairs ≡ maxStates
+  pub fits : k ≤ maxStates
   pub rows : Rows ends targets marks r (take k pairs)
-  pub left : exploreN ends targets marks r (96 - place) place count (take k pairs) ≡ all
+  pub left : exploreN ends targets marks r (maxStates - place) place count (take k pairs) ≡ all
 
 module _ (ends targets marks : List ℕ) (r : ℕ) (all : Result (List ℕ)) (pairs : List ℕ) (k place : ℕ) (inv : Pairing ends targets marks r all pairs k place) where
-  pub pairing-ends : k ≤ place → (all ≡ accepted (take k pairs)) × (k ≤ 96)
+  pub pairing-ends : k ≤ place → (all ≡ accepted (take k pairs)) × (k ≤ maxStates)
   pairing-ends le = (
-    sym (inv .left) ∙ explore-ends eqb 96 24 (λ _ _. fine) 0 (targetsN ends targets marks r) (λ _ _. fine) (96 - place) place (inv .count) (take k pairs) (omega (arith, length-take-le k pairs (omega (arith, inv .size, inv .fits)))),
+    sym (inv .left) ∙ explore-ends eqb maxStates 24 (λ _ _. fine) 0 (targetsN ends targets marks r) (λ _ _. fine) (maxStates - place) place (inv .count) (take k pairs) (omega (arith, length-take-le k pairs (omega (arith, inv .size, inv .fits)))),
     inv .fits,
   )
 
   module _ (lt : place < k) (met : Paired) (after : List ℕ) (meets : (count : ℕ) → Pairs (meetAllN place count (targetsN ends targets marks r (getD pairs place 0)) (take k pairs)) met after) where
-    fuel : 96 - place ≡ suc (96 - suc place)
+    fuel : maxStates - place ≡ suc (maxStates - suc place)
     fuel = omega (arith, inv .fits)
 
     inside : place < length (take k pairs)
@@ -60,7 +61,7 @@ module _ (ends targets marks : List ℕ) (r : ℕ) (all : Result (List ℕ)) (pa
 
     pub pairing-full : {at : State} → met ≡ Full at → Pairs all met after
     pairing-full e =
-        rw (e, ← inv .left, fuel) (explore-refused eqb 96 24 (λ _ _. fine) 0 (targetsN ends targets marks r) (λ _ _. fine) (96 - suc place) place (inv .count) (take k pairs) inside (rw e at now-is))
+        rw (e, ← inv .left, fuel) (explore-refused eqb maxStates 24 (λ _ _. fine) 0 (targetsN ends targets marks r) (λ _ _. fine) (maxStates - suc place) place (inv .count) (take k pairs) inside (rw e at now-is))
 
     module _ (more : ℕ) (e : met ≡ Count more) where
       counted : Pairs (meetAllN place (inv .count) (targetsN ends targets marks r (getD (take k pairs) place 0)) (take k pairs)) (Count more) after
@@ -68,7 +69,7 @@ module _ (ends targets marks : List ℕ) (r : ℕ) (all : Result (List ℕ)) (pa
 
       within : Within (inv .rows .listed .states) (take more after)
       within =
-          all-keeps eqb 96 (λ code. code / 16 < inv .rows .listed .states) (all-adds eqb 96 24 (λ _ _. fine) place _ (inv .count) (take k pairs) (take more after) (counted .0))
+          all-keeps eqb maxStates (λ code. code / 16 < inv .rows .listed .states) (all-adds eqb maxStates 24 (λ _ _. fine) place _ (inv .count) (take k pairs) (take more after) (counted .0))
           (targets-within ends targets marks r (inv .rows .listed .states) (inv .rows .levels) (inv .rows .listed .rows) (inv .rows .closed) (getD (take k pairs) place 0)
           (rw (getD-take k pairs place 0 lt) (row-within ends (take k pairs) place _ (inv .rows .listed) inside (getD-take k pairs place 0 lt))))
           (inv .rows .listed .within)
@@ -85,5 +86,5 @@ module _ (ends targets marks : List ℕ) (r : ℕ) (all : Result (List ℕ)) (pa
           levels = inv .rows .levels;
           closed = inv .rows .closed;
         };
-        left = rw add-one (sym (explore-next eqb 96 24 (λ _ _. fine) 0 (targetsN ends targets marks r) (λ _ _. fine) (96 - suc place) place (inv .count) (take k pairs) inside (counted .0)) ∙ rw (← fuel) (inv .left));
+        left = rw add-one (sym (explore-next eqb maxStates 24 (λ _ _. fine) 0 (targetsN ends targets marks r) (λ _ _. fine) (maxStates - suc place) place (inv .count) (take k pairs) inside (counted .0)) ∙ rw (← fuel) (inv .left));
       }

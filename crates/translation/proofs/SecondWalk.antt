@@ -28,6 +28,7 @@ use Rattle.translation.specs.declared.Paired.{Paired}
 use Rattle.translation.specs.declared.Paired.the-variants.{Count, Full}
 use Rattle.automaton.specs.Automaton.{Transition, State, Automaton}
 use Rattle.translation.specs.Degeneralized.{Pair, pair, samePair, numbers, initialNumbers, nextLevel, pairTransitions, target, degeneralized, stateOf}
+use Rattle.automaton.specs.Limits.{maxStates}
 use Rattle.automaton.specs.Records.{records, stateRecord, transitionRecord, stateRecords, transitionRecords, initialRecords}
 use Rattle.answer.specs.Bytes.{twoBytes, filled, zeros}
 use Rattle.automaton.specs.Tables.{Counts, transitionCount, outcome}
@@ -186,17 +187,17 @@ module _ (rule : List ℕ) (passed : checked rule ≡ fine) (states terms ends :
     keeps-within : (code : ℕ) → code / 16 < n → Within n (targetsN ends targets marks r code)
     keeps-within = targets-within ends targets marks r n few-levels (rows-of rule passed states terms ends n m w room es) closed-are
 
-    walk-is : degeneralized rule xs ≡ mapped pairOf (exploreN ends targets marks r 96 0 0 starts)
+    walk-is : degeneralized rule xs ≡ mapped pairOf (exploreN ends targets marks r maxStates 0 0 starts)
     unfolding degeneralized initialNumbers
     walk-is =
         rw (starts-are (numbers (length (cover (formula rule)))))
-        (explore-map eqb samePair pairOf same-codes 96 24 (λ _ _. fine) 0 (λ code. code / 16 < n) (targetsN ends targets marks r) (λ x. map (target rule xs x) (pairTransitions rule xs x))
-        targets-are keeps-within 96 0 0 starts starts-within)
+        (explore-map eqb samePair pairOf same-codes maxStates 24 (λ _ _. fine) 0 (λ code. code / 16 < n) (targetsN ends targets marks r) (λ x. map (target rule xs x) (pairTransitions rule xs x))
+        targets-are keeps-within maxStates 0 0 starts starts-within)
 
-    walk-refused : {place : ℕ} → exploreN ends targets marks r 96 0 0 starts ≡ refused 24 place → secondWalk rule xs ≡ refused 24 place
+    walk-refused : {place : ℕ} → exploreN ends targets marks r maxStates 0 0 starts ≡ refused 24 place → secondWalk rule xs ≡ refused 24 place
     walk-refused e = rw (walk-is, e)
 
-    module _ (codes : List ℕ) (e : exploreN ends targets marks r 96 0 0 starts ≡ accepted codes) where
+    module _ (codes : List ℕ) (e : exploreN ends targets marks r maxStates 0 0 starts ≡ accepted codes) where
       abbrev automaton : Automaton
       automaton = record { states = map (stateOf rule xs (map pairOf codes)) (map pairOf codes); initial = initialNumbers rule }
 
@@ -205,7 +206,7 @@ module _ (rule : List ℕ) (passed : checked rule ≡ fine) (states terms ends :
 
       pub codes-within : Within n codes
       codes-within =
-          explore-keeps eqb 96 (λ x. eq-eqb x x refl) 0 (targetsN ends targets marks r) (λ _ _. fine) (λ code. code / 16 < n) keeps-within 24 (λ _ _. fine) starts codes
+          explore-keeps eqb maxStates (λ x. eq-eqb x x refl) 0 (targetsN ends targets marks r) (λ _ _. fine) (λ code. code / 16 < n) keeps-within 24 (λ _ _. fine) starts codes
           (omega (arith, length-map (numbers (length (cover (formula rule)))) (λ i. i * 16), numbers-length (length (cover (formula rule))), initial-few rule passed)) e starts-within
 
       states-are : records (pairBytes ends r) codes ≡ stateRecords automaton
@@ -272,8 +273,8 @@ module _ {rule states terms ends : List ℕ} {n m : ℕ} {targets marks : List �
   pub first-rows : Rows ends targets marks r (take first pairs₀)
   first-rows = rw (b .levels, started) (rows-over codes₀ (starts-within rule (b .passed) states terms ends n m (b .walked) (b .states-size) targets marks (b .numbered) all-marked))
 
-  module _ (met : Paired) (pairs : List ℕ) (size : length pairs ≡ 96) (explored : Pairs (exploreN ends targets marks r 96 0 0 (take first pairs₀)) met pairs) where
-    explored-is : Pairs (exploreN ends targets marks (untilCount rule) 96 0 0 codes₀) met pairs
+  module _ (met : Paired) (pairs : List ℕ) (size : length pairs ≡ maxStates) (explored : Pairs (exploreN ends targets marks r maxStates 0 0 (take first pairs₀)) met pairs) where
+    explored-is : Pairs (exploreN ends targets marks (untilCount rule) maxStates 0 0 codes₀) met pairs
     explored-is = rw (← b .levels, ← started) explored
 
     pub full-is : {at : Number.State} → met ≡ Full at → (s t i : List ℕ) → Blank s t i → outcome (refused 24 (at .0)) s t i ≡ stored (secondWalk rule (take n states)) s t i
@@ -281,7 +282,7 @@ module _ {rule states terms ends : List ℕ} {n m : ℕ} {targets marks : List �
         rw (walk-refused rule (b .passed) states terms ends n m (b .walked) (b .states-size) targets marks (b .numbered) all-marked (b .ends-size) (rw e at explored-is)) (stored-blank blank)
 
     module _ {count : ℕ} (e : met ≡ Count count) where
-      counted : Pairs (exploreN ends targets marks (untilCount rule) 96 0 0 codes₀) (Count count) pairs
+      counted : Pairs (exploreN ends targets marks (untilCount rule) maxStates 0 0 codes₀) (Count count) pairs
       counted = rw e at explored-is
 
       pub count-inside : count ≤ length pairs
@@ -295,7 +296,7 @@ module _ {rule states terms ends : List ℕ} {n m : ℕ} {targets marks : List �
       pub codes-count : length (take count pairs) ≡ count
       codes-count = length-take-le count pairs count-inside
 
-      pub codes-few : length (take count pairs) ≤ 96
+      pub codes-few : length (take count pairs) ≤ maxStates
       codes-few = omega (arith, codes-count, counted .1)
 
       pub written-is : (s t i s′ t′ i′ : List ℕ) (written : ℕ) → Blank s t i → length s′ ≡ length s → length t′ ≡ length t → length i′ ≡ length i → Written ends targets marks r terms (take count pairs) first t written s′ t′ i′

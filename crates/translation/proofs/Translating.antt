@@ -14,6 +14,7 @@ use Rattle.generalized.specs.Generalized.{generalized}
 use Rattle.generalized.specs.Memory.{Walks}
 use Rattle.automaton.specs.Automaton.{Automaton}
 use Rattle.translation.specs.Degeneralized.{translation}
+use Rattle.automaton.specs.Limits.{statesBytes, transitionsBytes, initialBytes}
 use Rattle.automaton.specs.Tables.{Outcome, outcome, tableCheck}
 use Rattle.translation.specs.Translate.{stored, translated}
 use Rattle.translation.specs.Memory.{secondWalk, Blank}
@@ -46,22 +47,22 @@ module _ (rule s t i : List ℕ) where
 -- ---- any bytes
 
 module _ (rule s t i : List ℕ) where
-  pub states-short : length s < 384 → outcome (refused 25 0) s t i ≡ translated rule s t i
+  pub states-short : length s < statesBytes → outcome (refused 25 0) s t i ≡ translated rule s t i
   unfolding translated tableCheck
-  states-short lt = rw (lt-leb 384 (length s) lt)
+  states-short lt = rw (lt-leb statesBytes (length s) lt)
 
-  pub transitions-short : 384 ≤ length s → length t < 49152 → outcome (refused 25 0) s t i ≡ translated rule s t i
+  pub transitions-short : statesBytes ≤ length s → length t < transitionsBytes → outcome (refused 25 0) s t i ≡ translated rule s t i
   unfolding translated tableCheck
-  transitions-short a lt = rw (le-leb 384 (length s) a, lt-leb 49152 (length t) lt)
+  transitions-short a lt = rw (le-leb statesBytes (length s) a, lt-leb transitionsBytes (length t) lt)
 
-  pub initial-short : 384 ≤ length s → 49152 ≤ length t → length i < 192 → outcome (refused 25 0) s t i ≡ translated rule s t i
+  pub initial-short : statesBytes ≤ length s → transitionsBytes ≤ length t → length i < initialBytes → outcome (refused 25 0) s t i ≡ translated rule s t i
   unfolding translated tableCheck
-  initial-short a b lt = rw (le-leb 384 (length s) a, le-leb 49152 (length t) b, lt-leb 192 (length i) lt)
+  initial-short a b lt = rw (le-leb statesBytes (length s) a, le-leb transitionsBytes (length t) b, lt-leb initialBytes (length i) lt)
 
-  module _ (a : 384 ≤ length s) (b : 49152 ≤ length t) (c : 192 ≤ length i) where
+  module _ (a : statesBytes ≤ length s) (b : transitionsBytes ≤ length t) (c : initialBytes ≤ length i) where
     pub bytes-refused : {number place : ℕ} → refused number place ≡ Rule.checked rule → outcome (refused number place) s t i ≡ translated rule s t i
     unfolding translated tableCheck
-    bytes-refused e = rw (le-leb 384 (length s) a, le-leb 49152 (length t) b, le-leb 192 (length i) c, ← e)
+    bytes-refused e = rw (le-leb statesBytes (length s) a, le-leb transitionsBytes (length t) b, le-leb initialBytes (length i) c, ← e)
 
     -- the tables s, t, i set to 0
     module _ (x y z : List ℕ) (ex : x ≡ replicate (length s) 0) (ey : y ≡ replicate (length t) 0) (ez : z ≡ replicate (length i) 0) (lx : length x ≡ length s) (ly : length y ≡ length t) (lz : length z ≡ length i) where
@@ -83,4 +84,4 @@ module _ (rule s t i : List ℕ) where
 
       pub built : {o : Outcome} → Rule.checked rule ≡ fine → o ≡ stored (translation rule) x y z → o ≡ translated rule s t i
       unfolding translated tableCheck
-      built fits e = e ∙ stored-same (translation rule) ∙ rw (le-leb 384 (length s) a, le-leb 49152 (length t) b, le-leb 192 (length i) c, fits)
+      built fits e = e ∙ stored-same (translation rule) ∙ rw (le-leb statesBytes (length s) a, le-leb transitionsBytes (length t) b, le-leb initialBytes (length i) c, fits)

@@ -5,6 +5,7 @@ use Prim.Native.Nat.{ℕ, zero, suc, _/_, _≤_, _<_}
 use native.Mathlib.Omega.{arith}
 use lib.ListN.{length, getD, take}
 use lib.Seq.{getD-take, length-take-le}
+use Rattle.automaton.specs.Limits.{maxOfState}
 use Rattle.translation.specs.Memory.{rowStart, rowCount, All, Listed, Rows}
 
 -- what holds of each holds of the one at a place
@@ -28,7 +29,7 @@ module _ (ends codes : List ℕ) (place code : ℕ) (listed : Listed ends codes)
     pub row-inside : getD ends s 0 ≤ 1024
     row-inside = listed .rows .inside s (omega (arith, row-within))
 
-    pub row-few : rowCount ends s ≤ 128
+    pub row-few : rowCount ends s ≤ maxOfState
     row-few = listed .rows .few s (omega (arith, row-within))
 
 pub row-leads : (ends targets marks : List ℕ) (r : ℕ) (codes : List ℕ) (place code : ℕ) (rows : Rows ends targets marks r codes) → place < length codes → getD codes place 0 ≡ code → (s : ℕ) → s ≡ code / 16

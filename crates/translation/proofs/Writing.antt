@@ -10,6 +10,7 @@ use lib.Seq.{sets, take-suc, take-all, length-take-le}
 use lib.Dec.{eqb}
 use Rattle.generalized.specs.Explore.{find}
 use Rattle.translation.specs.Degeneralized.{numbers}
+use Rattle.automaton.specs.Limits.{maxStates, maxOfState, transitionsBytes}
 use Rattle.automaton.specs.Records.{records}
 use Rattle.answer.specs.Bytes.{twoBytes}
 use Rattle.translation.specs.Memory.{range, rowStart, rowCount, row, targetN, pairBytes, stateBytes, transitionBytes, rowN, Listed, Rows, Filled, Adds}
@@ -88,7 +89,7 @@ module _ (ends pairs : List ℕ) (p : ℕ) (listed : Listed ends pairs) (lt : p 
   pub count-rises : start ≤ end
   count-rises = rw (estart, eend, same-row) (row-rises ends pairs p _ listed lt refl t et)
 
-  pub count-few : end - start ≤ 128
+  pub count-few : end - start ≤ maxOfState
   count-few = rw (estart, eend, same-row) (row-few ends pairs p _ listed lt refl t et)
 
 -- ---- the transitions of a pair
@@ -122,7 +123,7 @@ transitionN targets marks r terms pairs level i = transitionBytes (getD terms i 
 pub record Writing (targets marks : List ℕ) (r : ℕ) (terms pairs : List ℕ) (level from end k : ℕ) (before table : List ℕ) (next i : ℕ) : Type 0 where
   pub inside : end ≤ 1024
   pub leads : (j : ℕ) → j < end → getD targets j 0 < 128
-  pub few : end - from ≤ 128
+  pub few : end - from ≤ maxOfState
   pub begun : from ≤ i
   pub within : i ≤ end
   pub counted : next ≡ k + (i - from)
@@ -159,11 +160,11 @@ module _ (ends targets marks : List ℕ) (r : ℕ) (terms pairs : List ℕ) (pla
       }
 
 module _ (targets marks : List ℕ) (r : ℕ) (terms pairs : List ℕ) (level from end k : ℕ) (before table : List ℕ) (next i : ℕ) (inv : Writing targets marks r terms pairs level from end k before table next i)
-    (lt : i < end) (room : k * 4 + 512 ≤ length before) (x number : ℕ) (ex : x ≡ targetN targets marks r level i) (en : number ≡ find eqb x pairs) where
+    (lt : i < end) (room : k * 4 + 4 * maxOfState ≤ length before) (x number : ℕ) (ex : x ≡ targetN targets marks r level i) (en : number ≡ find eqb x pairs) where
   number-is : number ≡ find eqb (targetN targets marks r level i) pairs
   number-is = en ∙ rw ex
 
-  pub number-fits : length pairs ≤ 96 → number < 65536
+  pub number-fits : length pairs ≤ maxStates → number < 65536
   number-fits le = omega (arith, number-is, find-most (targetN targets marks r level i) pairs)
 
   pub record-room : next * 4 + 4 ≤ length table
@@ -196,7 +197,7 @@ module _ (targets marks : List ℕ) (r : ℕ) (terms pairs : List ℕ) (level fr
 pub record Table (ends targets marks : List ℕ) (r : ℕ) (terms pairs before table : List ℕ) (k p : ℕ) : Type 0 where
   pub within : p ≤ length pairs
   pub size : length table ≡ length before
-  pub few : k ≤ p * 128
+  pub few : k ≤ p * maxOfState
   pub done : Adds before 0 (records (rowN ends targets marks r terms pairs) (take p pairs)) table k
 
 pub table-begins : (ends targets marks : List ℕ) (r : ℕ) (terms pairs before : List ℕ) → Table ends targets marks r terms pairs before before 0 0
@@ -212,8 +213,8 @@ module _ (ends targets marks : List ℕ) (r : ℕ) (terms pairs before table : L
   pub table-ends : length pairs ≤ p → Adds before 0 (records (rowN ends targets marks r terms pairs) pairs) table k
   table-ends le = rw (take-all p pairs le) at (inv .done)
 
-  module _ (lt : p < length pairs) (most : length pairs ≤ 96) where
-    pub row-room : 49152 ≤ length before → k * 4 + 512 ≤ length table
+  module _ (lt : p < length pairs) (most : length pairs ≤ maxStates) where
+    pub row-room : transitionsBytes ≤ length before → k * 4 + 4 * maxOfState ≤ length table
     row-room room = omega (arith, inv .few, inv .size)
 
     pub table-steps : Rows ends targets marks r pairs → (after : List ℕ) (next : ℕ) → length after ≡ length table → Adds table k (rowN ends targets marks r terms pairs (getD pairs p 0)) after next

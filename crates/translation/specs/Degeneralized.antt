@@ -12,6 +12,7 @@ use Rattle.generalized.specs.Explore.{find, explore}
 use Rattle.generalized.specs.Generalized.{transitions, generalized}
 use Rattle.acceptance.specs.Acceptance.{untilCount, fulfilsNext}
 use Rattle.automaton.specs.Automaton.{State, Automaton}
+use Rattle.automaton.specs.Limits.{maxStates}
 
 -- the level reached from j: one higher for each of the next untils that t fulfils, up to the first that it does not;
 -- left untils come after j (01, First walk and second walk, sentence 13)
@@ -53,11 +54,12 @@ module _ (rule states : List ℕ) where
   unfoldable pub target : Pair → Term → Pair
   target x t = pair (find eqb (t .obligations) states) (nextLevel rule (x .level) t)
 
-  -- the pairs by number, as the first walk would number them; one more than 96 is refused by 24, at the pair that is
-  -- walked (01, First walk and second walk, sentences 14 and 16; Numbers that come from the state, 24)
+  -- the pairs by number, as the first walk would number them; one more than an automaton has states is refused by 24,
+  -- at the pair that is walked (01, First walk and second walk, sentences 14 and 16; Numbers that come from the state,
+  -- 24)
   unfoldable pub degeneralized : Result (List Pair)
   degeneralized =
-      explore samePair 96 24 (λ _ _. fine) (pair 0 0) (λ x. map (target x) (pairTransitions x)) (λ _ _. fine) 96 0 0 (map (λ i. pair i 0) (initialNumbers rule))
+      explore samePair maxStates 24 (λ _ _. fine) (pair 0 0) (λ x. map (target x) (pairTransitions x)) (λ _ _. fine) maxStates 0 0 (map (λ i. pair i 0) (initialNumbers rule))
 
   -- a pair as a state of the automaton: it accepts at the last level, and has the transitions of the first walk, each
   -- to its target's number (01, First walk and second walk, sentences 14 and 15)

@@ -12,6 +12,7 @@ use Rattle.translation.specs.declared.Paired.{Paired}
 use Rattle.translation.specs.declared.Paired.the-variants.{Count, Full}
 use Rattle.automaton.specs.Automaton.{Automaton}
 use Rattle.translation.specs.Degeneralized.{Pair, pair, numbers, initialNumbers, degeneralized, stateOf}
+use Rattle.automaton.specs.Limits.{maxStates, maxOfState, statesBytes, transitionsBytes, initialBytes}
 use Rattle.automaton.specs.Records.{records}
 use Rattle.answer.specs.Bytes.{twoBytes}
 
@@ -52,7 +53,7 @@ nextLevelN marks r i j = cond (ltb j r) (climbN marks i (r - j) j) (climbN marks
 
 -- the targets ts of the pair at place, met when the pairs codes are numbered
 abbrev pub meetAllN : (place count : ℕ) (ts codes : List ℕ) → Result (List ℕ)
-meetAllN place count ts codes = meetAll eqb 96 24 (λ _ _. fine) place ts count codes
+meetAllN place count ts codes = meetAll eqb maxStates 24 (λ _ _. fine) place ts count codes
 
 -- the code of the pair that transition i leads to from a level
 abbrev pub targetN : (targets marks : List ℕ) (r level i : ℕ) → ℕ
@@ -76,7 +77,7 @@ module _ (ends targets marks : List ℕ) (r : ℕ) where
   targetsN code = map (targetN targets marks r (code % 16)) (row ends (code / 16))
 
   abbrev pub exploreN : (fuel place count : ℕ) (codes : List ℕ) → Result (List ℕ)
-  exploreN = explore eqb 96 24 (λ _ _. fine) 0 targetsN (λ _ _. fine)
+  exploreN = explore eqb maxStates 24 (λ _ _. fine) 0 targetsN (λ _ _. fine)
 
   -- the records of a pair's transitions, terms packed, when the pairs codes are numbered
   abbrev pub rowN : (terms codes : List ℕ) (code : ℕ) → List ℕ
@@ -98,7 +99,7 @@ pub record Ends (ends : List ℕ) (n : ℕ) : Type 0 where
   pub states : n ≤ 128
   pub rising : (s : ℕ) → s < n → rowStart ends s ≤ getD ends s 0
   pub inside : (s : ℕ) → s < n → getD ends s 0 ≤ 1024
-  pub few : (s : ℕ) → s < n → rowCount ends s ≤ 128
+  pub few : (s : ℕ) → s < n → rowCount ends s ≤ maxOfState
 
 -- pairs whose rows these are
 pub record Listed (ends codes : List ℕ) : Type 0 where
@@ -120,7 +121,7 @@ Targets states terms m targets = (i : ℕ) → i < m → getD targets i 0 ≡ fi
 
 -- pairs met: how many, or that there is one too many, and the pair being walked
 abbrev pub Pairs : (met : Result (List ℕ)) → Paired → (pairs : List ℕ) → Type 0
-Pairs met (Count n) pairs = (met ≡ accepted (take n pairs)) × (n ≤ 96)
+Pairs met (Count n) pairs = (met ≡ accepted (take n pairs)) × (n ≤ maxStates)
 Pairs met (Full pair) pairs = met ≡ refused 24 (pair .0)
 
 -- a table that has bytes, and zeros after them
@@ -135,9 +136,9 @@ pub record Adds (before : List ℕ) (k : ℕ) (bytes table : List ℕ) (after : 
 
 -- the three tables, large enough and all zero
 pub record Blank (states transitions initial : List ℕ) : Type 0 where
-  pub states-room : 384 ≤ length states
-  pub transitions-room : 49152 ≤ length transitions
-  pub initial-room : 192 ≤ length initial
+  pub states-room : statesBytes ≤ length states
+  pub transitions-room : transitionsBytes ≤ length transitions
+  pub initial-room : initialBytes ≤ length initial
   pub states-zero : Filled states []
   pub transitions-zero : Filled transitions []
   pub initial-zero : Filled initial []

@@ -26,6 +26,7 @@ ghost use Rattle.generalized.specs.declared.Walked.the-variants.{Counts};
 ghost use Rattle.generalized.specs.Explore.{find};
 ghost use Rattle.generalized.specs.Memory.{Walks};
 ghost use Rattle.translation.specs.Degeneralized.{numbers, translation};
+ghost use Rattle.automaton.specs.Limits.{maxStates, maxOfState, transitionsBytes};
 ghost use Rattle.automaton.specs.Records.{records};
 ghost use Rattle.answer.specs.Bytes.{twoBytes};
 ghost use Rattle.translation.specs.Memory.{secondWalk, rowStart, climbN, nextLevelN, targetN, targetsN, meetAllN, exploreN, pairBytes, rowN, stateBytes, transitionBytes, Listed, Rows, Targets, Pairs, Filled, Adds, Blank, Written};
@@ -186,7 +187,7 @@ fn meet_row(
     n: usize,
     pair: State,
 ) -> Paired
-    requires { ⌜ Rows (now ends) (now targets) (now marks) r (take n (now pairs)) × (length (now pairs) ≡ 96) × (n ≤ 96) × (pair .0 < n) ⌝ }
+    requires { ⌜ Rows (now ends) (now targets) (now marks) r (take n (now pairs)) × (length (now pairs) ≡ maxStates) × (n ≤ maxStates) × (pair .0 < n) ⌝ }
     ensures { λ met. ⌜ ((count : ℕ) → Pairs (meetAllN (pair .0) count (targetsN (now (ends .entry)) (now (targets .entry)) (now (marks .entry)) r (getD (now (pairs .entry)) (pair .0) 0)) (take n (now (pairs .entry)))) met (now (pairs .exit))) ⌝ }
 {
     let place = pair.0;
@@ -215,8 +216,8 @@ fn explore_pairs(
     pairs: &mut [u64],
     n: usize,
 ) -> Paired
-    requires { ⌜ Rows (now ends) (now targets) (now marks) r (take n (now pairs)) × (length (now pairs) ≡ 96) × (n ≤ 96) ⌝ }
-    ensures { λ met. ⌜ Pairs (exploreN (now (ends .entry)) (now (targets .entry)) (now (marks .entry)) r 96 0 0 (take n (now (pairs .entry)))) met (now (pairs .exit)) ⌝ }
+    requires { ⌜ Rows (now ends) (now targets) (now marks) r (take n (now pairs)) × (length (now pairs) ≡ maxStates) × (n ≤ maxStates) ⌝ }
+    ensures { λ met. ⌜ Pairs (exploreN (now (ends .entry)) (now (targets .entry)) (now (marks .entry)) r maxStates 0 0 (take n (now (pairs .entry)))) met (now (pairs .exit)) ⌝ }
 {
     let mut k = n;
     let mut pair = State(0);
@@ -289,7 +290,7 @@ fn write_row(
     pairs: &[u64],
     pair: State,
 ) -> usize
-    requires { ⌜ Rows (now ends) (now targets) (now marks) r (now pairs) × (pair .0 < length (now pairs)) × (length (now pairs) ≤ 96) × (length (now terms) ≡ 1024) × (k * 4 + 512 ≤ length (now table)) ⌝ }
+    requires { ⌜ Rows (now ends) (now targets) (now marks) r (now pairs) × (pair .0 < length (now pairs)) × (length (now pairs) ≤ maxStates) × (length (now terms) ≡ 1024) × (k * 4 + 4 * maxOfState ≤ length (now table)) ⌝ }
     ensures { λ after. ⌜ Adds (now (table .entry)) k (rowN (now (ends .entry)) (now (targets .entry)) (now (marks .entry)) r (now (terms .entry)) (now (pairs .entry)) (getD (now (pairs .entry)) (pair .0) 0)) (now (table .exit)) after ⌝ }
 {
     let place = pair.0;
@@ -317,7 +318,7 @@ fn write_transitions(
     r: usize,
     pairs: &[u64],
 ) -> usize
-    requires { ⌜ Rows (now ends) (now targets) (now marks) r (now pairs) × (length (now pairs) ≤ 96) × (length (now terms) ≡ 1024) × (49152 ≤ length (now table)) ⌝ }
+    requires { ⌜ Rows (now ends) (now targets) (now marks) r (now pairs) × (length (now pairs) ≤ maxStates) × (length (now terms) ≡ 1024) × (transitionsBytes ≤ length (now table)) ⌝ }
     ensures { λ count. ⌜ Adds (now (table .entry)) 0 (records (rowN (now (ends .entry)) (now (targets .entry)) (now (marks .entry)) r (now (terms .entry)) (now (pairs .entry))) (now (pairs .entry))) (now (table .exit)) count ⌝ }
 {
     let mut k = 0;
@@ -354,7 +355,7 @@ fn write_tables(
     transitions: &mut [u8],
     initial: &mut [u8],
 ) -> usize
-    requires { ⌜ Rows (now ends) (now targets) (now marks) r (now pairs) × (length (now terms) ≡ 1024) × (length (now pairs) ≤ 96) × (n ≤ 64) × Blank (now states) (now transitions) (now initial) ⌝ }
+    requires { ⌜ Rows (now ends) (now targets) (now marks) r (now pairs) × (length (now terms) ≡ 1024) × (length (now pairs) ≤ maxStates) × (n ≤ 64) × Blank (now states) (now transitions) (now initial) ⌝ }
     ensures { λ count. ⌜ Written (now (ends .entry)) (now (targets .entry)) (now (marks .entry)) r (now (terms .entry)) (now (pairs .entry)) n (now (transitions .entry)) count (now (states .exit)) (now (transitions .exit)) (now (initial .exit)) ⌝ }
 {
     write_states(states, ends, r, pairs);

@@ -1,6 +1,7 @@
 -- `image::counts_fit` meets its contract: each way through the code settles the three tests in a row.
 -- Assumes nothing.
 use native.Mathlib.Omega.{arith}
+use Rattle.automaton.specs.Limits.{maxStates, maxTransitions}
 use Rattle.image.specs.Reader.{countsFit}
 use Rattle.image.proofs.Tests.{first-fails, second-fails, third-left}
 use Rattle.image.proofs.counts_fit.Statement.{statement}
@@ -8,15 +9,15 @@ use Rattle.image.proofs.counts_fit.Tie as tie
 
 returns : tie.Need-returns
 unfolding countsFit
-returns c = first-fails (c .before .args .states) 96 (c .before .args .transitions) 12288 _ (omega arith)
+returns c = first-fails (c .before .args .states) maxStates (c .before .args .transitions) maxTransitions _ (omega arith)
 
 returns-2 : tie.Need-returns-2
 unfolding countsFit
-returns-2 c = second-fails (c .before .before .args .states) 96 (c .before .before .args .transitions) 12288 _ (omega arith) (omega arith)
+returns-2 c = second-fails (c .before .before .args .states) maxStates (c .before .before .args .transitions) maxTransitions _ (omega arith) (omega arith)
 
 returns-3 : tie.Need-returns-3
 unfolding countsFit
-returns-3 c = third-left (c .before .before .args .states) 96 (c .before .before .args .transitions) 12288 _ (omega arith) (omega arith)
+returns-3 c = third-left (c .before .before .args .states) maxStates (c .before .before .args .transitions) maxTransitions _ (omega arith) (omega arith)
 
 pub counts-fit-spec : {M : Type 1} → statement M
 counts-fit-spec = tie.close (tie.spec returns returns-2 returns-3)

@@ -1,18 +1,19 @@
 -- `image::tables_fit` meets its contract: each way through the code settles the three tests in a row.
 -- Assumes nothing.
 use native.Mathlib.Omega.{arith}
+use Rattle.automaton.specs.Limits.{statesBytes, transitionsBytes}
 use Rattle.image.proofs.Tests.{first-fails, second-fails, third-left}
 use Rattle.image.proofs.tables_fit.Statement.{statement}
 use Rattle.image.proofs.tables_fit.Tie as tie
 
 returns : tie.Need-returns
-returns c = first-fails 384 (c .before .args .states) 49152 (c .before .args .transitions) _ (omega arith)
+returns c = first-fails statesBytes (c .before .args .states) transitionsBytes (c .before .args .transitions) _ (omega arith)
 
 returns-2 : tie.Need-returns-2
-returns-2 c = second-fails 384 (c .before .before .args .states) 49152 (c .before .before .args .transitions) _ (omega arith) (omega arith)
+returns-2 c = second-fails statesBytes (c .before .before .args .states) transitionsBytes (c .before .before .args .transitions) _ (omega arith) (omega arith)
 
 returns-3 : tie.Need-returns-3
-returns-3 c = third-left 384 (c .before .before .args .states) 49152 (c .before .before .args .transitions) _ (omega arith) (omega arith)
+returns-3 c = third-left statesBytes (c .before .before .args .states) transitionsBytes (c .before .before .args .transitions) _ (omega arith) (omega arith)
 
 pub tables-fit-spec : {M : Type 1} → statement M
 tables-fit-spec = tie.close (tie.spec returns returns-2 returns-3)

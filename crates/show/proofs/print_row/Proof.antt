@@ -6,22 +6,23 @@ use mathlib.Core.List.{List}
 use lib.ListN.{length, getD}
 use borrow.Author.Needs.{needs}
 use borrow.Author.Tests.{lt-ltb, le-ltb, le-leb, lt-leb}
+use Rattle.automaton.specs.Limits.{maxTransitions}
 use Rattle.show.specs.Shown.{number, rowEnd}
 use Rattle.show.proofs.print_row.Statement.{statement}
 use Rattle.show.proofs.print_row.Tie as tie
 
 module _ (states : List ℕ) (i from : ℕ) where
-  past : 12288 < from → from ≡ rowEnd states i from
+  past : maxTransitions < from → from ≡ rowEnd states i from
   unfolding rowEnd
-  past lt = rw (lt-ltb 12288 from lt)
+  past lt = rw (lt-ltb maxTransitions from lt)
 
-  behind : from ≤ 12288 → length states / 4 ≤ i → from ≡ rowEnd states i from
+  behind : from ≤ maxTransitions → length states / 4 ≤ i → from ≡ rowEnd states i from
   unfolding rowEnd
-  behind le none = rw (le-ltb 12288 from le, le-leb (length states / 4) i none)
+  behind le none = rw (le-ltb maxTransitions from le, le-leb (length states / 4) i none)
 
-  counted : {count : ℕ} → from ≤ 12288 → i < length states / 4 → count ≡ number (getD states (i * 4) 0) (getD states (i * 4 + 1) 0) → from + count ≡ rowEnd states i from
+  counted : {count : ℕ} → from ≤ maxTransitions → i < length states / 4 → count ≡ number (getD states (i * 4) 0) (getD states (i * 4 + 1) 0) → from + count ≡ rowEnd states i from
   unfolding rowEnd
-  counted le there e = rw (le-ltb 12288 from le, lt-leb (length states / 4) i there, e)
+  counted le there e = rw (le-ltb maxTransitions from le, lt-leb (length states / 4) i there, e)
 
 returns : tie.Need-returns
 returns c = past _ _ _ (search needs)

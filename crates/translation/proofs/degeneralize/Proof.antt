@@ -4,6 +4,7 @@ use borrow.Author.Needs.{needs}
 use native.Mathlib.Omega.{arith}
 use mathlib.Core.Path.{_≡_, sym, _∙_}
 use lib.ListN.{length}
+use Rattle.automaton.specs.Limits.{maxStates}
 use Rattle.translation.proofs.FirstWalk.{initial-few}
 use Rattle.translation.proofs.SecondWalk.{Begun, first-rows, full-is, count-inside, all-rows, codes-count, codes-few, written-is}
 use Rattle.translation.proofs.degeneralize.Statement.{statement}
@@ -30,7 +31,7 @@ begun c =
       start = c .start-pairs .ensures;
     }
 
-size : (c : tie.After-explore-pairs) → length (c .explore-pairs .last .1 .1 .1 .1 .0) ≡ 96
+size : (c : tie.After-explore-pairs) → length (c .explore-pairs .last .1 .1 .1 .1 .0) ≡ maxStates
 size c = c .explore-pairs .kept .1 .1 .1 .1 .0 ∙ c .before .before .before .before .before .start-pairs .kept .0
 
 slice-aggregate-mark : tie.Need-slice-aggregate-mark

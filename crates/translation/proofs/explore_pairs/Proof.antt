@@ -5,16 +5,17 @@ use native.Mathlib.Omega.{arith}
 use Prim.Native.Nat.{_-_}
 use mathlib.Core.Path.{refl, sym, _∙_}
 use lib.ListN.{take}
+use Rattle.automaton.specs.Limits.{maxStates}
 use Rattle.translation.specs.Memory.{exploreN}
 use Rattle.translation.proofs.Pairing.{Pairing, pairing-ends, pairing-full, pairing-steps}
 use Rattle.translation.proofs.explore_pairs.Statement.{statement}
 use Rattle.translation.proofs.explore_pairs.Tie as tie
 
 abbrev Inv-loop : tie.InvT-loop
-Inv-loop ends targets marks r pairs₀ n k₀ pair₀ pairs k pair = Pairing ends targets marks r (exploreN ends targets marks r 96 0 0 (take n pairs₀)) pairs k (pair .0)
+Inv-loop ends targets marks r pairs₀ n k₀ pair₀ pairs k pair = Pairing ends targets marks r (exploreN ends targets marks r maxStates 0 0 (take n pairs₀)) pairs k (pair .0)
 
 abbrev μ-loop : tie.MeasureT-loop
-μ-loop ends targets marks r pairs₀ n k₀ pair₀ pairs k pair = 96 - pair .0
+μ-loop ends targets marks r pairs₀ n k₀ pair₀ pairs k pair = maxStates - pair .0
 
 loop-holds : tie.Need-loop-holds Inv-loop μ-loop
 loop-holds c =
