@@ -11,7 +11,7 @@ use lib.Seq.{getD-append-seam}
 use lib.Dec.{ltb}
 use borrow.Author.Tests.{ltb-true, ltb-false}
 use Rattle.formula.specs.Rule.{nodeCount, kindAt, leftAt, rightAt}
-use Rattle.formula.specs.Formula.{Formula, bottom, top, proposition, negation, conjunction, disjunction, next, until, release, build, trees, tree}
+use Rattle.formula.specs.Formula.{Formula, bottom, top, proposition, negatedProposition, conjunction, disjunction, next, until, release, build, trees, tree}
 use Rattle.correctness.proofs.Runs.{Below, Known, Fits}
 
 -- node number left among the trees fs, as a child of node n
@@ -84,7 +84,7 @@ below-more : (j k : ℕ) → j ≤ k → (g : Formula) → Below j g → Below k
 below-more j k l bottom b = tt
 below-more j k l top b = tt
 below-more j k l (proposition n p) b = omega arith
-below-more j k l (negation n p) b = omega arith
+below-more j k l (negatedProposition n p) b = omega arith
 below-more j k l (conjunction f g) (p, q) = (below-more j k l f p, below-more j k l g q)
 below-more j k l (disjunction f g) (p, q) = (below-more j k l f p, below-more j k l g q)
 below-more j k l (next n f) (b, p) = (omega arith, below-more j k l f p)

@@ -8,7 +8,7 @@ use Rattle.formula.specs.Rule.{root}
 -- the table of kinds)
 pub data Formula : Type 0 where
   bottom top : Formula
-  proposition negation : (node p : ℕ) → Formula
+  proposition negatedProposition : (node p : ℕ) → Formula
   conjunction disjunction : Formula → Formula → Formula
   next : (node : ℕ) → Formula → Formula
   until release : (node : ℕ) → Formula → Formula → Formula
@@ -18,7 +18,7 @@ abbrev pub build : (kind n left : ℕ) (a b : Formula) → Formula
 build zero n left a b = bottom
 build (suc zero) n left a b = top
 build (suc (suc zero)) n left a b = proposition n left
-build (suc (suc (suc zero))) n left a b = negation n left
+build (suc (suc (suc zero))) n left a b = negatedProposition n left
 build (suc (suc (suc (suc zero)))) n left a b = conjunction a b
 build (suc (suc (suc (suc (suc zero))))) n left a b = disjunction a b
 build (suc (suc (suc (suc (suc (suc zero)))))) n left a b = next n a
@@ -47,7 +47,7 @@ unfoldable pub InRange : Formula → Type 0
 InRange bottom = Unit {0}
 InRange top = Unit {0}
 InRange (proposition n p) = p < 8
-InRange (negation n p) = p < 8
+InRange (negatedProposition n p) = p < 8
 InRange (conjunction a b) = InRange a × InRange b
 InRange (disjunction a b) = InRange a × InRange b
 InRange (next n a) = InRange a

@@ -39,7 +39,7 @@ pub const TRUE: u8 = 1;
 
 pub const PROPOSITION: u8 = 2;
 
-pub const NEGATION: u8 = 3;
+pub const NEGATED_PROPOSITION: u8 = 3;
 
 pub const AND: u8 = 4;
 

@@ -40,9 +40,9 @@ module _ (n p : ℕ) (f g : Formula) (k : ℕ) where
       let q : pack (term (2 ^ p) 0 0) ≡ 2 ^ p * 256 = omega arith in
       rw (e, q)
 
-  pub of-negation : k ≡ 3 → map pack (terms (build k n p f g)) ≡ 2 ^ p ∷ []
+  pub of-negated-proposition : k ≡ 3 → map pack (terms (build k n p f g)) ≡ 2 ^ p ∷ []
   unfolding terms
-  of-negation e =
+  of-negated-proposition e =
       let q : pack (term 0 (2 ^ p) 0) ≡ 2 ^ p = omega arith in
       rw (e, q)
 
