@@ -113,8 +113,9 @@ module _ (rule : List ℕ) where
       go (suc (suc (suc (suc (suc (suc zero)))))) kn pa′ pb′ = record { fits = (kn, pa .fits); low = (omega arith, pa′ .low) }
       go (suc (suc (suc (suc (suc (suc (suc zero))))))) kn pa′ pb′ =
           record { fits = (kn, pb .low, pa .fits, pb .fits); low = (omega arith, pa′ .low, pb′ .low) }
-      go (suc (suc (suc (suc (suc (suc (suc (suc kind)))))))) kn pa′ pb′ =
+      go (suc (suc (suc (suc (suc (suc (suc (suc zero)))))))) kn pa′ pb′ =
           record { fits = (kn, pa .fits, pb .fits); low = (omega arith, pa′ .low, pb′ .low) }
+      go (suc (suc (suc (suc (suc (suc (suc (suc (suc kind))))))))) kn pa′ pb′ = record { fits = tt; low = tt }
 
   -- all trees below node k, by induction on k
   trees-placed : (k n : ℕ) → n < k → n < nodeCount rule → Placed (suc n) (tree rule n)
@@ -158,4 +159,5 @@ module _ (rule : List ℕ) where
       go (suc (suc (suc (suc (suc zero))))) f g q = cc
       go (suc (suc (suc (suc (suc (suc zero)))))) f g q = cc
       go (suc (suc (suc (suc (suc (suc (suc zero))))))) f g q = refl
-      go (suc (suc (suc (suc (suc (suc (suc (suc kind)))))))) f g q = cc
+      go (suc (suc (suc (suc (suc (suc (suc (suc zero)))))))) f g q = cc
+      go (suc (suc (suc (suc (suc (suc (suc (suc (suc kind))))))))) f g q = cc

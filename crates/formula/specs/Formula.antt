@@ -13,7 +13,8 @@ pub data Formula : Type 0 where
   next : (node : ℕ) → Formula → Formula
   until release : (node : ℕ) → Formula → Formula → Formula
 
--- node n of that kind: left is the byte, a and b are the trees of the children
+-- node n of that kind: left is the byte, a and b are the trees of the children. A kind above 8 builds bottom: 3 refuses
+-- it, so that no accepted rule has one
 abbrev pub build : (kind n left : ℕ) (a b : Formula) → Formula
 build zero n left a b = bottom
 build (suc zero) n left a b = top
@@ -23,7 +24,8 @@ build (suc (suc (suc (suc zero)))) n left a b = conjunction a b
 build (suc (suc (suc (suc (suc zero))))) n left a b = disjunction a b
 build (suc (suc (suc (suc (suc (suc zero)))))) n left a b = next n a
 build (suc (suc (suc (suc (suc (suc (suc zero))))))) n left a b = until n a b
-build (suc (suc (suc (suc (suc (suc (suc (suc kind)))))))) n left a b = release n a b
+build (suc (suc (suc (suc (suc (suc (suc (suc zero)))))))) n left a b = release n a b
+build (suc (suc (suc (suc (suc (suc (suc (suc (suc kind))))))))) n left a b = bottom
 
 -- the trees of all nodes, from those below and the bytes of the rest: a child is looked up among the trees below its
 -- parent
