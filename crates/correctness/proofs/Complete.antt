@@ -13,7 +13,7 @@ use lib.Dec.{ltb}
 use borrow.Author.Tests.{eq-eqb}
 use Rattle.sets.specs.Sets.{union, In}
 use Rattle.formula.specs.Rule.{root, nodeCount}
-use Rattle.formula.specs.Formula.{Formula, bottom, top, proposition, negation, conjunction, disjunction, next, until, release, tree, formula}
+use Rattle.formula.specs.Formula.{Formula, bottom, top, proposition, negatedProposition, conjunction, disjunction, next, until, release, tree, formula}
 use Rattle.formula.specs.Satisfaction.{Holds}
 use Rattle.sets.specs.Bits.{has, Has}
 use Rattle.term.specs.Term.{Term, term, less, joined, consistent, product, cover, terms}
@@ -84,7 +84,7 @@ module _ (rule : List ℕ) (w : ℕ → ℕ) (decide : (g : Formula) (i : ℕ) �
   choose bottom f i h = absurd h
   choose top f i h = (0, inl refl, owes-none i)
   choose (proposition n m) f i h = (2 ^ n, inl refl, owes-one n (proposition n m) f i h)
-  choose (negation n m) f i h = (2 ^ n, inl refl, owes-one n (negation n m) f i h)
+  choose (negatedProposition n m) f i h = (2 ^ n, inl refl, owes-one n (negatedProposition n m) f i h)
   choose (conjunction a b) (fa, fb) i (ha, hb) =
       let (c, mc, oc) = choose a fa i ha in
       let (d, md, od) = choose b fb i hb in
@@ -131,7 +131,7 @@ module _ (rule : List ℕ) (w : ℕ → ℕ) (decide : (g : Formula) (i : ℕ) �
   Prompt bottom u i = Unit {0}
   Prompt top u i = Unit {0}
   Prompt (proposition n p) u i = Unit {0}
-  Prompt (negation n p) u i = Unit {0}
+  Prompt (negatedProposition n p) u i = Unit {0}
   Prompt (conjunction a b) u i = Unit {0}
   Prompt (disjunction a b) u i = Unit {0}
   Prompt (next n a) u i = Unit {0}
@@ -146,7 +146,7 @@ module _ (rule : List ℕ) (w : ℕ → ℕ) (decide : (g : Formula) (i : ℕ) �
     where
       r : Reads (term (2 ^ p) 0 0) (w i)
       r = record { set = λ k b. subst (Has (w i)) (sym (has-pow p k b)) (record { set = h }); clear = λ k b s. zero-has b }
-  pick (negation n p) f i h = (record { choice = term 0 (2 ^ p) 0; listed = inl refl; reads = r; owes = owes-none (suc i) }, tt)
+  pick (negatedProposition n p) f i h = (record { choice = term 0 (2 ^ p) 0; listed = inl refl; reads = r; owes = owes-none (suc i) }, tt)
     where
       r : Reads (term 0 (2 ^ p) 0) (w i)
       r = record { set = λ k b. absurd (zero-has b); clear = λ k b s. not-has (w i) p h (subst (Has (w i)) (has-pow p k b) s) }

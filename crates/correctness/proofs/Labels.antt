@@ -10,7 +10,7 @@ use lib.Pow.{pow-lt}
 use borrow.Author.Tests.{eqb-true}
 use Rattle.sets.specs.Sets.{union}
 use Rattle.formula.specs.Rule.{nodeCount}
-use Rattle.formula.specs.Formula.{Formula, bottom, top, proposition, negation, conjunction, disjunction, next, until, release, tree, InRange}
+use Rattle.formula.specs.Formula.{Formula, bottom, top, proposition, negatedProposition, conjunction, disjunction, next, until, release, tree, InRange}
 use Rattle.sets.specs.Bits.{has}
 use Rattle.term.specs.Term.{Term, term, less, joined, consistent, product, cover, terms}
 use Rattle.generalized.specs.Generalized.{times, partialProduct, transitions}
@@ -42,7 +42,7 @@ unfolding terms InRange
 terms-labelled bottom m = λ t h. absurd h
 terms-labelled top m = all-one Labelled (term 0 0 0) (owing-labelled 0)
 terms-labelled (proposition n p) m = all-one Labelled (term (2 ^ p) 0 0) (record { must-byte = pow-lt {j = 8} m; not-byte = omega arith; disjoint = and-zero-r (2 ^ p) })
-terms-labelled (negation n p) m = all-one Labelled (term 0 (2 ^ p) 0) (record { must-byte = omega arith; not-byte = pow-lt {j = 8} m; disjoint = and-zero-l (2 ^ p) })
+terms-labelled (negatedProposition n p) m = all-one Labelled (term 0 (2 ^ p) 0) (record { must-byte = omega arith; not-byte = pow-lt {j = 8} m; disjoint = and-zero-l (2 ^ p) })
 terms-labelled (conjunction a b) (p, q) = product-labelled (terms a) (terms b) (terms-labelled a p) (terms-labelled b q)
 terms-labelled (disjunction a b) (p, q) = all-union less Labelled (terms a) (terms b) (terms-labelled a p) (terms-labelled b q)
 terms-labelled (next n a) m = λ t h. let (c, mc, e) = map-in (term 0 0) t (cover a) h in subst Labelled (sym e) (owing-labelled c)

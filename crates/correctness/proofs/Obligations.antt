@@ -9,7 +9,7 @@ use native.Mathlib.Omega.{arith}
 use lib.Bits.{bitOr}
 use lib.Dec.{ltb}
 use Rattle.sets.specs.Sets.{union, In}
-use Rattle.formula.specs.Formula.{Formula, bottom, top, proposition, negation, conjunction, disjunction, next, until, release}
+use Rattle.formula.specs.Formula.{Formula, bottom, top, proposition, negatedProposition, conjunction, disjunction, next, until, release}
 use Rattle.term.specs.Term.{Term, term, less, joined, consistent, product, cover, terms}
 use Rattle.sets.specs.Bits.{Has}
 use Rattle.sets.proofs.Bits.{or-has, zero-has, has-pow}
@@ -35,7 +35,7 @@ unfolding cover
 cover-low k bottom l = λ c h. absurd h
 cover-low k top l = all-one (Low k) 0 (low-none k)
 cover-low k (proposition n p) l = all-one (Low k) (2 ^ n) (low-one k n l)
-cover-low k (negation n p) l = all-one (Low k) (2 ^ n) (low-one k n l)
+cover-low k (negatedProposition n p) l = all-one (Low k) (2 ^ n) (low-one k n l)
 cover-low k (conjunction a b) (p, q) = all-product ltb bitOr (λ _. true) (Low k) (low-or k) (cover a) (cover b) (cover-low k a p) (cover-low k b q)
 cover-low k (disjunction a b) (p, q) = all-union ltb (Low k) (cover a) (cover b) (cover-low k a p) (cover-low k b q)
 cover-low k (next n a) (l, p) = all-one (Low k) (2 ^ n) (low-one k n l)
@@ -53,7 +53,7 @@ unfolding terms
 terms-low k bottom l = λ u h. absurd h
 terms-low k top l = all-one (LowTerm k) (term 0 0 0) (low-none k)
 terms-low k (proposition n p) l = all-one (LowTerm k) (term (2 ^ p) 0 0) (low-none k)
-terms-low k (negation n p) l = all-one (LowTerm k) (term 0 (2 ^ p) 0) (low-none k)
+terms-low k (negatedProposition n p) l = all-one (LowTerm k) (term 0 (2 ^ p) 0) (low-none k)
 terms-low k (conjunction a b) (p, q) = all-product less joined consistent (LowTerm k) (low-joined k) (terms a) (terms b) (terms-low k a p) (terms-low k b q)
 terms-low k (disjunction a b) (p, q) = all-union less (LowTerm k) (terms a) (terms b) (terms-low k a p) (terms-low k b q)
 terms-low k (next n a) (l, p) = λ u h.

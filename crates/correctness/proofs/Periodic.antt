@@ -5,7 +5,7 @@ use mathlib.Core.Path.{_≡_, refl, sym, subst}
 use mathlib.Core.Logic.{_⊎_, inl, inr}
 use native.Mathlib.Omega.{arith}
 use native.Mathlib.Decide.{ℕ-discrete, decLe}
-use Rattle.formula.specs.Formula.{Formula, bottom, top, proposition, negation, conjunction, disjunction, next, until, release}
+use Rattle.formula.specs.Formula.{Formula, bottom, top, proposition, negatedProposition, conjunction, disjunction, next, until, release}
 use Rattle.formula.specs.Satisfaction.{Holds}
 use Rattle.automaton.proofs.Positions.{Decided, some-dec}
 
@@ -131,7 +131,7 @@ module _ (s n : ℕ) (pos : 0 < n) where
     holds-repeats top i l = (λ h. h, λ h. h)
     holds-repeats (proposition c m) i l =
         (λ h. subst (λ (x : ℕ). x / 2 ^ m % 2 ≡ 1) (sym (round i l)) h, λ h. subst (λ (x : ℕ). x / 2 ^ m % 2 ≡ 1) (round i l) h)
-    holds-repeats (negation c m) i l =
+    holds-repeats (negatedProposition c m) i l =
         (λ h. subst (λ (x : ℕ). x / 2 ^ m % 2 ≡ 0) (sym (round i l)) h, λ h. subst (λ (x : ℕ). x / 2 ^ m % 2 ≡ 0) (round i l) h)
     holds-repeats (conjunction a b) i l =
         (λ h. (holds-repeats a i l .0 (h .0), holds-repeats b i l .0 (h .1)), λ h. (holds-repeats a i l .1 (h .0), holds-repeats b i l .1 (h .1)))
@@ -150,7 +150,7 @@ module _ (s n : ℕ) (pos : 0 < n) where
     holds-dec bottom i = no (λ h. h)
     holds-dec top i = yes tt
     holds-dec (proposition c m) i = ℕ-discrete (w i / 2 ^ m % 2) 1
-    holds-dec (negation c m) i = ℕ-discrete (w i / 2 ^ m % 2) 0
+    holds-dec (negatedProposition c m) i = ℕ-discrete (w i / 2 ^ m % 2) 0
     holds-dec (conjunction a b) i = go (holds-dec a i) (holds-dec b i)
       where
         go : Dec (Holds w a i) → Dec (Holds w b i) → Dec (Holds w a i × Holds w b i)

@@ -8,7 +8,7 @@ use mathlib.Core.Bool.{Bool, true, false}
 use native.Mathlib.Omega.{arith}
 use native.Mathlib.Decide.{ℕ-discrete}
 use Rattle.formula.specs.Rule.{nodeCount}
-use Rattle.formula.specs.Formula.{Formula, bottom, top, proposition, negation, conjunction, disjunction, next, until, release, tree, formula}
+use Rattle.formula.specs.Formula.{Formula, bottom, top, proposition, negatedProposition, conjunction, disjunction, next, until, release, tree, formula}
 use Rattle.sets.specs.Bits.{has, Has}
 use Rattle.term.specs.Term.{Term, less, joined, consistent, cover, terms}
 use Rattle.generalized.specs.Generalized.{times, partialProduct}
@@ -61,7 +61,7 @@ abbrev pub Below : ℕ → Formula → Type 0
 Below k bottom = Unit {0}
 Below k top = Unit {0}
 Below k (proposition n p) = n < k
-Below k (negation n p) = n < k
+Below k (negatedProposition n p) = n < k
 Below k (conjunction a b) = Below k a × Below k b
 Below k (disjunction a b) = Below k a × Below k b
 Below k (next n a) = (n < k) × Below k a
@@ -78,7 +78,7 @@ module _ (rule : List ℕ) where
   Fits bottom = Unit {0}
   Fits top = Unit {0}
   Fits (proposition n p) = Known n (proposition n p)
-  Fits (negation n p) = Known n (negation n p)
+  Fits (negatedProposition n p) = Known n (negatedProposition n p)
   Fits (conjunction a b) = Fits a × Fits b
   Fits (disjunction a b) = Fits a × Fits b
   Fits (next n a) = Known n (next n a) × Fits a

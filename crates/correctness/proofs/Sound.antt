@@ -11,7 +11,7 @@ use lib.Bits.{bitOr}
 use lib.Dec.{ltb}
 use Rattle.sets.specs.Sets.{union, In}
 use Rattle.formula.specs.Rule.{root, nodeCount}
-use Rattle.formula.specs.Formula.{Formula, bottom, top, proposition, negation, conjunction, disjunction, next, until, release, formula}
+use Rattle.formula.specs.Formula.{Formula, bottom, top, proposition, negatedProposition, conjunction, disjunction, next, until, release, formula}
 use Rattle.formula.specs.Satisfaction.{Holds}
 use Rattle.term.specs.Term.{Term, term, less, joined, consistent, product, cover, terms}
 use Rattle.sets.specs.Bits.{Has}
@@ -178,9 +178,9 @@ module _ (rule : List ℕ) (Move : ℕ → Term → Type 0) (listed : (d : ℕ) 
       one : Terms-say (proposition n m)
       one i u (inl q) r s = r .set m (subst (λ (v : Term). Has (v .must) m) (sym q) (pow-has m)) .set
       one i u (inr q) r s = absurd q
-  says (negation n m) f = let say : Terms-say (negation n m) = one in (say, obligation-says n (negation n m) f refl say)
+  says (negatedProposition n m) f = let say : Terms-say (negatedProposition n m) = one in (say, obligation-says n (negatedProposition n m) f refl say)
     where
-      one : Terms-say (negation n m)
+      one : Terms-say (negatedProposition n m)
       one i u (inl q) r s = has-zero (w i) m (r .clear m (subst (λ (v : Term). Has (v .mustNot) m) (sym q) (pow-has m)))
       one i u (inr q) r s = absurd q
   says (conjunction a b) (fa, fb) = go (says a fa) (says b fb)

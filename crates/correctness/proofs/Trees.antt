@@ -11,7 +11,7 @@ use lib.Seq.{getD-append-seam}
 use lib.Dec.{ltb}
 use borrow.Author.Tests.{ltb-true, ltb-false}
 use Rattle.formula.specs.Rule.{nodeCount, kindAt, leftAt, rightAt}
-use Rattle.formula.specs.Formula.{Formula, bottom, top, proposition, negation, conjunction, disjunction, next, until, release, build, trees, tree}
+use Rattle.formula.specs.Formula.{Formula, bottom, top, proposition, negatedProposition, conjunction, disjunction, next, until, release, build, trees, tree}
 use Rattle.correctness.proofs.Runs.{Below, Known, Fits}
 
 -- node number left among the trees fs, as a child of node n
@@ -84,7 +84,7 @@ below-more : (j k : ℕ) → j ≤ k → (g : Formula) → Below j g → Below k
 below-more j k l bottom b = tt
 below-more j k l top b = tt
 below-more j k l (proposition n p) b = omega arith
-below-more j k l (negation n p) b = omega arith
+below-more j k l (negatedProposition n p) b = omega arith
 below-more j k l (conjunction f g) (p, q) = (below-more j k l f p, below-more j k l g q)
 below-more j k l (disjunction f g) (p, q) = (below-more j k l f p, below-more j k l g q)
 below-more j k l (next n f) (b, p) = (omega arith, below-more j k l f p)
@@ -113,8 +113,9 @@ module _ (rule : List ℕ) where
       go (suc (suc (suc (suc (suc (suc zero)))))) kn pa′ pb′ = record { fits = (kn, pa .fits); low = (omega arith, pa′ .low) }
       go (suc (suc (suc (suc (suc (suc (suc zero))))))) kn pa′ pb′ =
           record { fits = (kn, pb .low, pa .fits, pb .fits); low = (omega arith, pa′ .low, pb′ .low) }
-      go (suc (suc (suc (suc (suc (suc (suc (suc kind)))))))) kn pa′ pb′ =
+      go (suc (suc (suc (suc (suc (suc (suc (suc zero)))))))) kn pa′ pb′ =
           record { fits = (kn, pa .fits, pb .fits); low = (omega arith, pa′ .low, pb′ .low) }
+      go (suc (suc (suc (suc (suc (suc (suc (suc (suc kind))))))))) kn pa′ pb′ = record { fits = tt; low = tt }
 
   -- all trees below node k, by induction on k
   trees-placed : (k n : ℕ) → n < k → n < nodeCount rule → Placed (suc n) (tree rule n)
@@ -158,4 +159,5 @@ module _ (rule : List ℕ) where
       go (suc (suc (suc (suc (suc zero))))) f g q = cc
       go (suc (suc (suc (suc (suc (suc zero)))))) f g q = cc
       go (suc (suc (suc (suc (suc (suc (suc zero))))))) f g q = refl
-      go (suc (suc (suc (suc (suc (suc (suc (suc kind)))))))) f g q = cc
+      go (suc (suc (suc (suc (suc (suc (suc (suc zero)))))))) f g q = cc
+      go (suc (suc (suc (suc (suc (suc (suc (suc (suc kind))))))))) f g q = cc

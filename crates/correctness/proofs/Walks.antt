@@ -1,6 +1,6 @@
 -- The automaton of an accepted rule numbers the machine that counts levels over obligation sets: the first walk
 -- numbers the sets, the second the pairs of such a number and a level. Assumes that both walks are accepted.
-use Prim.Native.Nat.{ℕ, zero, suc, _%_, _<_, _≤_}
+use Prim.Native.Nat.{ℕ, zero, suc, _<_, _≤_}
 use mathlib.Core.Path.{_≡_, refl, sym, _∙_, ap, subst}
 use mathlib.Core.Logic.{_↔_}
 use mathlib.Core.List.{List, [], _∷_, _++_, map}
@@ -9,12 +9,13 @@ use native.Mathlib.Omega.{arith}
 use native.Mathlib.Decide.{ℕ-discrete}
 use lib.ListN.{getD, length, length-append, length-map, List·getD-map, List·getD-append}
 use lib.Seq.{getD-append-seam}
-use lib.Dec.{eqb, leb, ltb}
-use borrow.Author.Tests.{eqb-true, eq-eqb, leb-true, ltb-true}
-use Rattle.answer.specs.Result.{accepted, fine, require}
-use Rattle.formula.specs.Rule.{root, nodeCount, lengthCheck}
+use lib.Dec.{eqb, leb}
+use borrow.Author.Tests.{eqb-true, eq-eqb, leb-true}
+use Rattle.answer.specs.Result.{accepted, fine}
+use Rattle.formula.specs.Rule.{root, nodeCount}
 use Rattle.formula.specs.Rule
 use Rattle.formula.specs.Formula.{formula}
+use Rattle.formula.proofs.Accepted.{accepted-fine}
 use Rattle.answer.proofs.Results.{require-fine, then-accepted}
 use Rattle.answer.proofs.Lowest.{lowest-each}
 use Rattle.term.specs.Term.{Term, cover, terms}
@@ -36,12 +37,7 @@ use Rattle.correctness.proofs.Numbering.{Numbering}
 
 -- the root of an accepted rule is a node, and has at most 64 cover sets
 root-inside : (rule : List ℕ) → Rule.checked rule ≡ fine → root rule < nodeCount rule
-unfolding Rule.checked lengthCheck
-root-inside rule e =
-    let (a, p, q) = then-accepted (lengthCheck rule) _ e in
-    let (b, r, s) = then-accepted (require (leb (length rule) 96) 1 0) _ p in
-    let (l, m) = and-eq-true-iff (ltb 0 (length rule)) _ .0 (require-fine _ 2 0 s) in
-    omega (arith, ltb-true 0 (length rule) l, eqb-true (length rule % 3) 0 m)
+root-inside rule e = omega (arith, accepted-fine rule e .some)
 
 pub cover-small : (rule : List ℕ) → checked rule ≡ fine → length (cover (formula rule)) ≤ 64
 unfolding checked sizeCheck formula

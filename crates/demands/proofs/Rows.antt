@@ -9,7 +9,7 @@ use mathlib.Core.Bool.{Bool, true, false}
 use lib.ListN.{length}
 use Rattle.sets.specs.Sets.{insert, union, insertJoin, insertJoins, insertProduct, any, In}
 use Rattle.answer.specs.Result.{accepted, fine, lowest}
-use Rattle.formula.specs.Rule.{leftOperand, rightOperand, lengthCheck, nodeCheck, places, placeCheck, untils, untilCheck}
+use Rattle.formula.specs.Rule.{leftOperand, rightOperand, lengthCheck, nodeCheck, places, placeCheck, syntaxCheck, untils, untilCheck}
 use Rattle.formula.specs.Rule
 use Rattle.formula.specs.Formula.{trees, tree, formula}
 use Rattle.lasso.specs.Lasso.{letter, lassoCheck}
@@ -167,7 +167,7 @@ unfolding on state transition table p1 p2 p3 p4 p5 p6 p7 p8 p9 insert union inse
 counts = refl
 
 translations : map (λ row. translation (row .rule)) table ≡ map (λ row. accepted (row .automaton)) table
-unfolding on state transition table p1 p2 p3 p4 p5 p6 p7 p8 p9 insert union insertJoin insertJoins insertProduct any lowest leftOperand rightOperand lengthCheck nodeCheck places placeCheck untils untilCheck Rule.checked trees tree formula cover terms sizeCheck checked find meet meetAll explore partialProduct transitions productCheck targets generalized shows fulfils climb nextLevel numbers initialNumbers pairTransitions target degeneralized stateOf translation
+unfolding on state transition table p1 p2 p3 p4 p5 p6 p7 p8 p9 insert union insertJoin insertJoins insertProduct any lowest leftOperand rightOperand lengthCheck nodeCheck places placeCheck syntaxCheck untils untilCheck Rule.checked trees tree formula cover terms sizeCheck checked find meet meetAll explore partialProduct transitions productCheck targets generalized shows fulfils climb nextLevel numbers initialNumbers pairTransitions target degeneralized stateOf translation
 translations = refl
 
 images : map (λ row. map (λ image. imageBytes (row .automaton)) (row .images)) table ≡ map (λ row. map (λ image. image) (row .images)) table

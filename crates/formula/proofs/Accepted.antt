@@ -9,7 +9,7 @@ use lib.Dec.{leb}
 use lib.ListN.{length}
 use borrow.Author.Tests.{leb-true, ltb-true, eqb-true}
 use Rattle.answer.specs.Result.{fine, lowest}
-use Rattle.formula.specs.Rule.{nodeCount, kindAt, leftAt, rightAt, lengthCheck, nodeCheck, placeCheck, untilCheck, checked, untils as untilsOf}
+use Rattle.formula.specs.Rule.{nodeCount, kindAt, leftAt, rightAt, lengthCheck, nodeCheck, syntaxCheck, untilCheck, checked, untils as untilsOf}
 use Rattle.answer.proofs.Lowest.{fine-first, fine-second, lowest-each}
 use Rattle.formula.proofs.Operands.{left-proposition, left-child, right-next, right-child}
 use Rattle.formula.proofs.Checks.{Tested, tested}
@@ -55,19 +55,18 @@ pub record Accepted (rule : List ℕ) : Type 0 where
   pub untils : length (untilsOf rule (nodeCount rule)) ≤ 8
 
 pub accepted-fine : (rule : List ℕ) → checked rule ≡ fine → Accepted rule
-unfolding checked lengthCheck untilCheck
+unfolding checked syntaxCheck lengthCheck untilCheck
 accepted-fine rule e =
-    let size = required _ 1 0 _ (fine-first (lengthCheck rule) _ e) in
+    let syntax = fine-first (syntaxCheck rule) _ e in
+    let size = required _ 1 0 _ (fine-first (lengthCheck rule) _ syntax) in
     let parts = and-eq-true-iff _ _ .0 (require-fine _ 2 0 (size .1)) in
-    let rest = fine-second (lengthCheck rule) _ e in
-    let nodes = lowest (nodeCheck rule) (nodeCount rule) in
-    let last = fine-second (lowest (placeCheck rule) (nodeCount rule)) _ (fine-second nodes _ rest) in
+    let nodes = fine-first (lowest (nodeCheck rule) (nodeCount rule)) _ (fine-second (lengthCheck rule) _ syntax) in
     let some : 0 < length rule = ltb-true 0 (length rule) (parts .0) in
     let whole : length rule % 3 ≡ 0 = eqb-true (length rule % 3) 0 (parts .1) in
     record {
       most = leb-true (length rule) 96 (size .0);
       some = omega arith;
       whole = whole;
-      nodes = λ n lt. node-fine rule n (lowest-each (nodeCheck rule) (nodeCount rule) (fine-first nodes _ rest) n lt);
-      untils = leb-true (length (untilsOf rule (nodeCount rule))) 8 (require-fine _ 7 0 last);
+      nodes = λ n lt. node-fine rule n (lowest-each (nodeCheck rule) (nodeCount rule) nodes n lt);
+      untils = leb-true (length (untilsOf rule (nodeCount rule))) 8 (require-fine _ 7 0 (fine-second (syntaxCheck rule) _ e));
     }

@@ -9,7 +9,7 @@ use lib.Dec.{eqb, leb, ltb}
 use borrow.Author.Tests.{leb-true, lt-ltb, le-ltb, le-leb, lt-leb, eq-eqb, ne-eqb, not-true, not-false}
 use Rattle.formula.specs.declared.Operand.{Operand}
 use Rattle.answer.specs.Result.{fine, refused, lowest}
-use Rattle.formula.specs.Rule.{kindAt, leftAt, rightAt, leftOperand, rightOperand, byteFits, childFits, nodeCount, root, nodeCheck, places, placeCheck, lengthCheck, untilCheck, checked}
+use Rattle.formula.specs.Rule.{kindAt, leftAt, rightAt, leftOperand, rightOperand, byteFits, childFits, nodeCount, root, nodeCheck, places, placeCheck, lengthCheck, syntaxCheck, untilCheck, checked}
 use Rattle.answer.proofs.Results.{require-fine, required}
 
 -- the tests of a node's bytes
@@ -86,19 +86,19 @@ module _ (rule : List ℕ) (k : ℕ) where
     unfolding placeCheck
     place-twice more inner = rw (ne-eqb count 0 some, and-false (not (eqb k (root rule))), lt-ltb 3 (kindAt rule k) (omega arith), le-leb 2 count (omega arith))
 
--- the whole rule by the tests of its length and the answers of the other checks
+-- 1 to 6 by the tests of the length and the answers of the other checks
 module _ (rule : List ℕ) where
-  pub too-long : 96 < length rule → refused 1 0 ≡ checked rule
-  unfolding checked lengthCheck
+  pub too-long : 96 < length rule → refused 1 0 ≡ syntaxCheck rule
+  unfolding syntaxCheck lengthCheck
   too-long lt = rw (lt-leb (length rule) 96 lt)
 
   module _ (fits : length rule ≤ 96) where
-    pub empty : length rule ≡ 0 → refused 2 0 ≡ checked rule
-    unfolding checked lengthCheck
+    pub empty : length rule ≡ 0 → refused 2 0 ≡ syntaxCheck rule
+    unfolding syntaxCheck lengthCheck
     empty e = rw (le-leb (length rule) 96 fits, le-ltb 0 (length rule) (omega arith))
 
-    pub broken : (length rule % 3 ≡ 0 → ⊥) → refused 2 0 ≡ checked rule
-    unfolding checked lengthCheck
+    pub broken : (length rule % 3 ≡ 0 → ⊥) → refused 2 0 ≡ syntaxCheck rule
+    unfolding syntaxCheck lengthCheck
     broken e = rw (le-leb (length rule) 96 fits, ne-eqb (length rule % 3) 0 e, and-false (ltb 0 (length rule)))
 
     module _ (some : length rule ≡ 0 → ⊥) (whole : length rule % 3 ≡ 0) where
@@ -106,18 +106,23 @@ module _ (rule : List ℕ) where
       unfolding lengthCheck
       length-fine = rw (le-leb (length rule) 96 fits, lt-ltb 0 (length rule) (omega arith), eq-eqb (length rule % 3) 0 whole)
 
-      pub node-refused : {number place : ℕ} → refused number place ≡ lowest (nodeCheck rule) (nodeCount rule) → refused number place ≡ checked rule
-      unfolding checked
+      pub node-refused : {number place : ℕ} → refused number place ≡ lowest (nodeCheck rule) (nodeCount rule) → refused number place ≡ syntaxCheck rule
+      unfolding syntaxCheck
       node-refused e = rw (length-fine, ← e)
 
-      module _ (nodes : lowest (nodeCheck rule) (nodeCount rule) ≡ fine) where
-        pub place-refused : {number place : ℕ} → refused number place ≡ lowest (placeCheck rule) (nodeCount rule) → refused number place ≡ checked rule
-        unfolding checked
-        place-refused e = rw (length-fine, nodes, ← e)
+      pub places-left : lowest (nodeCheck rule) (nodeCount rule) ≡ fine → lowest (placeCheck rule) (nodeCount rule) ≡ syntaxCheck rule
+      unfolding syntaxCheck
+      places-left e = rw (length-fine, e)
 
-        pub untils-left : lowest (placeCheck rule) (nodeCount rule) ≡ fine → untilCheck rule ≡ checked rule
-        unfolding checked
-        untils-left e = rw (length-fine, nodes, e)
+-- the whole rule by the answers of 1 to 6 and of 7
+module _ (rule : List ℕ) where
+  pub syntax-refused : {number place : ℕ} → refused number place ≡ syntaxCheck rule → refused number place ≡ checked rule
+  unfolding checked
+  syntax-refused e = rw (← e)
+
+  pub untils-left : syntaxCheck rule ≡ fine → untilCheck rule ≡ checked rule
+  unfolding checked
+  untils-left e = rw e
 
 -- what a fine check says of node n
 pub record Tested (rule : List ℕ) (n : ℕ) : Type 0 where

@@ -83,7 +83,8 @@ in-range-build (suc (suc (suc (suc zero)))) n l f g p a b = (a (omega arith), b 
 in-range-build (suc (suc (suc (suc (suc zero))))) n l f g p a b = (a (omega arith), b (omega arith))
 in-range-build (suc (suc (suc (suc (suc (suc zero)))))) n l f g p a b = a (omega arith)
 in-range-build (suc (suc (suc (suc (suc (suc (suc zero))))))) n l f g p a b = (a (omega arith), b (omega arith))
-in-range-build (suc (suc (suc (suc (suc (suc (suc (suc k)))))))) n l f g p a b = (a (omega arith), b (omega arith))
+in-range-build (suc (suc (suc (suc (suc (suc (suc (suc zero)))))))) n l f g p a b = (a (omega arith), b (omega arith))
+in-range-build (suc (suc (suc (suc (suc (suc (suc (suc (suc k))))))))) n l f g p a b = tt
 
 in-range-step : (rule : List ℕ) (n : ℕ) → n < nodeCount rule → Node rule n → ((k : ℕ) → k < n → InRange (tree rule k)) → InRange (tree rule n)
 in-range-step rule n inside node below = pick (decLt 3 (kindAt rule n))

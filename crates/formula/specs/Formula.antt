@@ -8,22 +8,24 @@ use Rattle.formula.specs.Rule.{root}
 -- the table of kinds)
 pub data Formula : Type 0 where
   bottom top : Formula
-  proposition negation : (node p : ℕ) → Formula
+  proposition negatedProposition : (node p : ℕ) → Formula
   conjunction disjunction : Formula → Formula → Formula
   next : (node : ℕ) → Formula → Formula
   until release : (node : ℕ) → Formula → Formula → Formula
 
--- node n of that kind: left is the byte, a and b are the trees of the children
+-- node n of that kind: left is the byte, a and b are the trees of the children. A kind above 8 builds bottom: 3 refuses
+-- it, so that no accepted rule has one
 abbrev pub build : (kind n left : ℕ) (a b : Formula) → Formula
 build zero n left a b = bottom
 build (suc zero) n left a b = top
 build (suc (suc zero)) n left a b = proposition n left
-build (suc (suc (suc zero))) n left a b = negation n left
+build (suc (suc (suc zero))) n left a b = negatedProposition n left
 build (suc (suc (suc (suc zero)))) n left a b = conjunction a b
 build (suc (suc (suc (suc (suc zero))))) n left a b = disjunction a b
 build (suc (suc (suc (suc (suc (suc zero)))))) n left a b = next n a
 build (suc (suc (suc (suc (suc (suc (suc zero))))))) n left a b = until n a b
-build (suc (suc (suc (suc (suc (suc (suc (suc kind)))))))) n left a b = release n a b
+build (suc (suc (suc (suc (suc (suc (suc (suc zero)))))))) n left a b = release n a b
+build (suc (suc (suc (suc (suc (suc (suc (suc (suc kind))))))))) n left a b = bottom
 
 -- the trees of all nodes, from those below and the bytes of the rest: a child is looked up among the trees below its
 -- parent
@@ -47,7 +49,7 @@ unfoldable pub InRange : Formula → Type 0
 InRange bottom = Unit {0}
 InRange top = Unit {0}
 InRange (proposition n p) = p < 8
-InRange (negation n p) = p < 8
+InRange (negatedProposition n p) = p < 8
 InRange (conjunction a b) = InRange a × InRange b
 InRange (disjunction a b) = InRange a × InRange b
 InRange (next n a) = InRange a

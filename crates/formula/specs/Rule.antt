@@ -80,6 +80,13 @@ unfoldable pub placeCheck : List ℕ → ℕ → Check
 placeCheck rule k =
     require (not (not (eqb k (root rule)) && eqb (places rule (nodeCount rule) k) 0) && not (ltb 3 (kindAt rule k) && leb 2 (places rule (nodeCount rule) k))) 6 k
 
+-- 1 to 6 in their order, where 3 to 5 are one pass over the nodes and 6 another; a pass stops at the lowest node that
+-- it refuses (01, Numbers that come from the input, 1 to 6)
+unfoldable pub syntaxCheck : List ℕ → Check
+syntaxCheck rule =
+    andThen (lengthCheck rule)
+    (λ _. andThen (lowest (nodeCheck rule) (nodeCount rule)) (λ _. lowest (placeCheck rule) (nodeCount rule)))
+
 -- those of the first n nodes that are untils, from the lowest up
 unfoldable pub untils : List ℕ → ℕ → List ℕ
 untils rule zero = []
@@ -89,10 +96,6 @@ untils rule (suc n) = untils rule n ++ cond (eqb (kindAt rule n) 7) (n ∷ []) [
 unfoldable pub untilCheck : List ℕ → Check
 untilCheck rule = require (leb (length (untils rule (nodeCount rule))) 8) 7 0
 
--- 1 to 7 in their order, where 3 to 5 are one pass over the nodes and 6 another; a pass stops at the lowest node that
--- it refuses
+-- 1 to 7 in their order
 unfoldable pub checked : List ℕ → Check
-checked rule =
-    andThen (lengthCheck rule)
-    (λ _. andThen (lowest (nodeCheck rule) (nodeCount rule))
-    (λ _. andThen (lowest (placeCheck rule) (nodeCount rule)) (λ _. untilCheck rule)))
+checked rule = andThen (syntaxCheck rule) (λ _. untilCheck rule)

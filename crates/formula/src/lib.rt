@@ -8,7 +8,7 @@ ghost use lib.Dec.{eqb};
 ghost use Prim.Native.Nat.{ℕ, _+_, _*_, _<_, _≤_};
 ghost use lib.ListN.{length, getD};
 ghost use Rattle.answer.specs.Result.{fine, lowest, answer};
-ghost use Rattle.formula.specs.Rule.{nodeCount, kindAt, leftAt, rightAt, leftOperand, rightOperand, byteFits, childFits, isChild, nodeCheck, places, placeCheck, untils, untilCheck, checked};
+ghost use Rattle.formula.specs.Rule.{nodeCount, kindAt, leftAt, rightAt, leftOperand, rightOperand, byteFits, childFits, isChild, nodeCheck, places, placeCheck, syntaxCheck, untils, untilCheck, checked};
 
 // The numbers of document 01 by which a rule is refused.
 pub const TOO_LONG: u8 = 1;
@@ -39,7 +39,7 @@ pub const TRUE: u8 = 1;
 
 pub const PROPOSITION: u8 = 2;
 
-pub const NEGATION: u8 = 3;
+pub const NEGATED_PROPOSITION: u8 = 3;
 
 pub const AND: u8 = 4;
 
@@ -230,6 +230,27 @@ fn check_places(rule: &[u8], n: usize) -> Checked
     Checked::Accepted
 }
 
+// Refusals 1 to 6 of any bytes.
+pub fn check_syntax(rule: &[u8]) -> Checked
+    ensures { λ r. ⌜ answer r ≡ syntaxCheck (now (rule .entry)) ⌝ }
+{
+    if MAX_BYTES < rule.len() {
+        return Checked::Refused(TOO_LONG, 0);
+    }
+    if rule.len() == 0 {
+        return Checked::Refused(BAD_LENGTH, 0);
+    }
+    if rule.len() % 3 != 0 {
+        return Checked::Refused(BAD_LENGTH, 0);
+    }
+    let n = rule.len() / 3;
+    let nodes = check_nodes(rule, n);
+    if let Checked::Refused(number, place) = nodes {
+        return Checked::Refused(number, place);
+    }
+    check_places(rule, n)
+}
+
 // 1 for an until, else 0.
 fn until_count(kind: u8) -> usize
     ensures { λ r. ⌜ r ≡ length (cond {A = List ℕ} (eqb kind 7) (kind ∷ []) []) ⌝ }
@@ -266,23 +287,9 @@ fn check_untils(rule: &[u8], n: usize) -> Checked
 pub fn check(rule: &[u8]) -> Checked
     ensures { λ r. ⌜ answer r ≡ checked (now (rule .entry)) ⌝ }
 {
-    if MAX_BYTES < rule.len() {
-        return Checked::Refused(TOO_LONG, 0);
-    }
-    if rule.len() == 0 {
-        return Checked::Refused(BAD_LENGTH, 0);
-    }
-    if rule.len() % 3 != 0 {
-        return Checked::Refused(BAD_LENGTH, 0);
-    }
-    let n = rule.len() / 3;
-    let nodes = check_nodes(rule, n);
-    if let Checked::Refused(number, place) = nodes {
+    let syntax = check_syntax(rule);
+    if let Checked::Refused(number, place) = syntax {
         return Checked::Refused(number, place);
     }
-    let places = check_places(rule, n);
-    if let Checked::Refused(number, place) = places {
-        return Checked::Refused(number, place);
-    }
-    check_untils(rule, n)
+    check_untils(rule, rule.len() / 3)
 }

@@ -9,7 +9,7 @@ use lib.ListN.{getD, length}
 use lib.Dec.{leb, ltb}
 use borrow.Author.Tests.{leb-true, ltb-true}
 use Rattle.answer.specs.Result.{Result, accepted, refused, andThen, Check, fine, require, lowest}
-use Rattle.formula.specs.Rule.{nodeCount, lengthCheck, nodeCheck, placeCheck, untilCheck}
+use Rattle.formula.specs.Rule.{nodeCount, lengthCheck, nodeCheck, placeCheck, syntaxCheck, untilCheck}
 use Rattle.formula.specs.Rule
 use Rattle.answer.proofs.Lowest.{fine-first}
 use Rattle.answer.proofs.Results.{require-fine, required}
@@ -129,12 +129,17 @@ place-proper : (rule : List ℕ) (n : ℕ) → n ≤ maxTransitions → Proper (
 unfolding placeCheck
 place-proper rule n le = search proper
 
+-- 1 to 6
+syntax-proper : (rule : List ℕ) → Proper (syntaxCheck rule)
+unfolding syntaxCheck
+syntax-proper rule =
+    then-proper (lengthCheck rule) _ (length-proper rule)
+    (λ u e. let few : nodeCount rule ≤ maxTransitions = few-nodes rule e in search (proper, node-proper, place-proper) depth 7)
+
 -- 1 to 7
 rule-proper : (rule : List ℕ) → Proper (Rule.checked rule)
 unfolding Rule.checked untilCheck
-rule-proper rule =
-    then-proper (lengthCheck rule) _ (length-proper rule)
-    (λ u e. let few : nodeCount rule ≤ maxTransitions = few-nodes rule e in search (proper, node-proper, place-proper) depth 7)
+rule-proper rule = search (proper, syntax-proper)
 
 -- 20
 size-proper : (rule : List ℕ) (n : ℕ) → n ≤ maxTransitions → Proper (sizeCheck rule n)
@@ -142,10 +147,10 @@ unfolding sizeCheck
 size-proper rule n le = search proper
 
 sizes-proper : (rule : List ℕ) → Proper (checked rule)
-unfolding checked Rule.checked
+unfolding checked Rule.checked syntaxCheck
 sizes-proper rule =
     then-proper (Rule.checked rule) _ (rule-proper rule)
-    (λ u e. let few : nodeCount rule ≤ maxTransitions = few-nodes rule (fine-first (lengthCheck rule) _ e) in search (proper, size-proper))
+    (λ u e. let few : nodeCount rule ≤ maxTransitions = few-nodes rule (fine-first (lengthCheck rule) _ (fine-first (syntaxCheck rule) _ e)) in search (proper, size-proper))
 
 -- 21
 product-proper : (rule : List ℕ) (place state : ℕ) → place ≤ maxTransitions → Proper (productCheck rule place state)

@@ -1,15 +1,29 @@
 -- The packed cover and terms of a node, by its kind.
 use mathlib.Core.Path.{_≡_, refl}
 use mathlib.Core.List.{[], _∷_, map}
-use Prim.Native.Nat.{ℕ, zero, suc, _*_, _^_, _<_, _≤_}
+use Prim.Native.Nat.{ℕ, zero, suc, _-_, _*_, _^_, _<_, _≤_}
 use native.Mathlib.Omega.{arith}
 use Rattle.sets.specs.Sets.{unionN, insertProductN}
-use Rattle.formula.specs.Formula.{Formula, build, InRange}
+use Rattle.formula.specs.Formula.{Formula, bottom, build, InRange}
 use Rattle.term.specs.Term.{term, cover, terms}
 use Rattle.term.specs.Packed.{pack, packSet}
 use Rattle.term.proofs.Packing.{pack-unions, pack-union, pack-owing, pack-conjunction, pack-disjunction, pack-until, pack-release}
 
+-- a kind above 8 builds bottom
+above : (n p : ℕ) (f g : Formula) (k : ℕ) → 8 < k → build k n p f g ≡ bottom
+above n p f g k lt =
+    let e : k ≡ suc (suc (suc (suc (suc (suc (suc (suc (suc (k - 9))))))))) = omega arith in
+    rw e
+
 module _ (n p : ℕ) (f g : Formula) (k : ℕ) where
+  pub cover-above : 8 < k → map packSet (cover (build k n p f g)) ≡ []
+  unfolding cover
+  cover-above lt = rw (above n p f g k lt)
+
+  pub of-above : 8 < k → map pack (terms (build k n p f g)) ≡ []
+  unfolding terms
+  of-above lt = rw (above n p f g k lt)
+
   pub cover-false : k ≡ 0 → map packSet (cover (build k n p f g)) ≡ []
   unfolding cover
   cover-false e = rw e
@@ -40,9 +54,9 @@ module _ (n p : ℕ) (f g : Formula) (k : ℕ) where
       let q : pack (term (2 ^ p) 0 0) ≡ 2 ^ p * 256 = omega arith in
       rw (e, q)
 
-  pub of-negation : k ≡ 3 → map pack (terms (build k n p f g)) ≡ 2 ^ p ∷ []
+  pub of-negated-proposition : k ≡ 3 → map pack (terms (build k n p f g)) ≡ 2 ^ p ∷ []
   unfolding terms
-  of-negation e =
+  of-negated-proposition e =
       let q : pack (term 0 (2 ^ p) 0) ≡ 2 ^ p = omega arith in
       rw (e, q)
 
@@ -67,18 +81,19 @@ module _ (n p : ℕ) (f g : Formula) (k : ℕ) where
     unfolding terms
     of-release e = rw e (pack-release n f g mf mg)
 
-pub cover-own : (n p : ℕ) (f g : Formula) (k : ℕ) → (k ≡ 0 → ⊥) → (k ≡ 1 → ⊥) → (k ≡ 4 → ⊥) → (k ≡ 5 → ⊥) → map packSet (cover (build k n p f g)) ≡ packSet (2 ^ n) ∷ []
+pub cover-own : (n p : ℕ) (f g : Formula) (k : ℕ) → (k ≡ 0 → ⊥) → (k ≡ 1 → ⊥) → (k ≡ 4 → ⊥) → (k ≡ 5 → ⊥) → k ≤ 8 → map packSet (cover (build k n p f g)) ≡ packSet (2 ^ n) ∷ []
 unfolding cover
-cover-own n p f g zero a b c d = absurd (a refl)
-cover-own n p f g (suc zero) a b c d = absurd (b refl)
-cover-own n p f g (suc (suc zero)) a b c d = refl
-cover-own n p f g (suc (suc (suc zero))) a b c d = refl
-cover-own n p f g (suc (suc (suc (suc zero)))) a b c d = absurd (c refl)
-cover-own n p f g (suc (suc (suc (suc (suc zero))))) a b c d = absurd (d refl)
-cover-own n p f g (suc (suc (suc (suc (suc (suc zero)))))) a b c d = refl
-cover-own n p f g (suc (suc (suc (suc (suc (suc (suc zero))))))) a b c d = refl
-cover-own n p f g (suc (suc (suc (suc (suc (suc (suc (suc k)))))))) a b c d = refl
+cover-own n p f g zero a b c d e = absurd (a refl)
+cover-own n p f g (suc zero) a b c d e = absurd (b refl)
+cover-own n p f g (suc (suc zero)) a b c d e = refl
+cover-own n p f g (suc (suc (suc zero))) a b c d e = refl
+cover-own n p f g (suc (suc (suc (suc zero)))) a b c d e = absurd (c refl)
+cover-own n p f g (suc (suc (suc (suc (suc zero))))) a b c d e = absurd (d refl)
+cover-own n p f g (suc (suc (suc (suc (suc (suc zero)))))) a b c d e = refl
+cover-own n p f g (suc (suc (suc (suc (suc (suc (suc zero))))))) a b c d e = refl
+cover-own n p f g (suc (suc (suc (suc (suc (suc (suc (suc zero)))))))) a b c d e = refl
+cover-own n p f g (suc (suc (suc (suc (suc (suc (suc (suc (suc k))))))))) a b c d e = absurd (omega arith)
 
--- what is left for the last kind
-pub the-last : {k : ℕ} → 3 < k → k ≤ 8 → (k ≡ 4 → ⊥) → (k ≡ 5 → ⊥) → (k ≡ 6 → ⊥) → (k ≡ 7 → ⊥) → k ≡ 8
-the-last a b c d e f = omega arith
+-- what is left beside the kinds that are told apart
+pub no-kind : {k : ℕ} → 3 < k → (k ≡ 4 → ⊥) → (k ≡ 5 → ⊥) → (k ≡ 6 → ⊥) → (k ≡ 7 → ⊥) → (k ≡ 8 → ⊥) → 8 < k
+no-kind a b c d e f = omega arith

@@ -6,7 +6,7 @@ use mathlib.Core.Bool.{Bool, true, false, cond}
 use lib.Dec.{eqb, ltb}
 use lib.Bits.{bitAnd, bitOr}
 use Rattle.sets.specs.Sets.{union, insertProduct}
-use Rattle.formula.specs.Formula.{Formula, bottom, top, proposition, negation, conjunction, disjunction, next, until, release}
+use Rattle.formula.specs.Formula.{Formula, bottom, top, proposition, negatedProposition, conjunction, disjunction, next, until, release}
 
 -- a term: the propositions that a letter must have and those that it must not have, a bit each, and the obligations
 -- that then follow (01, Duties, covers and terms, sentence 3)
@@ -52,7 +52,7 @@ unfoldable pub cover : Formula → List ℕ
 cover bottom = []
 cover top = 0 ∷ []
 cover (proposition n p) = 2 ^ n ∷ []
-cover (negation n p) = 2 ^ n ∷ []
+cover (negatedProposition n p) = 2 ^ n ∷ []
 cover (conjunction a b) = unions (cover a) (cover b)
 cover (disjunction a b) = union ltb (cover a) (cover b)
 cover (next n a) = 2 ^ n ∷ []
@@ -67,7 +67,7 @@ unfoldable pub terms : Formula → List Term
 terms bottom = []
 terms top = term 0 0 0 ∷ []
 terms (proposition n p) = term (2 ^ p) 0 0 ∷ []
-terms (negation n p) = term 0 (2 ^ p) 0 ∷ []
+terms (negatedProposition n p) = term 0 (2 ^ p) 0 ∷ []
 terms (conjunction a b) = product (terms a) (terms b)
 terms (disjunction a b) = union less (terms a) (terms b)
 terms (next n a) = map (term 0 0) (cover a)

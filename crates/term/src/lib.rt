@@ -125,7 +125,7 @@ fn owe(n: usize) -> Term
     bit(n) * 65536
 }
 
-// The cover of a node n that is no and, no or.
+// The cover of a node n that is no and, no or; a kind that there is not has none.
 fn cover_leaf(kind: u8, n: usize) -> Terms
     requires { ⌜ (n < 32) × ((kind ≡ 4) → ⊥) × ((kind ≡ 5) → ⊥) ⌝ }
     ensures { λ r. ⌜ ((p : ℕ) (f g : Formula) → IsCover r (cover (build kind n p f g))) ⌝ }
@@ -135,6 +135,9 @@ fn cover_leaf(kind: u8, n: usize) -> Terms
     }
     if kind == formula::TRUE {
         return one(0);
+    }
+    if formula::RELEASE < kind {
+        return none();
     }
     one(owe(n))
 }
@@ -185,9 +188,9 @@ fn terms_leaf(kind: u8, p: usize) -> Terms
     one(bit(p))
 }
 
-// The terms of a node of kind 4, 5, 7 or 8 by those of its children.
+// The terms of an and, an or, an until, a release by those of its children; a kind that there is not has none.
 fn terms_pair(kind: u8, n: usize, a: Terms, b: Terms) -> Terms
-    requires { ⌜ (a .count ≤ 64) × (b .count ≤ 64) × (n < 32) × (3 < kind) × (kind ≤ 8) × ((kind ≡ 6) → ⊥) ⌝ }
+    requires { ⌜ (a .count ≤ 64) × (b .count ≤ 64) × (n < 32) × (3 < kind) × ((kind ≡ 6) → ⊥) ⌝ }
     ensures { λ r. ⌜ ((p : ℕ) (f g : Formula) → InRange f → InRange g → IsTerms a (terms f) → IsTerms b (terms g) → IsTerms r (terms (build kind n p f g))) ⌝ }
 {
     if kind == formula::AND {
@@ -199,7 +202,11 @@ fn terms_pair(kind: u8, n: usize, a: Terms, b: Terms) -> Terms
     if kind == formula::UNTIL {
         return until(a, b, owe(n));
     }
-    release(a, b, owe(n))
+    if kind == formula::RELEASE {
+        release(a, b, owe(n))
+    } else {
+        none()
+    }
 }
 
 // The terms of node n.

@@ -1,75 +1,40 @@
--- `formula::check` meets its contract: the tests and the calls follow `checked`.
+-- `formula::check` meets its contract: 1 to 6 come first, then 7.
 -- Assumes nothing.
 use borrow.Author.Needs.{needs}
-use native.Mathlib.Omega.{arith}
-use mathlib.Core.Path.{refl, sym, ap, _∙_}
+use mathlib.Core.Path.{sym, ap, _∙_}
 use Rattle.answer.specs.Result.{answer}
-use Rattle.formula.proofs.Checks.{too-long, empty, broken, node-refused, place-refused, untils-left}
+use Rattle.formula.proofs.Checks.{syntax-refused, untils-left}
 use Rattle.formula.proofs.check.Statement.{statement}
 use Rattle.formula.proofs.check.Tie as tie
 
+check-syntax-requires : tie.Need-check-syntax-requires
+check-syntax-requires c κs = search needs
+
+enum-known-syntax : tie.Need-enum-known-syntax
+enum-known-syntax c = search needs
+
 returns : tie.Need-returns
-returns c = too-long _ (omega arith)
-
-returns-2 : tie.Need-returns-2
-returns-2 c = empty _ (omega arith) (omega arith)
-
-returns-3 : tie.Need-returns-3
-returns-3 c = broken _ (omega arith) (c .if3 .taken)
-
-check-nodes-requires : tie.Need-check-nodes-requires
-check-nodes-requires c κs = search needs
-
-enum-known-nodes : tie.Need-enum-known-nodes
-enum-known-nodes c = search needs
-
-returns-4 : tie.Need-returns-4
-returns-4 c =
-    node-refused _ (omega arith) (omega arith) (omega arith) (sym (ap answer (c .before .nodes .given .1)) ∙ c .before .before .before .check-nodes .ensures)
+returns c = syntax-refused _ (sym (ap answer (c .before .syntax .given .1)) ∙ c .before .before .before .check-syntax .ensures)
 
 enum-told : tie.Need-enum-told
 enum-told c = search needs
 
-check-places-requires : tie.Need-check-places-requires
-check-places-requires c κs = (refl, omega arith, sym (c .before .before .check-nodes .ensures) ∙ ap answer (c .enum-told .given .1))
-
-enum-known-places : tie.Need-enum-known-places
-enum-known-places c = search needs
-
-returns-5 : tie.Need-returns-5
-returns-5 c =
-    let nodes = c .before .before .before .before in
-    place-refused _ (omega arith) (omega arith) (omega arith) (sym (nodes .before .before .check-nodes .ensures) ∙ ap answer (nodes .enum-told .given .1))
-    (sym (ap answer (c .before .places .given .1)) ∙ c .before .before .before .check-places .ensures)
-
-enum-told-2 : tie.Need-enum-told-2
-enum-told-2 c = search needs
-
 check-untils-requires : tie.Need-check-untils-requires
 check-untils-requires c κs = search needs
 
-returns-6 : tie.Need-returns-6
-returns-6 c =
-    let places = c .before in
-    let nodes = places .before .before .before in
+returns-2 : tie.Need-returns-2
+returns-2 c =
+    let syntax = c .before in
     c .check-untils .ensures
-    ∙ untils-left _ (omega arith) (omega arith) (omega arith) (sym (nodes .before .before .check-nodes .ensures) ∙ ap answer (nodes .enum-told .given .1))
-    (sym (places .before .before .check-places .ensures) ∙ ap answer (places .enum-told2 .given .1))
+    ∙ untils-left _ (sym (syntax .before .before .check-syntax .ensures) ∙ ap answer (syntax .enum-told .given .1))
 
 pub check-spec : {M : Type 1} → statement M
 check-spec =
     tie.close
     (tie.spec
+    check-syntax-requires
+    enum-known-syntax
     returns
-    returns-2
-    returns-3
-    check-nodes-requires
-    enum-known-nodes
-    returns-4
     enum-told
-    check-places-requires
-    enum-known-places
-    returns-5
-    enum-told-2
     check-untils-requires
-    returns-6)
+    returns-2)

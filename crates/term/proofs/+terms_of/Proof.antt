@@ -100,7 +100,7 @@ terms-of-terms-pair-requires t c κs =
     let node = own-node _ _ ready in
     let bl = left-below _ _ (ready .inside) node _ (k .kind-of .ensures) (omega arith) _ (l .left-of .ensures) in
     let br = right-below _ _ (ready .inside) node _ (k .kind-of .ensures) (omega arith) _ (c .before .right-of .ensures) in
-    (terms-fit _ _ ready _ bl (a .terms-of .ensures), terms-fit _ _ ready _ br (c .terms-of2 .ensures), ready-small _ _ ready, omega arith, omega (arith, node .kind), a .before .if2 .left)
+    (terms-fit _ _ ready _ bl (a .terms-of .ensures), terms-fit _ _ ready _ br (c .terms-of2 .ensures), ready-small _ _ ready, omega arith, a .before .if2 .left)
 
 terms-of-returns-3 : (t : ℕ) → terms-of-lts.Need-returns-3 (claims t) (terms-of-at t) terms-of.Post
 terms-of-returns-3 t c =

@@ -2,7 +2,7 @@
 -- Assumes nothing.
 use borrow.Author.Needs.{needs}
 use native.Mathlib.Omega.{arith}
-use Rattle.term.proofs.ByKind.{of-false, of-true, of-proposition, of-negation}
+use Rattle.term.proofs.ByKind.{of-false, of-true, of-proposition, of-negated-proposition}
 use lib.Pow.{pow-lt}
 use Rattle.term.proofs.terms_leaf.Statement.{statement}
 use Rattle.term.proofs.terms_leaf.Tie as tie
@@ -38,7 +38,7 @@ one-requires-3 : tie.Need-one-requires-3
 one-requires-3 c κs = search needs
 
 returns-4 : tie.Need-returns-4
-returns-4 c = λ n f g. rw (of-negation n _ f g (c .before .before .before .before .before .args .kind) (omega arith), ← c .before .bit2 .ensures) (c .one3 .ensures)
+returns-4 c = λ n f g. rw (of-negated-proposition n _ f g (c .before .before .before .before .before .args .kind) (omega arith), ← c .before .bit2 .ensures) (c .one3 .ensures)
 
 pub terms-leaf-spec : {M : Type 1} → statement M
 terms-leaf-spec =

@@ -1,7 +1,7 @@
 -- `term::terms_pair` meets its contract, kind by kind: packing carries products and unions over.
 -- Assumes nothing.
 use borrow.Author.Needs.{needs}
-use Rattle.term.proofs.ByKind.{of-and, of-or, of-until, of-release, the-last}
+use Rattle.term.proofs.ByKind.{of-and, of-or, of-until, of-release, of-above, no-kind}
 use Rattle.term.proofs.terms_pair.Statement.{statement}
 use Rattle.term.proofs.terms_pair.Tie as tie
 
@@ -32,12 +32,18 @@ owe-requires-2 c κs = search needs
 release-requires : tie.Need-release-requires
 release-requires c κs = search needs
 
+none-requires : tie.Need-none-requires
+none-requires c κs = search needs
+
 returns-4 : tie.Need-returns-4
-returns-4 c = λ m f g mf mg a b.
+returns-4 c = λ m f g mf mg a b. rw (of-release _ m f g _ mf mg (c .before .before .if4 .taken), ← c .before .owe2 .ensures) (c .release .ensures _ _ a b)
+
+returns-5 : tie.Need-returns-5
+returns-5 c = λ m f g mf mg a b.
     let w = c .before .before in
     let pre = w .before .before .before .pre in
-    let k = the-last (pre .3) (pre .4) (w .before .before .if1 .left) (w .before .if2 .left) (pre .5) (w .if3 .left) in
-    rw (of-release _ m f g _ mf mg k, ← c .before .owe2 .ensures) (c .release .ensures _ _ a b)
+    let k = no-kind (pre .3) (w .before .before .if1 .left) (w .before .if2 .left) (pre .4) (w .if3 .left) (c .before .if4 .left) in
+    rw (of-above _ m f g _ k) (c .none .ensures)
 
 pub terms-pair-spec : {M : Type 1} → statement M
 terms-pair-spec =
@@ -52,4 +58,6 @@ terms-pair-spec =
     returns-3
     owe-requires-2
     release-requires
-    returns-4)
+    none-requires
+    returns-4
+    returns-5)
