@@ -9,7 +9,7 @@ use lib.Seq.{take-append-seam}
 use lib.Dec.{leb}
 use borrow.Author.Tests.{leb-true, le-leb, lt-leb, not-true, not-false}
 use Rattle.answer.specs.Result.{Result, accepted, refused, fine}
-use Rattle.answer.proofs.Results.{require-fine}
+use Rattle.answer.proofs.Results.{never-both, require-fine}
 use Rattle.automaton.specs.Automaton.{Automaton}
 use Rattle.automaton.specs.Limits.{statesBytes, transitionsBytes, initialBytes}
 use Rattle.automaton.specs.Records.{stateRecords, transitionRecords, initialRecords}
@@ -19,7 +19,6 @@ use Rattle.image.specs.Image.{transitionsAt, initialAt, imageBytes, cont
 use Rattle.image.specs.Reader.{countsAt, countsFit, recordsCheck, readTables}
 use Rattle.image.specs.Calls.{Buffer, buffer, written, writes, loaded, reads, checks}
 use Rattle.image.specs.Steps.{joinedOver, Loads}
-use Rattle.image.proofs.Before.{not-both}
 use Rattle.image.proofs.Tests.{Small, counts-small}
 use Rattle.image.proofs.Tables.{Bytes, drop-bytes, Passed, counts-back, states-back, transitions-back, initial-back, image-back, image-length}
 use Rattle.image.proofs.Contents.{Contents, contents-fine, bodiesCheck, read-of, checks-of, checks-refused}
@@ -107,7 +106,7 @@ pub writes-of : (r : Result Automaton) (n : ℕ) (before after : List ℕ) → w
 writes-of (accepted a) n before after e =
     let same : accepted (length (imageBytes a)) ≡ accepted n = ap (λ (b : Buffer). b .answer) e in
     record { automaton = a; answer = refl; size = cc; bytes = sym (ap (λ (b : Buffer). b .image) e) }
-writes-of (refused number place) n before after e = not-both (ap (λ (b : Buffer). b .answer) e)
+writes-of (refused number place) n before after e = never-both (ap (λ (b : Buffer). b .answer) e)
 
 pub written-front : {r : Result Automaton} {n : ℕ} {before after : List ℕ} (done : Writes r n before after) → take n after ≡ imageBytes (done .automaton)
 written-front {before = before} done =
@@ -134,7 +133,7 @@ reads-of (accepted a) c s t i s₁ t₁ i₁ e =
       transitions-are = sym (ap (λ (o : Outcome). o .transitions) e);
       initial-are = sym (ap (λ (o : Outcome). o .initial) e);
     }
-reads-of (refused number place) c s t i s₁ t₁ i₁ e = not-both (ap (λ (o : Outcome). o .answer) e)
+reads-of (refused number place) c s t i s₁ t₁ i₁ e = never-both (ap (λ (o : Outcome). o .answer) e)
 
 -- a table that was filled is no shorter
 filled-longer : (table bytes : List ℕ) → length table ≤ length (filled table bytes)

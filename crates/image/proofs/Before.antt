@@ -2,12 +2,8 @@
 -- the refusal is the check's.
 use mathlib.Core.Path.{_≡_, refl, sym}
 use Prim.Native.Nat.{ℕ}
-use native.Mathlib.Omega.{arith}
+use Rattle.answer.proofs.Results.{never-both}
 use Rattle.answer.specs.Result.{Result, accepted, refused, andThen, Check, fine}
-
--- no answer is both
-pub not-both : {A B : Type 0} {number place : ℕ} {x : A} → _≡_ {A = Result A} (refused number place) (accepted x) → B
-not-both e = let z : _≡_ {A = ℕ} 0 1 = cc in absurd (omega arith)
 
 pub record Follows {A : Type 0} (check : Check) (rest : Result A) (x : A) : Type 0 where
   pub passed : check ≡ fine
@@ -15,7 +11,7 @@ pub record Follows {A : Type 0} (check : Check) (rest : Result A) (x : A) : Type
 
 pub follows : {A : Type 0} (check : Check) (rest : Result A) (x : A) → andThen check (λ _. rest) ≡ accepted x → Follows check rest x
 follows (accepted u) rest x e = record { passed = refl; answer = e }
-follows (refused number place) rest x e = not-both e
+follows (refused number place) rest x e = never-both e
 
 -- the same where the rest is a value
 pub record Passes {A : Type 0} (check : Check) (x y : A) : Type 0 where
@@ -29,5 +25,5 @@ passes check x y e =
     record { passed = after .passed; same = cc }
 
 pub refuses : {A : Type 0} (check : Check) (y : A) {number place : ℕ} → refused number place ≡ andThen check (λ _. accepted y) → refused number place ≡ check
-refuses (accepted u) y e = not-both e
+refuses (accepted u) y e = never-both e
 refuses (refused n p) y e = cc

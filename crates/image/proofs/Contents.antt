@@ -9,7 +9,7 @@ use lib.Seq.{take-all}
 use lib.Dec.{leb}
 use borrow.Author.Tests.{eqb-true}
 use Rattle.answer.specs.Result.{Result, accepted, refused, andThen, Check, fine}
-use Rattle.answer.proofs.Results.{require-fine}
+use Rattle.answer.proofs.Results.{never-both, require-fine}
 use Rattle.automaton.specs.Automaton.{Automaton}
 use Rattle.automaton.specs.Tables.{Counts, counts}
 use Rattle.answer.specs.Bytes.{filled, numberAt}
@@ -17,7 +17,7 @@ use Rattle.image.specs.Image.{transitionsAt, initialAt, imageLength, con
 use Rattle.image.specs.Reader.{countsAt, contentsCheck, recordsCheck, automatonFrom, readTables, readImage}
 use Rattle.image.specs.Calls.{checks}
 use Rattle.image.specs.Steps.{Loads}
-use Rattle.image.proofs.Before.{not-both, follows, Passes, refuses}
+use Rattle.image.proofs.Before.{follows, Passes, refuses}
 use Rattle.image.proofs.Tests.{Small, counts-small}
 use Rattle.image.proofs.Tables.{counts-back}
 
@@ -135,7 +135,7 @@ checks-of image c e = go (readImage image) refl e
         let back = counts-back (countsAt image) (drop contentsBytes image) (drop (transitionsAt (countsAt image)) image) (drop (initialAt (countsAt image)) image) (parts .bodies) in
         let counted : c ≡ counts a = cc in
         record { automaton = a; read = p; same = counted ∙ ap counts (parts .automaton) ∙ back }
-    go (refused number place) p e = not-both (sym e)
+    go (refused number place) p e = never-both (sym e)
 
 pub checks-sized : (image : List ℕ) (c : Counts) → accepted c ≡ checks image → Sized c image
 checks-sized image c e =
@@ -147,5 +147,5 @@ unfolding checks
 checks-refused image {number} {place} e = go (readImage image) e
   where
     go : (r : Result Automaton) → refused number place ≡ andThen r (λ a. accepted (counts a)) → r ≡ refused number place
-    go (accepted a) e = not-both e
+    go (accepted a) e = never-both e
     go (refused n p) e = cc

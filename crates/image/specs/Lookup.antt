@@ -9,6 +9,7 @@ use Rattle.automaton.specs.Limits.{maxStates}
 use Rattle.image.specs.Image.{transitionsAt, initialAt, imageLength, contentsBytes}
 use Rattle.image.specs.Reader.{countsAt, countSum, automatonFrom}
 
+-- the automaton of the image
 abbrev pub machine : List ℕ → Automaton
 machine image =
     automatonFrom (countsAt image) (drop contentsBytes image) (drop (transitionsAt (countsAt image)) image) (drop (initialAt (countsAt image)) image)

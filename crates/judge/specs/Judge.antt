@@ -4,9 +4,10 @@ use mathlib.Core.Path.{_≡_}
 use mathlib.Core.Logic.{_↔_}
 use mathlib.Core.List.{List}
 use mathlib.Core.Bool.{true, false}
-use lib.ListN.{length, replicate}
+use lib.ListN.{length}
 use lib.Dec.{leb}
 use Rattle.answer.specs.Result.{Result, accepted, refused, andThen, Check, require}
+use Rattle.answer.specs.Bytes.{zeros}
 use Rattle.lasso.specs.Lasso.{maxLetters, lassoCheck}
 use Rattle.automaton.specs.Automaton.{Automaton}
 use Rattle.automaton.specs.Limits.{maxStates}
@@ -57,7 +58,7 @@ judgement answer work = record { answer = answer; work = work }
 
 -- a refusal leaves the working bytes as they were, a verdict leaves them zero, all that were lent
 abbrev pub judgedBy : Result Automaton → (stem cycle work : List ℕ) → Judgement
-judgedBy (accepted a) stem cycle work = judgement (accepted (verdict a stem cycle)) (replicate (length work) 0)
+judgedBy (accepted a) stem cycle work = judgement (accepted (verdict a stem cycle)) (zeros work)
 judgedBy (refused number place) stem cycle work = judgement (refused number place) work
 
 unfoldable pub judged : (image stem cycle work : List ℕ) → Judgement

@@ -12,7 +12,7 @@ use Rattle.answer.specs.Result.{Result, accepted, refused, andThen, Check, fine
 use Rattle.formula.specs.Rule.{nodeCount, lengthCheck, nodeCheck, placeCheck, syntaxCheck, untilCheck}
 use Rattle.formula.specs.Rule
 use Rattle.answer.proofs.Lowest.{fine-first}
-use Rattle.answer.proofs.Results.{require-fine, required}
+use Rattle.answer.proofs.Results.{never-both, require-fine, required}
 use Rattle.term.specs.Size.{sizeCheck, checked}
 use Rattle.generalized.specs.Explore.{find, meet, meetAll, explore}
 use Rattle.generalized.specs.Generalized.{productCheck, generalized}
@@ -23,7 +23,6 @@ use Rattle.automaton.specs.Tables.{Counts, Outcome, tableCheck}
 use Rattle.translation.specs.Translate.{stored, unless, translated}
 use Rattle.image.specs.Reader.{countsAt, countsFit, contentsCheck, stateCheck, transitionCheck, initialCheck, recordsCheck, readTables, readImage}
 use Rattle.image.specs.Calls.{bufferCheck, written, writes, loaded, reads}
-use Rattle.image.proofs.Before.{not-both}
 use Rattle.image.proofs.Tests.{Small, counts-small}
 use Rattle.image.proofs.Contents.{contents-fine}
 use Rattle.lasso.specs.Lasso.{lassoCheck}
@@ -52,7 +51,7 @@ pub record Proper {A : Type 0} (answer : Result A) : Type 0 where
   pub refusal : (number place : ℕ) → answer ≡ refused number place → Refusal number place
 
 accepts : {A : Type 0} {a : A} → Proper (accepted a)
-accepts = record { refusal = λ number place e. not-both (sym e) }
+accepts = record { refusal = λ number place e. never-both (sym e) }
 
 refuses : {A : Type 0} {number place : ℕ} → Refusal number place → Proper {A = A} (refused number place)
 refuses {number = number} {place = place} h = record {

@@ -7,7 +7,7 @@ use native.Mathlib.Omega.{arith}
 use lib.ListN.{length}
 use Rattle.answer.specs.Result.{Result, accepted, refused, andThen, Check, require}
 use Rattle.formula.specs.Rule
-use Rattle.answer.proofs.Results.{require-fine}
+use Rattle.answer.proofs.Results.{never-both, require-fine}
 use Rattle.automaton.specs.Automaton.{Automaton}
 use Rattle.translation.specs.Degeneralized.{translation}
 use Rattle.automaton.specs.Limits.{maxStates, maxTransitions, maxInitial}
@@ -16,7 +16,7 @@ use Rattle.translation.specs.Translate.{stored, unless, translated}
 use Rattle.image.specs.Image.{imageLength, largestImage}
 use Rattle.image.specs.Reader.{countsFit, recordsCheck, automatonFrom, readTables, readImage}
 use Rattle.image.specs.Calls.{buffer, bufferCheck, writes, loaded, reads, checks}
-use Rattle.image.proofs.Before.{not-both, follows, passes}
+use Rattle.image.proofs.Before.{follows, passes}
 use Rattle.image.proofs.Tests.{Small, counts-small}
 use Rattle.image.proofs.Contents.{checks-sized}
 use Rattle.image.proofs.Sizes.{image-size}
@@ -72,11 +72,11 @@ translated-small rule s t i c e =
         let formed = translation-well-formed rule a known in
         let same : counts a ≡ c = cc in
         subst Small same (record { states = formed .states; transitions = omega (arith, formed .states, few-together (length (a .states)) (a .states) (formed .each)); initial = formed .initial })
-    second (refused number place) known e = not-both e
+    second (refused number place) known e = never-both e
 
     first : (check : Check) → unless check (stored (translation rule) s t i) s t i .answer ≡ accepted c → Small c
     first (accepted u) e = second (translation rule) refl e
-    first (refused number place) e = not-both e
+    first (refused number place) e = never-both e
 
 -- of an accepted read
 pub reads-small : (image s t i : List ℕ) (c : Counts) → reads image s t i .answer ≡ accepted c → Small c
@@ -85,11 +85,11 @@ reads-small image s t i c e = first (tableCheck s t i) e
   where
     second : (r : Result Automaton) → loaded r s t i .answer ≡ accepted c → accepted c ≡ andThen r (λ a. accepted (counts a))
     second (accepted a) e = sym e
-    second (refused number place) e = not-both e
+    second (refused number place) e = never-both e
 
     first : (check : Check) → loaded (andThen check (λ _. readImage image)) s t i .answer ≡ accepted c → Small c
     first (accepted u) e = checks-sized image c (second (readImage image) e) .small
-    first (refused number place) e = not-both e
+    first (refused number place) e = never-both e
 
 -- of an accepted write, ZIMBORALO_IMAGE_BYTES
 pub writes-small : (c : Counts) (s t i image : List ℕ) (n : ℕ) → writes c s t i image .answer ≡ accepted n → n ≤ largestImage
@@ -152,14 +152,14 @@ unpacks-accepted {A} {Read} packed a z read = record {
   zero-accepted = λ _. (a, refl);
   accepted-zero = λ _ _. z;
   value-read = λ b e. let same : a ≡ b = cc in subst (Read packed) same read;
-  refusal-read = λ number place e. not-both (sym e);
+  refusal-read = λ number place e. never-both (sym e);
 }
 
 unpacks-refused : {A : Type 0} {Read : ℕ → A → Type 0} (number place : ℕ) → Refusal number place → Unpacks Read (packRefusal number place) (refused number place)
 unpacks-refused number place h = record {
   zero-accepted = λ z. absurd (omega (arith, refusal-unpacks number place h .not-zero));
-  accepted-zero = λ a e. not-both e;
-  value-read = λ a e. not-both e;
+  accepted-zero = λ a e. never-both e;
+  value-read = λ a e. never-both e;
   refusal-read = λ n p e.
       let same-number : number ≡ n = cc in
       let same-place : place ≡ p = cc in
