@@ -1,7 +1,5 @@
 //! The peer of the benchmark: the same translation and the same judging in idiomatic Rust, with the standard library
 //! alone. It is compared with the second translator by `bench/run` before it is timed.
-use std::collections::{BTreeSet, HashMap};
-
 #[derive(Clone, Copy, PartialEq, Eq)]
 pub struct Refusal {
     pub number: u8,
@@ -51,8 +49,20 @@ fn join(x: Term, y: Term) -> Option<Term> {
     (t.must & t.must_not == 0).then_some(t)
 }
 
-fn product(xs: &BTreeSet<Term>, ys: &BTreeSet<Term>) -> BTreeSet<Term> {
-    xs.iter().flat_map(|x| ys.iter().filter_map(move |y| join(*x, *y))).collect()
+/// A set: rising, with no repeats.
+fn set<T: Ord>(items: impl Iterator<Item = T>) -> Vec<T> {
+    let mut out: Vec<T> = items.collect();
+    out.sort_unstable();
+    out.dedup();
+    out
+}
+
+fn union<T: Ord + Copy>(xs: &[T], ys: &[T]) -> Vec<T> {
+    set(xs.iter().chain(ys).copied())
+}
+
+fn product(xs: &[Term], ys: &[Term]) -> Vec<Term> {
+    set(xs.iter().flat_map(|x| ys.iter().filter_map(move |y| join(*x, *y))))
 }
 
 fn parse(rule: &[u8]) -> Answer<Vec<Node>> {
@@ -101,37 +111,34 @@ fn parse(rule: &[u8]) -> Answer<Vec<Node>> {
 }
 
 /// Covers and terms of every node, from those of its children.
-fn expand(nodes: &[Node]) -> Answer<(Vec<BTreeSet<u32>>, Vec<BTreeSet<Term>>)> {
-    let mut covers: Vec<BTreeSet<u32>> = Vec::new();
-    let mut terms: Vec<BTreeSet<Term>> = Vec::new();
+fn expand(nodes: &[Node]) -> Answer<(Vec<Vec<u32>>, Vec<Vec<Term>>)> {
+    let mut covers: Vec<Vec<u32>> = Vec::with_capacity(nodes.len());
+    let mut terms: Vec<Vec<Term>> = Vec::with_capacity(nodes.len());
     for (n, node) in nodes.iter().enumerate() {
         let own = Term { obligations: 1 << n, ..NOTHING };
         let (l, r) = (node.left, node.right);
-        let cover: BTreeSet<u32> = match node.kind {
-            0 => BTreeSet::new(),
-            1 => BTreeSet::from([0]),
-            4 => covers[l].iter().flat_map(|c| covers[r].iter().map(move |d| c | d)).collect(),
-            5 => covers[l].union(&covers[r]).copied().collect(),
-            _ => BTreeSet::from([1 << n]),
+        let cover = match node.kind {
+            0 => vec![],
+            1 => vec![0],
+            4 => set(covers[l].iter().flat_map(|c| covers[r].iter().map(move |d| c | d))),
+            5 => union(&covers[l], &covers[r]),
+            _ => vec![1 << n],
         };
-        let term: BTreeSet<Term> = match node.kind {
-            0 => BTreeSet::new(),
-            1 => BTreeSet::from([NOTHING]),
-            2 => BTreeSet::from([Term { must: 1 << l, ..NOTHING }]),
-            3 => BTreeSet::from([Term { must_not: 1 << l, ..NOTHING }]),
+        // what owes the node itself is above all that its children owe
+        let owing = |t: &Term| Term { obligations: t.obligations | own.obligations, ..*t };
+        let term = match node.kind {
+            0 => vec![],
+            1 => vec![NOTHING],
+            2 => vec![Term { must: 1 << l, ..NOTHING }],
+            3 => vec![Term { must_not: 1 << l, ..NOTHING }],
             4 => product(&terms[l], &terms[r]),
-            5 => terms[l].union(&terms[r]).copied().collect(),
-            6 => covers[l].iter().map(|c| Term { obligations: *c, ..NOTHING }).collect(),
-            7 => {
-                let mut out = product(&terms[l], &BTreeSet::from([own]));
-                out.extend(&terms[r]);
-                out
-            }
-            _ => {
-                let mut either = terms[l].clone();
-                either.insert(own);
-                product(&terms[r], &either)
-            }
+            5 => union(&terms[l], &terms[r]),
+            6 => covers[l].iter().map(|&obligations| Term { obligations, ..NOTHING }).collect(),
+            7 => terms[r].iter().copied().chain(terms[l].iter().map(owing)).collect(),
+            _ => set(terms[r]
+                .iter()
+                .flat_map(|x| terms[l].iter().filter_map(move |y| join(*x, *y)))
+                .chain(terms[r].iter().map(owing))),
         };
         if term.len() > 64 || cover.len() > 64 {
             return refuse(20, n);
@@ -152,7 +159,7 @@ pub struct Automaton {
     pub initial: Vec<u16>,
 }
 
-fn fulfils(f: usize, terms: &BTreeSet<Term>, t: Term) -> bool {
+fn fulfils(f: usize, terms: &[Term], t: Term) -> bool {
     t.obligations >> f & 1 == 0
         || terms.iter().any(|u| {
             u.must & !t.must == 0
@@ -162,75 +169,121 @@ fn fulfils(f: usize, terms: &BTreeSet<Term>, t: Term) -> bool {
         })
 }
 
-/// The number of x, the next one if it is new; None if that is one too many.
-fn number<T: std::hash::Hash + Eq + Copy>(seen: &mut HashMap<T, usize>, order: &mut Vec<T>, x: T, limit: usize) -> Option<usize> {
-    if let Some(&k) = seen.get(&x) {
-        return Some(k);
+/// The transitions of a state of the first walk: the product of its obligations' terms, the first as they stand.
+fn state_terms(state: u32, terms: &[Vec<Term>], place: usize) -> Answer<Vec<Term>> {
+    let mut owed = (0..terms.len()).filter(|n| state >> n & 1 == 1);
+    let mut ts = match owed.next() {
+        Some(n) => terms[n].clone(),
+        None => vec![NOTHING],
+    };
+    for n in owed {
+        ts = product(&ts, &terms[n]);
+        if ts.len() > 128 {
+            return refuse(21, place);
+        }
     }
-    if order.len() == limit {
-        return None;
-    }
-    seen.insert(x, order.len());
-    order.push(x);
-    Some(order.len() - 1)
+    Ok(ts)
+}
+
+/// A transition of the first walk: its term, its target's number, and a bit for each until that it fulfils.
+struct Step {
+    term: Term,
+    target: usize,
+    fulfilled: u8,
 }
 
 pub fn translate(rule: &[u8]) -> Answer<Automaton> {
     let nodes = parse(rule)?;
     let (covers, terms) = expand(&nodes)?;
     let untils: Vec<usize> = (0..nodes.len()).filter(|&n| nodes[n].kind == 7).collect();
-    let mut sets: Vec<u32> = covers[nodes.len() - 1].iter().copied().collect();
+    let mut sets = covers[nodes.len() - 1].clone();
     let initial = sets.len();
-    let mut seen: HashMap<u32, usize> = sets.iter().copied().zip(0..).collect();
-    let mut rows: Vec<Vec<(Term, usize, u8)>> = Vec::new();
+    let mut rows: Vec<Vec<Step>> = Vec::new();
     let mut total = 0;
     while rows.len() < sets.len() {
         let place = rows.len();
-        let mut ts = BTreeSet::from([NOTHING]);
-        for n in (0..nodes.len()).filter(|n| sets[place] >> n & 1 == 1) {
-            ts = product(&ts, &terms[n]);
-            if ts.len() > 128 {
-                return refuse(21, place);
-            }
-        }
+        let ts = state_terms(sets[place], &terms, place)?;
         let mut row = Vec::with_capacity(ts.len());
-        for t in ts {
+        for term in ts {
             total += 1;
             if total > 1024 {
                 return refuse(22, place);
             }
-            let Some(target) = number(&mut seen, &mut sets, t.obligations, 128) else {
-                return refuse(23, place);
+            let target = match sets.iter().position(|&set| set == term.obligations) {
+                Some(target) => target,
+                None if sets.len() == 128 => return refuse(23, place),
+                None => {
+                    sets.push(term.obligations);
+                    sets.len() - 1
+                }
             };
-            let marks = untils
+            let fulfilled = untils
                 .iter()
                 .enumerate()
-                .fold(0u8, |m, (k, &f)| m | (fulfils(f, &terms[f], t) as u8) << k);
-            row.push((t, target, marks));
+                .fold(0, |m, (k, &f)| m | (fulfils(f, &terms[f], term) as u8) << k);
+            row.push(Step { term, target, fulfilled });
         }
         rows.push(row);
     }
     let r = untils.len();
     let mut pairs: Vec<(usize, usize)> = (0..initial).map(|i| (i, 0)).collect();
-    let mut known: HashMap<(usize, usize), usize> = pairs.iter().copied().zip(0..).collect();
+    // a pair's number, by state and level
+    let mut numbers: Vec<[Option<u16>; 9]> = vec![[None; 9]; rows.len()];
+    for i in 0..initial {
+        numbers[i][0] = Some(i as u16);
+    }
     let mut states = Vec::new();
     while states.len() < pairs.len() {
         let place = states.len();
         let (state, level) = pairs[place];
         let mut transitions = Vec::with_capacity(rows[state].len());
-        for &(t, target, marks) in &rows[state] {
-            let mut next = if level == r { 0 } else { level };
-            while next < r && marks >> next & 1 == 1 {
-                next += 1;
-            }
-            let Some(k) = number(&mut known, &mut pairs, (target, next), 96) else {
-                return refuse(24, place);
+        for step in &rows[state] {
+            let from = if level == r { 0 } else { level };
+            let next = r.min(from + (step.fulfilled >> from).trailing_ones() as usize);
+            let number = match numbers[step.target][next] {
+                Some(number) => number,
+                None if pairs.len() == 96 => return refuse(24, place),
+                None => {
+                    pairs.push((step.target, next));
+                    *numbers[step.target][next].insert(pairs.len() as u16 - 1)
+                }
             };
-            transitions.push((t.must, t.must_not, k as u16));
+            transitions.push((step.term.must, step.term.must_not, number));
         }
         states.push(State { accepting: level == r, transitions });
     }
     Ok(Automaton { states, initial: (0..initial as u16).collect() })
+}
+
+/// The caller's three tables, as the library fills them: a record for each state, transition and initial number, and
+/// zeros behind.
+struct Tables {
+    states: [u8; 384],
+    transitions: [u8; 49152],
+    initial: [u8; 192],
+}
+
+fn put<const N: usize>(table: &mut [u8], records: impl Iterator<Item = [u8; N]>) {
+    let mut used = 0;
+    for (place, record) in table.chunks_exact_mut(N).zip(records) {
+        place.copy_from_slice(&record);
+        used += N;
+    }
+    table[used..].fill(0);
+}
+
+impl Tables {
+    fn fill(&mut self, a: &Automaton) {
+        put(&mut self.states, a.states.iter().map(|s| {
+            let [low, high] = (s.transitions.len() as u16).to_le_bytes();
+            [low, high, s.accepting as u8, 0]
+        }));
+        put(&mut self.transitions, a.states.iter().flat_map(|s| &s.transitions).map(|&(must, must_not, target)| {
+            let [low, high] = target.to_le_bytes();
+            [must, must_not, low, high]
+        }));
+        put(&mut self.initial, a.initial.iter().map(|i| i.to_le_bytes()));
+    }
 }
 
 /// The runs that stand in a state: bit p for one that began the pass in state p, bit START for one that began with the
@@ -393,11 +446,12 @@ fn cases(bytes: &[u8]) -> Vec<(u8, Vec<&[u8]>)> {
 }
 
 /// What a case comes to, as one number, so that both sides can be held against each other.
-fn answer(kind: u8, slices: &[&[u8]]) -> u64 {
+fn answer(kind: u8, slices: &[&[u8]], tables: &mut Tables) -> u64 {
     let refused = |r: Refusal| r.number as u64 + 256 * r.place as u64;
     if kind == b'T' {
         return match translate(slices[0]) {
             Ok(a) => {
+                tables.fill(&a);
                 let total: usize = a.states.iter().map(|s| s.transitions.len()).sum();
                 256 * a.states.len() as u64 + 65536 * total as u64 + (1 << 32) * a.initial.len() as u64
             }
@@ -418,11 +472,12 @@ fn main() {
     let bytes = std::fs::read(&words[1]).unwrap();
     let repeat: usize = words[2].parse().unwrap();
     let cases = cases(&bytes);
+    let mut tables = Box::new(Tables { states: [0; 384], transitions: [0; 49152], initial: [0; 192] });
     let mut best = u128::MAX;
     let mut sum = 0u64;
     for _ in 0..repeat {
         let start = std::time::Instant::now();
-        sum = cases.iter().map(|(kind, slices)| std::hint::black_box(answer(*kind, slices))).fold(0, u64::wrapping_add);
+        sum = cases.iter().map(|(kind, slices)| std::hint::black_box(answer(*kind, slices, &mut tables))).fold(0, u64::wrapping_add);
         best = best.min(start.elapsed().as_nanos());
     }
     println!("{sum} {best}");
