@@ -15,8 +15,8 @@ use Rattle.sets.specs.Bits.{has}
 use Rattle.term.specs.Term.{Term, term, less, joined, consistent, product, cover, terms}
 use Rattle.generalized.specs.Generalized.{times, partialProduct, transitions}
 use Rattle.automaton.proofs.WellFormed.{Label}
-use Rattle.sets.proofs.Members.{All, map-in}
-use Rattle.correctness.proofs.Members.{all-one, all-union, product-in, product-kept}
+use Rattle.sets.proofs.Members.{All, all-one, map-in}
+use Rattle.correctness.proofs.Members.{all-union, product-in, product-kept}
 
 abbrev pub Labelled : Term → Type 0
 Labelled t = Label (t .must) (t .mustNot)

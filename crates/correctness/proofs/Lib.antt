@@ -9,7 +9,6 @@ pub mod Complete
 pub mod Levels
 pub mod Tests
 pub mod Counting
-pub mod Explored
 pub mod Numbering
 pub mod Walks
 pub mod AcceptingPass

@@ -122,10 +122,6 @@ module _ {A : Type 0} (less : A → A → Bool) where
           joins-keep (joined x y) u ys (insertProduct less joined consistent xs ys []) (in-product x y xs ys m n c)
 
 -- what holds of all that goes into a set holds of all that is in it
-pub all-one : {A : Type 0} (P : A → Type 0) (x : A) → P x → All P (x ∷ [])
-all-one P x p y (inl e) = subst P (sym e) p
-all-one P x p y (inr e) = absurd e
-
 pub all-union : {A : Type 0} (less : A → A → Bool) (P : A → Type 0) (xs ys : List A) → All P xs → All P ys → All P (union less xs ys)
 all-union less P xs ys p q z h = elim (union-in less z xs ys h) [ inl m ↦ p z m | inr m ↦ q z m ]
 

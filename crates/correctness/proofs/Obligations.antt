@@ -13,8 +13,8 @@ use Rattle.formula.specs.Formula.{Formula, bottom, top, proposition, negatedPro
 use Rattle.term.specs.Term.{Term, term, less, joined, consistent, product, cover, terms}
 use Rattle.sets.specs.Bits.{Has}
 use Rattle.sets.proofs.Bits.{or-has, zero-has, has-pow}
-use Rattle.sets.proofs.Members.{All, map-in}
-use Rattle.correctness.proofs.Members.{all-one, all-union, all-product}
+use Rattle.sets.proofs.Members.{All, all-one, map-in}
+use Rattle.correctness.proofs.Members.{all-union, all-product}
 use Rattle.correctness.proofs.Runs.{Below}
 
 -- the bits of d are below k

@@ -1,57 +1,39 @@
 -- The automaton of an accepted rule numbers the machine that counts levels over obligation sets: the first walk
 -- numbers the sets, the second the pairs of such a number and a level. Assumes that both walks are accepted.
-use Prim.Native.Nat.{ℕ, zero, suc, _<_, _≤_}
+use Prim.Native.Nat.{ℕ, zero, suc, _<_}
 use mathlib.Core.Path.{_≡_, refl, sym, _∙_, ap, subst}
 use mathlib.Core.Logic.{_↔_}
 use mathlib.Core.List.{List, [], _∷_, _++_, map}
 use mathlib.Core.Bool.{true, and-eq-true-iff}
 use native.Mathlib.Omega.{arith}
 use native.Mathlib.Decide.{ℕ-discrete}
-use lib.ListN.{getD, length, length-append, length-map, List·getD-map, List·getD-append}
+use lib.ListN.{getD, length, length-map, List·getD-map, List·getD-append}
 use lib.Seq.{getD-append-seam}
-use lib.Dec.{eqb, leb}
-use borrow.Author.Tests.{eqb-true, eq-eqb, leb-true}
+use lib.Dec.{eqb}
+use borrow.Author.Tests.{eqb-true, eq-eqb}
 use Rattle.answer.specs.Result.{accepted, fine}
-use Rattle.formula.specs.Rule.{root, nodeCount}
-use Rattle.formula.specs.Rule
 use Rattle.formula.specs.Formula.{formula}
-use Rattle.formula.proofs.Accepted.{accepted-fine}
-use Rattle.answer.proofs.Results.{require-fine, then-accepted}
-use Rattle.answer.proofs.Lowest.{lowest-each}
-use Rattle.term.specs.Term.{Term, cover, terms}
-use Rattle.term.specs.Size.{sizeCheck, checked}
+use Rattle.term.specs.Term.{Term, cover}
+use Rattle.term.specs.Size.{checked}
+use Rattle.generalized.specs.Limits.{maxGeneralizedStates}
 use Rattle.generalized.specs.Explore.{find}
 use Rattle.generalized.specs.Generalized.{transitions, transitionCheck, productCheck, targets, generalized}
+use Rattle.generalized.proofs.Passed.{initial-few}
+use Rattle.generalized.proofs.Explored.{Explored, explored, extends-longer, extends-at}
 use Rattle.automaton.specs.Automaton.{Transition, State, Automaton, noState, reads, Step}
 use Rattle.sets.specs.Sets.{In}
 use Rattle.acceptance.specs.Acceptance.{untilCount}
 use Rattle.translation.specs.Degeneralized.{nextLevel, Pair, pair, samePair, numbers, initialNumbers, pairTransitions, target, degeneralized, stateOf}
+use Rattle.translation.proofs.Writing.{numbers-length}
 use Rattle.sets.proofs.Members.{All, at-in, in-at, map-in, in-map, map-at}
 use Rattle.automaton.specs.Limits.{maxStates}
 use Rattle.correctness.proofs.Runs.{Reads, Represents}
 use Rattle.correctness.proofs.Tests.{reads-iff}
 use Rattle.automaton.proofs.Passes.{numbered}
 use Rattle.correctness.proofs.Counting.{Counted, counting}
-use Rattle.correctness.proofs.Explored.{Reached, find-in, walked}
 use Rattle.correctness.proofs.Numbering.{Numbering}
 
--- the root of an accepted rule is a node, and has at most 64 cover sets
-root-inside : (rule : List ℕ) → Rule.checked rule ≡ fine → root rule < nodeCount rule
-root-inside rule e = omega (arith, accepted-fine rule e .some)
-
-pub cover-small : (rule : List ℕ) → checked rule ≡ fine → length (cover (formula rule)) ≤ 64
-unfolding checked sizeCheck formula
-cover-small rule e =
-    let (a, p, q) = then-accepted (Rule.checked rule) _ e in
-    let h = require-fine _ 20 (root rule) (lowest-each (sizeCheck rule) (nodeCount rule) q (root rule) (root-inside rule p)) in
-    leb-true (length (cover (formula rule))) 64 (and-eq-true-iff (leb (length (terms (formula rule))) 64) _ .0 h .1)
-
 -- the numbers below n
-pub numbers-length : (n : ℕ) → length (numbers n) ≡ n
-unfolding numbers
-numbers-length zero = refl
-numbers-length (suc n) = omega (arith, length-append (numbers n) (n ∷ []), numbers-length n)
-
 pub numbers-at : (n k : ℕ) → k < n → getD (numbers n) k 0 ≡ k
 unfolding numbers
 numbers-at zero k l = absurd (omega arith)
@@ -117,34 +99,34 @@ module _ (rule : List ℕ) (accepted-rule : checked rule ≡ fine) (states : Lis
   abbrev listedAt : ℕ → List Term
   listedAt k = transitions rule (getD states (at k .state) 0)
 
-  pub first-walked : Reached 0 128 (targets rule) (productCheck rule) (cover (formula rule)) states
+  pub first-walked : Explored eqb maxGeneralizedStates 23 transitionCheck 0 (targets rule) (productCheck rule) 0 (cover (formula rule)) states
   unfolding generalized
-  first-walked = walked eqb eqb-true 0 128 23 transitionCheck (targets rule) (productCheck rule) (cover (formula rule)) states (omega (arith, cover-small rule accepted-rule)) first
+  first-walked = explored eqb maxGeneralizedStates 23 transitionCheck 0 (targets rule) (productCheck rule) eqb-true (λ x. eq-eqb x x refl) maxGeneralizedStates 0 0 (cover (formula rule)) states (omega (arith, initial-few rule accepted-rule)) (omega arith) first
 
   initial-count : length (map (λ i. pair i 0) (numbers count)) ≡ count
   initial-count = length-map (numbers count) (λ i. pair i 0) ∙ numbers-length count
 
-  pub second-walked : Reached (pair 0 0) maxStates (λ x. map (target rule states x) (pairTransitions rule states x)) (λ _ _. fine) (map (λ i. pair i 0) (numbers count)) pairs
+  pub second-walked : Explored samePair maxStates 24 (λ _ _. fine) (pair 0 0) (λ x. map (target rule states x) (pairTransitions rule states x)) (λ _ _. fine) 0 (map (λ i. pair i 0) (numbers count)) pairs
   unfolding degeneralized initialNumbers
-  second-walked = walked samePair same-equal (pair 0 0) maxStates 24 (λ _ _. fine) (λ x. map (target rule states x) (pairTransitions rule states x)) (λ _ _. fine)
-      (map (λ i. pair i 0) (numbers count)) pairs (omega (arith, cover-small rule accepted-rule, initial-count)) second
+  second-walked = explored samePair maxStates 24 (λ _ _. fine) (pair 0 0) (λ x. map (target rule states x) (pairTransitions rule states x)) (λ _ _. fine) same-equal same-self
+      maxStates 0 0 (map (λ i. pair i 0) (numbers count)) pairs (omega (arith, initial-few rule accepted-rule, initial-count)) (omega arith) second
 
   -- the first numbers are the initial ones
   initial-at : (k : ℕ) → k < count → at k ≡ pair k 0
   initial-at k l =
-      second-walked .prefix .there k (omega (arith, initial-count))
+      extends-at (second-walked .extends) (pair 0 0) k (omega (arith, initial-count))
       ∙ List·getD-map (λ i. pair i 0) (numbers count) k 0
       ∙ ap (λ (i : ℕ). pair i 0) (numbers-at count k l)
 
   pub initial-valid : (k : ℕ) → k < count → Valid states pairs k
   initial-valid k l = record {
-    inside = omega (arith, second-walked .prefix .longer, initial-count);
-    known = subst (λ (x : Pair). x .state < length states) (sym (initial-at k l)) (omega (arith, first-walked .prefix .longer));
+    inside = omega (arith, extends-longer (second-walked .extends), initial-count);
+    known = subst (λ (x : Pair). x .state < length states) (sym (initial-at k l)) (omega (arith, extends-longer (first-walked .extends)));
   }
 
   initial-means : (k : ℕ) → k < count → means states pairs k ≡ record { obligations = getD (cover (formula rule)) k 0; level = 0 }
   initial-means k l =
-      let o = ap (λ (x : Pair). getD states (x .state) 0) (initial-at k l) ∙ first-walked .prefix .there k l in
+      let o = ap (λ (x : Pair). getD states (x .state) 0) (initial-at k l) ∙ extends-at (first-walked .extends) 0 k l in
       λ i. record { obligations = o i; level = initial-at k l i .level }
 
   -- the target of a known state's transition is known
@@ -152,19 +134,19 @@ module _ (rule : List ℕ) (accepted-rule : checked rule ≡ fine) (states : Lis
       → (find eqb (t .obligations) states < length states) × (getD states (find eqb (t .obligations) states) 0 ≡ t .obligations)
   unfolding targets
   target-known state l t m =
-      find-in eqb eqb-true 0 (λ n. eq-eqb n n refl) (t .obligations) states
-      (first-walked .closed state l (t .obligations) (in-map (λ t. t .obligations) t (transitions rule (getD states state 0)) m))
+      first-walked .numbered (t .obligations)
+      (first-walked .taken state (omega arith) l .closed (t .obligations) (in-map (λ t. t .obligations) t (transitions rule (getD states state 0)) m))
 
   -- the pairs' states are numbers of the first walk
   pub pairs-known : All (λ x. x .state < length states) pairs
   unfolding pairTransitions target
-  pairs-known = second-walked .every (λ x. x .state < length states) start step
+  pairs-known = second-walked .every (λ x. x .state < length states) step start
     where
       start : All (λ x. x .state < length states) (map (λ i. pair i 0) (numbers count))
       start x h =
           let (i, m, e) = map-in (λ i. pair i 0) x (numbers count) h in
           let q : x .state ≡ i = ap (λ (y : Pair). y .state) e in
-          omega (arith, numbers-in count i m, first-walked .prefix .longer)
+          omega (arith, numbers-in count i m, extends-longer (first-walked .extends))
 
       step : (x : Pair) → x .state < length states → All (λ y. y .state < length states) (map (target rule states x) (pairTransitions rule states x))
       step x l y h =
@@ -183,8 +165,8 @@ module _ (rule : List ℕ) (accepted-rule : checked rule ≡ fine) (states : Lis
   unfolding pairTransitions target
   lands k v t m =
       let (a, e) = target-known (at k .state) (v .known) t m in
-      let (b, f) = find-in samePair same-equal (pair 0 0) same-self (target rule states (at k) t) pairs
-      (second-walked .closed k (v .inside) (target rule states (at k) t) (in-map (target rule states (at k)) t (listedAt k) m)) in
+      let (b, f) = second-walked .numbered (target rule states (at k) t)
+      (second-walked .taken k (omega arith) (v .inside) .closed (target rule states (at k) t) (in-map (target rule states (at k)) t (listedAt k) m)) in
       let o = ap (λ (x : Pair). getD states (x .state) 0) f ∙ e in
       record {
         valid = record { inside = b; known = subst (λ (x : Pair). x .state < length states) (sym f) a };

@@ -1,53 +1,34 @@
 -- What the limits of document 01 make of the automaton of an accepted rule. Assumes nothing.
-use Prim.Native.Nat.{ℕ, suc, _≤_, _<_}
+use Prim.Native.Nat.{ℕ, suc, _<_}
 use mathlib.Core.Path.{_≡_, sym, _∙_, ap, subst}
 use mathlib.Core.List.{List, map}
 use native.Mathlib.Omega.{arith}
 use lib.ListN.{getD, length, length-map}
-use borrow.Author.Tests.{leb-true}
 use Rattle.answer.specs.Result.{accepted, fine}
-use Rattle.formula.specs.Rule.{root, nodeCount}
-use Rattle.formula.specs.Rule
-use Rattle.formula.specs.Formula.{formula, tree, InRange}
-use Rattle.answer.proofs.Results.{require-fine, then-accepted}
-use Rattle.answer.proofs.Lowest.{lowest-each}
-use Rattle.formula.proofs.Accepted.{accepted-fine}
-use Rattle.formula.proofs.Trees.{tree-in-range}
+use Rattle.formula.specs.Formula.{formula}
+use Rattle.answer.proofs.Results.{then-accepted}
 use Rattle.term.specs.Term.{Term, cover}
 use Rattle.term.specs.Size.{checked}
-use Rattle.generalized.specs.Generalized.{partialProduct, transitions, productCheck, generalized}
+use Rattle.generalized.specs.Generalized.{transitions, generalized}
+use Rattle.generalized.proofs.Passed.{in-range, initial-few, few-transitions}
 use Rattle.automaton.specs.Automaton.{Transition, State, Automaton}
 use Rattle.sets.specs.Sets.{In}
 use Rattle.translation.specs.Degeneralized.{Pair, pair, initialNumbers, pairTransitions, degeneralized, stateOf, translation}
+use Rattle.translation.proofs.Writing.{numbers-length}
 use Rattle.automaton.proofs.WellFormed.{WellFormedState, WellFormed, Label}
 use Rattle.sets.proofs.Members.{in-at, at-in, map-in}
 use Rattle.correctness.proofs.Labels.{transitions-labelled}
-use Rattle.correctness.proofs.Walks.{cover-small, numbers-length, numbers-at, automatonOf, Valid, first-walked, second-walked, initial-valid, pairs-known, leads, lands}
-
--- a state that 21 lets pass has at most 128 transitions
-few-transitions : (rule : List ℕ) (place state : ℕ) → 0 < nodeCount rule → productCheck rule place state ≡ fine → length (transitions rule state) ≤ 128
-unfolding productCheck transitions
-few-transitions rule place state some e =
-    let n : suc (root rule) ≡ nodeCount rule = omega arith in
-    let h = require-fine _ 21 place (lowest-each _ (nodeCount rule) e (root rule) (omega arith)) in
-    subst (λ (k : ℕ). length (partialProduct rule state k) ≤ 128) n (leb-true (length (partialProduct rule state (suc (root rule)))) 128 h)
+use Rattle.correctness.proofs.Walks.{numbers-at, automatonOf, Valid, first-walked, second-walked, initial-valid, pairs-known, leads, lands}
 
 module _ (rule : List ℕ) (accepted-rule : checked rule ≡ fine) (states : List ℕ) (first : generalized rule ≡ accepted states)
     (pairs : List Pair) (second : degeneralized rule states ≡ accepted pairs) where
-  rule-fine : Rule.checked rule ≡ fine
-  unfolding checked
-  rule-fine = then-accepted (Rule.checked rule) _ accepted-rule .1
-
-  in-range : (n : ℕ) → n < nodeCount rule → InRange (tree rule n)
-  in-range n l = tree-in-range rule n l (λ k le. accepted-fine rule rule-fine .nodes k (omega arith))
-
   state-formed : (k : ℕ) → k < length pairs → WellFormedState (length pairs) (stateOf rule states pairs (getD pairs k (pair 0 0)))
   unfolding stateOf pairTransitions
   state-formed k l = record {
-    few = omega (arith, length-map listed transition, few-transitions rule (here .state) (getD states (here .state) 0) (accepted-fine rule rule-fine .some) passed);
+    few = omega (arith, length-map listed transition, few-transitions rule accepted-rule (here .state) (getD states (here .state) 0) (first-walked rule accepted-rule states first pairs second .taken (here .state) (omega arith) (valid .known) .passed));
     labels = λ t m.
         let (u, n, e) = map-in transition t listed m in
-        subst (λ (x : Transition). Label (x .must) (x .mustNot)) (sym e) (transitions-labelled rule in-range (getD states (here .state) 0) u n);
+        subst (λ (x : Transition). Label (x .must) (x .mustNot)) (sym e) (transitions-labelled rule (in-range rule accepted-rule) (getD states (here .state) 0) u n);
     targets = λ t m.
         let (u, n, e) = map-in transition t listed m in
         subst (λ (x : Transition). x .target < length pairs) (sym e) (lands rule accepted-rule states first pairs second k valid u n .valid .inside);
@@ -58,9 +39,6 @@ module _ (rule : List ℕ) (accepted-rule : checked rule ≡ fine) (states : Lis
 
       valid : Valid states pairs k
       valid = record { inside = l; known = pairs-known rule accepted-rule states first pairs second here (at-in (pair 0 0) pairs k l) }
-
-      passed : productCheck rule (here .state) (getD states (here .state) 0) ≡ fine
-      passed = first-walked rule accepted-rule states first pairs second .passed (here .state) (valid .known)
 
       listed : List Term
       listed = transitions rule (getD states (here .state) 0)
@@ -79,7 +57,7 @@ module _ (rule : List ℕ) (accepted-rule : checked rule ≡ fine) (states : Lis
   formed = record {
     states = omega (arith, second-walked rule accepted-rule states first pairs second .small, size);
     each = λ s m. subst (λ (n : ℕ). WellFormedState n s) (sym size) (each-formed s m);
-    initial = omega (arith, cover-small rule accepted-rule, numbers-length c);
+    initial = omega (arith, initial-few rule accepted-rule, numbers-length c);
     inside = λ i l.
         let m : i < c = omega (arith, numbers-length c) in
         omega (arith, numbers-at c i m, initial-valid rule accepted-rule states first pairs second i m .inside, size);

@@ -1,6 +1,7 @@
 -- What the proofs of several functions, and of the crates above, cite.
 pub mod Lists
 pub mod Exploring
+pub mod Explored
 pub mod Passed
 pub mod Table
 pub mod Products

@@ -9,6 +9,7 @@ use lib.Seq.{getD-take, length-take-le, take-take, take-append-le, take-suc, get
 use lib.Dec.{eqb}
 use borrow.Author.Count.{below-more}
 use Rattle.answer.specs.Result.{accepted, refused, fine}
+use Rattle.answer.proofs.Results.{then-accepted}
 use Rattle.formula.specs.Rule.{nodeCount}
 use Rattle.formula.specs.Formula.{formula}
 use Rattle.term.specs.Term.{Term, cover}
@@ -21,7 +22,8 @@ use Rattle.generalized.specs.declared.Walked.the-variants.{Counts, Refus
 use Rattle.generalized.specs.Explore.{explore}
 use Rattle.generalized.specs.Generalized.{transitions, productCheck, transitionCheck, targets, generalized}
 use Rattle.generalized.specs.Memory.{IsMany, Product, obligationsN, Adds, walkState, allTransitions, Tables, Walks}
-use Rattle.generalized.proofs.Exploring.{Extends, then-accepted, all-extends, explore-next, explore-refused, explore-ends}
+use Rattle.generalized.proofs.Exploring.{explore-next, explore-refused, explore-ends}
+use Rattle.generalized.proofs.Explored.{Extends, all-grows, extends-longer}
 use Rattle.generalized.proofs.Passed.{in-range}
 use Rattle.generalized.proofs.Products.{partial-packed}
 use Rattle.generalized.proofs.Meeting.{meetTargets}
@@ -50,7 +52,7 @@ module _ (rule states : List ℕ) (place n total : ℕ) (lt : place < n) (r : Ma
 
 -- the walk of a state only adds states
 state-extends : (rule : List ℕ) (place total : ℕ) (xs ys : List ℕ) → walkState rule place total xs ≡ accepted ys → Extends xs ys
-state-extends rule place total xs ys e = all-extends eqb 128 23 transitionCheck place (targets rule (getD xs place 0)) total xs ys (then-accepted (productCheck rule place (getD xs place 0)) e)
+state-extends rule place total xs ys e = all-grows eqb 128 23 transitionCheck place (targets rule (getD xs place 0)) total xs ys (then-accepted (productCheck rule place (getD xs place 0)) _ e .2) .extends
 
 -- one state more
 all-last : (rule xs : List ℕ) (x : ℕ) → allTransitions rule (xs ++ (x ∷ [])) ≡ allTransitions rule xs ++ transitions rule x
@@ -148,7 +150,7 @@ module _ (rule states terms ends : List ℕ) (n total place : ℕ) (inv : Walkin
 
     pub walk-steps : length terms′ ≡ length terms → {ends′ : List ℕ} → ends′ ≡ set ends place end → Walking rule states′ terms′ ends′ met end (place + 1)
     walk-steps same stored = record {
-      within = omega (arith, inside, ap length (grown .are), length-append (take n states) (grown .more), length-take-le met states′ (omega (arith, added .1)));
+      within = omega (arith, inside, extends-longer grown, length-take-le met states′ (omega (arith, added .1)));
       few = added .1;
       counted = rw add-one end-is;
       fits = added .3;

@@ -12,6 +12,10 @@ use Rattle.sets.specs.Sets.{any, In}
 abbrev pub All : {A : Type 0} → (A → Type 0) → List A → Type 0
 All {A} P xs = (x : A) → In x xs → P x
 
+pub all-one : {A : Type 0} (P : A → Type 0) (x : A) → P x → All P (x ∷ [])
+all-one P x p y (inl e) = subst P (sym e) p
+all-one P x p y (inr e) = absurd e
+
 -- the element at a place, and the place of an element
 pub at-in : {A : Type 0} (d : A) (xs : List A) (i : ℕ) → i < length xs → In (getD xs i d) xs
 at-in d [] i l = absurd (omega arith)

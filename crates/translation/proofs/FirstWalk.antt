@@ -1,31 +1,32 @@
 -- The first walk's tables, as the second walk reads them: the row of each state, its transitions and their targets.
 use mathlib.Core.Path.{_≡_, refl, sym, ap, _∙_}
 use mathlib.Core.List.{List, [], _∷_, _++_, map, append-nil, append-assoc}
-use Prim.Native.Nat.{ℕ, zero, suc, _+_, _-_, _/_, _≤_, _<_}
+use Prim.Native.Nat.{ℕ, zero, suc, _+_, _/_, _≤_, _<_}
 use native.Mathlib.Omega.{arith}
 use lib.ListN.{length, getD, take, drop, length-append, length-map, take-append-drop, List·getD-append, List·getD-map}
 use lib.Seq.{take-suc, length-take-le, getD-take, getD-append-seam, append-snoc, take-take}
-use lib.Dec.{eqb, leb}
-use borrow.Author.Tests.{eq-eqb, leb-true}
+use lib.Dec.{eqb}
+use borrow.Author.Tests.{eqb-true, eq-eqb}
 use Rattle.answer.specs.Result.{fine}
+use Rattle.sets.proofs.Members.{in-map}
 use Rattle.formula.specs.Rule.{nodeCount, root}
 use Rattle.formula.specs.Formula.{tree, formula}
-use Rattle.answer.proofs.Lowest.{lowest-each}
-use Rattle.answer.proofs.Results.{require-fine}
 use Rattle.term.specs.declared.Terms.{Terms}
 use Rattle.term.specs.Term.{Term, term, cover}
 use Rattle.term.specs.Size.{checked}
 use Rattle.term.specs.Packed.{pack, packSet, IsCover}
 use Rattle.term.proofs.Packing.{Numbers, none, more, Bytes, of-terms}
 use Rattle.generalized.specs.declared.Walked.the-variants.{Counts}
+use Rattle.generalized.specs.Limits.{maxGeneralizedStates}
 use Rattle.generalized.specs.Explore.{find}
-use Rattle.generalized.specs.Generalized.{partialProduct, transitions, productCheck, transitionCheck, targets, generalized}
+use Rattle.generalized.specs.Generalized.{transitions, productCheck, transitionCheck, targets, generalized}
 use Rattle.generalized.specs.Memory.{allTransitions, Walks}
-use Rattle.generalized.proofs.Passed.{some-nodes, in-range, few}
+use Rattle.generalized.proofs.Passed.{in-range, initial-few, few-transitions}
+use Rattle.generalized.proofs.Explored.{Explored, explored, extends-longer}
 use Rattle.generalized.proofs.Products.{partial-packed}
 use Rattle.translation.specs.Memory.{range, rowStart, rowCount, row, All, Ends}
 use Rattle.translation.proofs.Within.{all-at}
-use Rattle.translation.proofs.Explored.{Walked, walked, Found}
+use Rattle.translation.proofs.Each.{in-all}
 
 -- ---- transitions of a list of states
 
@@ -53,10 +54,6 @@ module _ (rule : List ℕ) where
       both [] us p q = q
       both (t ∷ ts) us p q = (p .0, both ts us (p .1) q)
 
-all-unmapped : {A B : Type 0} (P : B → Type 0) (f : A → B) (xs : List A) → All P (map f xs) → All (λ x. P (f x)) xs
-all-unmapped P f [] all = tt
-all-unmapped P f (x ∷ xs) all = (all .0, all-unmapped P f xs (all .1))
-
 all-bytes : {ts : List Term} {ns : List ℕ} → Numbers of-terms ts ns → All Bytes ts
 all-bytes none = tt
 all-bytes (more t bytes rest) = (bytes, all-bytes rest)
@@ -78,10 +75,6 @@ range-map {A} d all g h each (x ∷ mid) pre post e =
 abbrev pub noTerm : Term
 noTerm = term 0 0 0
 
-pub initial-few : (rule : List ℕ) → checked rule ≡ fine → length (cover (formula rule)) ≤ 64
-unfolding formula
-initial-few rule passed = few rule passed (root rule) (omega (arith, some-nodes rule passed)) .cover
-
 pub initial-counted : (rule : List ℕ) → checked rule ≡ fine → (sets : Terms) → IsCover sets (cover (tree rule (root rule))) → sets .count ≡ length (cover (formula rule))
 unfolding formula
 initial-counted rule passed sets is = omega (arith, is .count, length-map (cover (tree rule (root rule))) packSet, initial-few rule passed)
@@ -96,13 +89,13 @@ module _ (rule : List ℕ) (passed : checked rule ≡ fine) (states terms ends :
   pub states-length : length xs ≡ n
   states-length = length-take-le n states (omega (arith, w .1))
 
-  whole : Walked eqb 128 (λ x. eq-eqb x x refl) 0 (targets rule) (productCheck rule) (cover (formula rule)) xs
+  whole : Explored eqb maxGeneralizedStates 23 transitionCheck 0 (targets rule) (productCheck rule) 0 (cover (formula rule)) xs
   unfolding generalized
-  whole = walked eqb 128 (λ x. eq-eqb x x refl) 0 (targets rule) (productCheck rule) 23 transitionCheck (cover (formula rule)) xs (omega (arith, initial-few rule passed)) (w .0)
+  whole = explored eqb maxGeneralizedStates 23 transitionCheck 0 (targets rule) (productCheck rule) eqb-true (λ x. eq-eqb x x refl) maxGeneralizedStates 0 0 (cover (formula rule)) xs (omega (arith, initial-few rule passed)) (omega arith) (w .0)
 
   -- the initial states are the first
   pub initial-states : length (cover (formula rule)) ≤ n
-  initial-states = omega (arith, whole .onward .longer, states-length)
+  initial-states = omega (arith, extends-longer (whole .extends), states-length)
 
   module _ (s : ℕ) (lt : s < n) where
     inside : s < length xs
@@ -124,21 +117,13 @@ module _ (rule : List ℕ) (passed : checked rule ≡ fine) (states terms ends :
     end-inside =
         omega (arith, end-is s lt, ap length (all-split rule xs s (inside s lt)), length-append (allTransitions rule (take s xs) ++ transitions rule (getD xs s 0)) (allTransitions rule (drop (suc s) xs)), length-append (allTransitions rule (take s xs)) (transitions rule (getD xs s 0)))
 
-    few-transitions : length (transitions rule (getD xs s 0)) ≤ 128
-    unfolding productCheck transitions
-    few-transitions =
-        let last : nodeCount rule ≡ suc (nodeCount rule - 1) = omega (arith, some-nodes rule passed) in
-        let fits : length (partialProduct rule (getD xs s 0) (suc (nodeCount rule - 1))) ≤ 128 =
-        leb-true _ _ (require-fine (leb (length (partialProduct rule (getD xs s 0) (suc (nodeCount rule - 1)))) 128) 21 s (lowest-each _ (nodeCount rule) (whole .taken s (inside s lt) .passed) (nodeCount rule - 1) (omega (arith, some-nodes rule passed)))) in
-        rw (← last) at fits
-
   pub rows-of : length ends ≡ 128 → Ends ends n
   rows-of size = record {
     size = size;
     states = w .1;
     rising = λ s lt. omega (arith, start-is s lt, end-is s lt);
     inside = λ s lt. omega (arith, end-inside s lt, w .2, w .3);
-    few = λ s lt. omega (arith, count-is s lt, few-transitions s lt);
+    few = λ s lt. omega (arith, count-is s lt, few-transitions rule passed s (getD xs s 0) (whole .taken s (omega arith) (inside s lt) .passed));
   }
 
   -- what a function of the transitions comes to over a row
@@ -150,9 +135,11 @@ module _ (rule : List ℕ) (passed : checked rule ≡ fine) (states terms ends :
   unfolding transitions
   transition-bytes = all-each rule Bytes xs (λ s lt. all-bytes (partial-packed rule (getD xs s 0) (nodeCount rule) (in-range rule passed)))
 
-  transition-found : All (λ t. Found eqb 128 xs (t .obligations)) ts
+  transition-found : All (λ t. find eqb (t .obligations) xs < length xs) ts
   unfolding targets
-  transition-found = all-each rule (λ t. Found eqb 128 xs (t .obligations)) xs (λ s lt. all-unmapped (Found eqb 128 xs) (λ t. t .obligations) (transitions rule (getD xs s 0)) (whole .taken s lt .closed))
+  transition-found =
+      all-each rule (λ t. find eqb (t .obligations) xs < length xs) xs
+      (λ s lt. in-all _ (transitions rule (getD xs s 0)) (λ t m. whole .numbered (t .obligations) (whole .taken s (omega arith) lt .closed (t .obligations) (in-map (λ t. t .obligations) t (transitions rule (getD xs s 0)) m)) .0))
 
   pub listed-are : take m terms ≡ map pack ts
   listed-are = rw (w .2) (rw (take-take n n states (omega arith)) at (w .4 .listed))
@@ -171,4 +158,4 @@ module _ (rule : List ℕ) (passed : checked rule ≡ fine) (states terms ends :
     obligations-at = rw term-at (omega (arith, bytes-at .must, bytes-at .mustNot))
 
     pub found-at : find eqb (getD ts i noTerm .obligations) xs < n
-    found-at = omega (arith, states-length, all-at (λ t. Found eqb 128 xs (t .obligations)) noTerm ts i transition-found lt)
+    found-at = omega (arith, states-length, all-at (λ t. find eqb (t .obligations) xs < length xs) noTerm ts i transition-found lt)

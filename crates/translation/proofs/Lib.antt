@@ -2,7 +2,7 @@
 pub mod Levels
 pub mod Codes
 pub mod Within
-pub mod Explored
+pub mod Each
 pub mod Mapped
 pub mod FirstWalk
 pub mod Meeting

@@ -16,7 +16,7 @@ use Rattle.translation.specs.declared.Paired.the-variants.{Count, Full}
 use Rattle.translation.specs.Memory.{range, rowStart, rowCount, targetN, targetsN, meetAllN, exploreN, All, Within, Ends, Rows, Pairs}
 use Rattle.translation.proofs.Levels.{next-most}
 use Rattle.translation.proofs.Within.{row-within}
-use Rattle.translation.proofs.Explored.{all-adds, all-keeps}
+use Rattle.translation.proofs.Each.{all-keeps}
 
 all-range : (P : ℕ → Type 0) (f : ℕ → ℕ) (count from : ℕ) → ((i : ℕ) → from ≤ i → i < from + count → P (f i)) → All P (map f (range count from))
 unfolding range
@@ -69,7 +69,7 @@ module _ (ends targets marks : List ℕ) (r : ℕ) (all : Result (List ℕ)) (pa
 
       within : Within (inv .rows .listed .states) (take more after)
       within =
-          all-keeps eqb maxStates (λ code. code / 16 < inv .rows .listed .states) (all-adds eqb maxStates 24 (λ _ _. fine) place _ (inv .count) (take k pairs) (take more after) (counted .0))
+          all-keeps (λ code. code / 16 < inv .rows .listed .states) eqb maxStates 24 (λ _ _. fine) place _ (inv .count) (take k pairs) (take more after) (counted .0)
           (targets-within ends targets marks r (inv .rows .listed .states) (inv .rows .levels) (inv .rows .listed .rows) (inv .rows .closed) (getD (take k pairs) place 0)
           (rw (getD-take k pairs place 0 lt) (row-within ends (take k pairs) place _ (inv .rows .listed) inside (getD-take k pairs place 0 lt))))
           (inv .rows .listed .within)

@@ -8,7 +8,7 @@ use native.Mathlib.Omega.{arith}
 use lib.ListN.{length, getD, take, length-map}
 use lib.Seq.{length-take-le}
 use lib.Dec.{eqb}
-use borrow.Author.Tests.{eq-eqb, ne-eqb}
+use borrow.Author.Tests.{eqb-true, eq-eqb, ne-eqb}
 use Rattle.answer.specs.Result.{Result, accepted, refused, fine}
 use Rattle.formula.specs.Rule
 use Rattle.formula.specs.Formula.{formula}
@@ -21,6 +21,8 @@ use Rattle.term.proofs.Packing.{Bytes}
 use Rattle.generalized.specs.declared.Walked.the-variants
 use Rattle.generalized.specs.Explore.{find}
 use Rattle.generalized.specs.Memory.{allTransitions, Walks}
+use Rattle.generalized.proofs.Explored.{explored}
+use Rattle.generalized.proofs.Passed.{initial-few}
 use Rattle.acceptance.specs.Acceptance.{untilCount}
 use Rattle.acceptance.specs.Marks.{Marks}
 use Rattle.translation.specs.declared.State as Number
@@ -35,9 +37,9 @@ use Rattle.automaton.specs.Tables.{Counts, transitionCount, outcome}
 use Rattle.translation.specs.Translate.{stored}
 use Rattle.translation.specs.Memory.{secondWalk, pairOf, row, nextLevelN, targetN, targetsN, exploreN, stateBytes, transitionBytes, pairBytes, rowN, All, Within, Rows, Targets, Pairs, Filled, Adds, Blank, Written}
 use Rattle.translation.proofs.Levels.{next-most, next-level-is}
-use Rattle.translation.proofs.Explored.{all-last, explore-keeps}
+use Rattle.translation.proofs.Each.{all-last, all-in, in-all}
 use Rattle.translation.proofs.Mapped.{mapped, find-map, explore-map}
-use Rattle.translation.proofs.FirstWalk.{noTerm, count-is, end-inside, rows-of, row-map, bytes-at, term-at, obligations-at, found-at, initial-states, initial-few, listed-are}
+use Rattle.translation.proofs.FirstWalk.{noTerm, count-is, end-inside, rows-of, row-map, bytes-at, term-at, obligations-at, found-at, initial-states, listed-are}
 use Rattle.translation.proofs.Pairing.{target-state, targets-within}
 use Rattle.translation.proofs.Writing.{numbers-length}
 use Rattle.automaton.proofs.Records.{transitions-count}
@@ -206,8 +208,9 @@ module _ (rule : List ℕ) (passed : checked rule ≡ fine) (states terms ends :
 
       pub codes-within : Within n codes
       codes-within =
-          explore-keeps eqb maxStates (λ x. eq-eqb x x refl) 0 (targetsN ends targets marks r) (λ _ _. fine) (λ code. code / 16 < n) keeps-within 24 (λ _ _. fine) starts codes
-          (omega (arith, length-map (numbers (length (cover (formula rule)))) (λ i. i * 16), numbers-length (length (cover (formula rule))), initial-few rule passed)) e starts-within
+          let few : length starts ≤ maxStates = omega (arith, length-map (numbers (length (cover (formula rule)))) (λ i. i * 16), numbers-length (length (cover (formula rule))), initial-few rule passed) in
+          let walked = explored eqb maxStates 24 (λ _ _. fine) 0 (targetsN ends targets marks r) (λ _ _. fine) eqb-true (λ x. eq-eqb x x refl) maxStates 0 0 starts codes few (omega arith) e in
+          in-all (λ code. code / 16 < n) codes (walked .every (λ code. code / 16 < n) (λ code lt. all-in (λ c. c / 16 < n) (targetsN ends targets marks r code) (keeps-within code lt)) (all-in (λ code. code / 16 < n) starts starts-within))
 
       states-are : records (pairBytes ends r) codes ≡ stateRecords automaton
       unfolding stateRecords

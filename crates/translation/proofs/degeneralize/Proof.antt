@@ -5,7 +5,7 @@ use native.Mathlib.Omega.{arith}
 use mathlib.Core.Path.{_≡_, sym, _∙_}
 use lib.ListN.{length}
 use Rattle.automaton.specs.Limits.{maxStates}
-use Rattle.translation.proofs.FirstWalk.{initial-few}
+use Rattle.generalized.proofs.Passed.{initial-few}
 use Rattle.translation.proofs.SecondWalk.{Begun, first-rows, full-is, count-inside, all-rows, codes-count, codes-few, written-is}
 use Rattle.translation.proofs.degeneralize.Statement.{statement}
 use Rattle.translation.proofs.degeneralize.Tie as tie
