@@ -21,12 +21,14 @@ use Rattle.lasso.specs.Lasso.{lassoCheck}
 -- 25: one of the three tables, the image's buffer or the working bytes is too short for its call
 unfoldable pub roomCheck : (states transitions initial image work : List ℕ) → Check
 roomCheck states transitions initial image work =
-    require (leb statesBytes (length states) && (leb transitionsBytes (length transitions) && (leb initialBytes (length initial) && (leb largestImage (length image) && leb workBytes (length work))))) 25 0
+    require (leb statesBytes (length states) && (leb transitionsBytes (length transitions) &&
+    (leb initialBytes (length initial) && (leb largestImage (length image) && leb workBytes (length work))))) 25 0
 
 -- what is refused before anything is stored: 25, the rule's 1 to 7, the lasso's 8 and 9
 unfoldable pub inputCheck : (rule stem cycle states transitions initial image work : List ℕ) → Check
 inputCheck rule stem cycle states transitions initial image work =
-    andThen (roomCheck states transitions initial image work) (λ _. andThen (Rule.checked rule) (λ _. lassoCheck stem cycle))
+    andThen (roomCheck states transitions initial image work)
+    (λ _. andThen (Rule.checked rule) (λ _. lassoCheck stem cycle))
 
 -- an answer, and the five lent buffers afterwards
 pub record Decision : Type 0 where
@@ -45,7 +47,9 @@ decision answer s t i image work =
 -- buffer, the working bytes zero. After 20 to 24 the tables are zero, and the rest is as it was.
 abbrev pub concluded : Result Automaton → (stem cycle states transitions initial image work : List ℕ) → Decision
 concluded (accepted a) stem cycle s t i image work =
-    decision (accepted (verdict a stem cycle)) (filled s (stateRecords a)) (filled t (transitionRecords a)) (filled i (initialRecords a)) (imageBytes a ++ drop (length (imageBytes a)) image) (zeros work)
+    decision (accepted (verdict a stem cycle))
+    (filled s (stateRecords a)) (filled t (transitionRecords a)) (filled i (initialRecords a))
+    (imageBytes a ++ drop (length (imageBytes a)) image) (zeros work)
 concluded (refused number place) stem cycle s t i image work =
     decision (refused number place) (zeros s) (zeros t) (zeros i) image work
 
@@ -56,7 +60,8 @@ decidedBy (refused number place) rest s t i image work = decision (refused numbe
 
 unfoldable pub decided : (rule stem cycle states transitions initial image work : List ℕ) → Decision
 decided rule stem cycle s t i image work =
-    decidedBy (inputCheck rule stem cycle s t i image work) (concluded (translation rule) stem cycle s t i image work) s t i image work
+    decidedBy (inputCheck rule stem cycle s t i image work) (concluded (translation rule) stem cycle s t i image work)
+    s t i image work
 
 -- ---- what the answer says
 

@@ -16,7 +16,8 @@ module _ {A : Type 0} (same : A → A → Bool) where
   -- one is refused by full (01, First walk and second walk, sentences 7, 8 and 16)
   unfoldable pub meet : (limit full place : ℕ) → A → List A → Result (List A)
   meet limit full place x xs =
-      elim (ltb (find x xs) (length xs)) [ true ↦ accepted xs | false ↦ elim (ltb (length xs) limit) [ true ↦ accepted (xs ++ (x ∷ [])) | false ↦ refused full place ] ]
+      elim (ltb (find x xs) (length xs)) [ true ↦ accepted xs
+      | false ↦ elim (ltb (length xs) limit) [ true ↦ accepted (xs ++ (x ∷ [])) | false ↦ refused full place ] ]
 
   -- each: what is asked of the transition that has count before it
   module _ (limit full : ℕ) (each : (place count : ℕ) → Check) where
@@ -24,7 +25,8 @@ module _ {A : Type 0} (same : A → A → Bool) where
     unfoldable pub meetAll : (place : ℕ) (targets : List A) (count : ℕ) → List A → Result (List A)
     meetAll place [] count xs = accepted xs
     meetAll place (y ∷ ys) count xs =
-        andThen (each place count) (λ _. andThen (meet limit full place y xs) (λ more. meetAll place ys (suc count) more))
+        andThen (each place count)
+        (λ _. andThen (meet limit full place y xs) (λ more. meetAll place ys (suc count) more))
 
     -- before: what is asked of a state as it is taken. `none` is no state.
     module _ (none : A) (targets : A → List A) (before : ℕ → A → Check) where
@@ -33,4 +35,6 @@ module _ {A : Type 0} (same : A → A → Bool) where
       unfoldable pub explore : (fuel place count : ℕ) → List A → Result (List A)
       explore zero place count xs = accepted xs
       explore (suc fuel) place count xs =
-          elim (ltb place (length xs)) [ true ↦ andThen (before place (getD xs place none)) (λ _. andThen (meetAll place (targets (getD xs place none)) count xs) (λ more. explore fuel (suc place) (count + length (targets (getD xs place none))) more)) | false ↦ accepted xs ]
+          elim (ltb place (length xs)) [ true ↦ andThen (before place (getD xs place none))
+          (λ _. andThen (meetAll place (targets (getD xs place none)) count xs)
+          (λ more. explore fuel (suc place) (count + length (targets (getD xs place none))) more)) | false ↦ accepted xs ]

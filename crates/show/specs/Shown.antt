@@ -18,10 +18,13 @@ digit n = cond (ltb n 10) (48 + n) (65 + (n - 10))
 -- a label in two digits for must and two for must_not, a space (32) after each
 abbrev pub label : (must mustNot : ℕ) → List ℕ
 label must mustNot =
-    digit (must / 16) ∷ (digit (must % 16) ∷ (32 ∷ (digit (mustNot / 16) ∷ (digit (mustNot % 16) ∷ (32 ∷ [])))))
+    digit (must / 16) ∷ (digit (must % 16) ∷ (32 ∷
+    (digit (mustNot / 16) ∷ (digit (mustNot % 16) ∷ (32 ∷ [])))))
 
 -- where the transitions of state i end that begin at from: after as many as its record says. Past the most
 -- transitions that an automaton has, and past the last record, nothing is shown.
 unfoldable pub rowEnd : (states : List ℕ) (i from : ℕ) → ℕ
 rowEnd states i from =
-    cond (ltb maxTransitions from) from (cond (leb (length states / 4) i) from (from + number (getD states (i * 4) 0) (getD states (i * 4 + 1) 0)))
+    cond (ltb maxTransitions from) from
+    (cond (leb (length states / 4) i) from
+    (from + number (getD states (i * 4) 0) (getD states (i * 4 + 1) 0)))
