@@ -16,8 +16,10 @@ module _ {A : Type 0} (same : A → A → Bool) where
   -- one is refused by full (01, First walk and second walk, sentences 7, 8 and 16)
   unfoldable pub meet : (limit full place : ℕ) → A → List A → Result (List A)
   meet limit full place x xs =
-      elim (ltb (find x xs) (length xs)) [ true ↦ accepted xs
-      | false ↦ elim (ltb (length xs) limit) [ true ↦ accepted (xs ++ (x ∷ [])) | false ↦ refused full place ] ]
+      elim (ltb (find x xs) (length xs)) [
+        | true ↦ accepted xs
+        | false ↦ elim (ltb (length xs) limit) [ true ↦ accepted (xs ++ (x ∷ [])) | false ↦ refused full place ]
+      ]
 
   -- each: what is asked of the transition that has count before it
   module _ (limit full : ℕ) (each : (place count : ℕ) → Check) where
@@ -35,6 +37,9 @@ module _ {A : Type 0} (same : A → A → Bool) where
       unfoldable pub explore : (fuel place count : ℕ) → List A → Result (List A)
       explore zero place count xs = accepted xs
       explore (suc fuel) place count xs =
-          elim (ltb place (length xs)) [ true ↦ andThen (before place (getD xs place none))
-          (λ _. andThen (meetAll place (targets (getD xs place none)) count xs)
-          (λ more. explore fuel (suc place) (count + length (targets (getD xs place none))) more)) | false ↦ accepted xs ]
+          elim (ltb place (length xs)) [
+            | true ↦ andThen (before place (getD xs place none))
+                (λ _. andThen (meetAll place (targets (getD xs place none)) count xs)
+                (λ more. explore fuel (suc place) (count + length (targets (getD xs place none))) more))
+            | false ↦ accepted xs
+          ]
