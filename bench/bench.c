@@ -16,15 +16,14 @@ struct one {
     struct slice slices[3];
 };
 
-static uint8_t states[ZIMBORALO_STATES_BYTES], transitions[ZIMBORALO_TRANSITIONS_BYTES],
-    initial[ZIMBORALO_INITIAL_BYTES], work[ZIMBORALO_WORK_BYTES];
+static struct zimboralo_tables tables;
+static uint8_t work[ZIMBORALO_WORK_BYTES];
 
 static uint64_t answer(const struct one *c)
 {
     const struct slice *s = c->slices;
     if (c->kind == 'T')
-        return zimboralo_translate(s[0].at, s[0].length, states, sizeof states, transitions, sizeof transitions,
-                                   initial, sizeof initial);
+        return zimboralo_translate_rule(s[0].at, s[0].length, &tables);
     return zimboralo_judge(s[0].at, s[0].length, s[1].at, s[1].length, s[2].at, s[2].length, work, sizeof work);
 }
 

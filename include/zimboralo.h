@@ -1,8 +1,10 @@
-/* Rules of linear temporal logic, their automata, and the judging of lassos (plans): see docs/FORMAT.md for the bytes.
+/* Rules of linear temporal logic, their automata, and the judging of lassos (plans). FORMAT.md, in docs/ or where it is
+ * installed in share/doc/zimboralo/, has the bytes; zimboralo_text.h has the refusals in words.
  *
  * Every call takes byte slices as a pointer and a length, allocates nothing, and is proved to give the answer and
  * leave every lent byte as documented, for every input. A slice of length 0 still wants a pointer that is not null.
- * Slices of one call that are written must not overlap any other of its slices. */
+ * Slices of one call that are written must not overlap any other of its slices. Behind the calls stand structs with
+ * room for what they fill, and inline functions that lend these; they are C, tested and not proved. */
 #ifndef ZIMBORALO_H
 #define ZIMBORALO_H
 
@@ -13,40 +15,63 @@
 extern "C" {
 #endif
 
+/* The limits of a lasso (stem and cycle together), a rule and an automaton. Every size below follows from these. */
+#define ZIMBORALO_MAX_LETTERS 128
+#define ZIMBORALO_MAX_NODES 32
+#define ZIMBORALO_MAX_UNTILS 8
+#define ZIMBORALO_MAX_STATES 96
+#define ZIMBORALO_MAX_OF_STATE 128 /* transitions of one state */
+#define ZIMBORALO_MAX_INITIAL 96
+#define ZIMBORALO_MAX_TRANSITIONS (ZIMBORALO_MAX_STATES * ZIMBORALO_MAX_OF_STATE)
+
+/* The longest rule in bytes. */
+#define ZIMBORALO_RULE_BYTES (3 * ZIMBORALO_MAX_NODES)
+
 /* The smallest tables, image buffer and working space that a call takes; shorter ones are refused by 25. */
-#define ZIMBORALO_STATES_BYTES 384
-#define ZIMBORALO_TRANSITIONS_BYTES 49152
-#define ZIMBORALO_INITIAL_BYTES 192
-#define ZIMBORALO_IMAGE_BYTES 49746
-#define ZIMBORALO_WORK_BYTES 12288
+#define ZIMBORALO_STATES_BYTES (4 * ZIMBORALO_MAX_STATES)
+#define ZIMBORALO_TRANSITIONS_BYTES (4 * ZIMBORALO_MAX_TRANSITIONS)
+#define ZIMBORALO_INITIAL_BYTES (2 * ZIMBORALO_MAX_INITIAL)
+#define ZIMBORALO_CONTENTS_BYTES 18 /* an image's table of contents */
+#define ZIMBORALO_IMAGE_BYTES \
+    (ZIMBORALO_CONTENTS_BYTES + ZIMBORALO_STATES_BYTES + ZIMBORALO_TRANSITIONS_BYTES + ZIMBORALO_INITIAL_BYTES)
+#define ZIMBORALO_WORK_BYTES (ZIMBORALO_MAX_STATES * ZIMBORALO_MAX_LETTERS)
 
-/* The longest rule in bytes, and the most letters of a lasso, stem and cycle together. */
-#define ZIMBORALO_RULE_BYTES 96
-#define ZIMBORALO_LETTERS 128
-
-/* Why a call refuses; the number is the lowest byte of its answer. */
+/* Why a call refuses; the number is the lowest byte of its answer. The names are those of the constants in the proved
+ * code; zimboralo_text.h says what each means, and what its place is. */
 enum zimboralo_number {
     ZIMBORALO_ACCEPTED = 0,
-    ZIMBORALO_RULE_TOO_LONG = 1,       /* over 96 bytes */
-    ZIMBORALO_RULE_LENGTH = 2,         /* empty, or no multiple of 3 */
-    ZIMBORALO_UNKNOWN_KIND = 3,        /* place: the node */
-    ZIMBORALO_BAD_BYTE = 4,            /* no such proposition, or an unused byte is not 0; place: the node */
-    ZIMBORALO_CHILD_NOT_BELOW = 5,     /* place: the node */
-    ZIMBORALO_BAD_PARENTS = 6,         /* no parent, or an operator that is used twice; place: the lowest node */
-    ZIMBORALO_TOO_MANY_UNTILS = 7,     /* over 8 */
-    ZIMBORALO_EMPTY_CYCLE = 8,         /* of the lasso */
-    ZIMBORALO_PLAN_TOO_LONG = 9,       /* over 128 letters in stem and cycle */
-    ZIMBORALO_BAD_CONTENTS = 10,       /* of an image, or counts above their limits */
-    ZIMBORALO_BAD_STATE = 11,          /* place: the state; how many there are, if their counts have a wrong sum */
-    ZIMBORALO_BAD_TRANSITION = 12,     /* place: the transition record */
-    ZIMBORALO_BAD_INITIAL = 13,        /* place: the initial number */
-    ZIMBORALO_TOO_MANY_TERMS = 20,     /* place: the lowest node */
-    ZIMBORALO_PRODUCT_TOO_LARGE = 21,  /* 21 to 23: place: the state of the first walk */
+
+    /* a rule */
+    ZIMBORALO_TOO_LONG = 1,
+    ZIMBORALO_BAD_LENGTH = 2,
+    ZIMBORALO_UNKNOWN_KIND = 3,
+    ZIMBORALO_BAD_BYTE = 4,
+    ZIMBORALO_CHILD_NOT_BELOW = 5,
+    ZIMBORALO_BAD_PLACES = 6,
+    ZIMBORALO_TOO_MANY_UNTILS = 7,
+
+    /* a lasso */
+    ZIMBORALO_EMPTY_CYCLE = 8,
+    ZIMBORALO_TOO_MANY_LETTERS = 9,
+
+    /* an image, or tables to write */
+    ZIMBORALO_BAD_CONTENTS = 10,
+    ZIMBORALO_BAD_STATE = 11,
+    ZIMBORALO_BAD_TRANSITION = 12,
+    ZIMBORALO_BAD_INITIAL = 13,
+
+    /* a rule whose automaton becomes too large; the tables are then all zero */
+    ZIMBORALO_TOO_MANY_TERMS = 20,
+    ZIMBORALO_PRODUCT_TOO_LARGE = 21,
     ZIMBORALO_TOO_MANY_TRANSITIONS = 22,
     ZIMBORALO_TOO_MANY_STATES = 23,
-    ZIMBORALO_TOO_MANY_PAIRS = 24,     /* place: the state of the second walk */
-    ZIMBORALO_TOO_SHORT = 25           /* a lent slice */
+    ZIMBORALO_TOO_MANY_PAIRS = 24,
+
+    /* a lent slice */
+    ZIMBORALO_TABLE_TOO_SHORT = 25
 };
+
+/* ---- the calls */
 
 /* The automaton of a rule, as records in three tables. Its counts, or a refusal. */
 uint64_t zimboralo_translate(const uint8_t *rule, size_t rule_len, uint8_t *states, size_t states_len,
@@ -74,7 +99,9 @@ uint64_t zimboralo_decide(const uint8_t *rule, size_t rule_len, const uint8_t *s
                           uint8_t *transitions, size_t transitions_len, uint8_t *initial, size_t initial_len,
                           uint8_t *image, size_t image_len, uint8_t *work, size_t work_len);
 
-/* The parts of an answer. Of a refusal: its number and place. */
+/* ---- the parts of an answer */
+
+/* Of a refusal: its number and place. */
 static inline unsigned zimboralo_number(uint64_t answer) { return (unsigned)(answer & 0xff); }
 static inline uint32_t zimboralo_place(uint64_t answer) { return (uint32_t)(answer >> 8); }
 
@@ -86,6 +113,108 @@ static inline unsigned zimboralo_initial(uint64_t answer) { return (unsigned)(an
 /* Of an accepted write: the image's length. Of an accepted judge or decide: whether the lasso is kept. */
 static inline size_t zimboralo_length(uint64_t answer) { return (size_t)(answer >> 8 & 0xffffffff); }
 static inline int zimboralo_kept(uint64_t answer) { return (int)(answer >> 8 & 1); }
+
+/* ---- the calls over structs of the right sizes */
+
+/* An automaton: three tables, and how many records of each are used. */
+struct zimboralo_tables {
+    uint8_t states[ZIMBORALO_STATES_BYTES];
+    uint8_t transitions[ZIMBORALO_TRANSITIONS_BYTES];
+    uint8_t initial[ZIMBORALO_INITIAL_BYTES];
+    size_t state_count, transition_count, initial_count;
+};
+
+/* An image, and how many of its bytes are used. */
+struct zimboralo_image {
+    uint8_t bytes[ZIMBORALO_IMAGE_BYTES];
+    size_t length;
+};
+
+/* All that a decision fills, over 100 KB: better static or allocated than on a small stack. */
+struct zimboralo_buffers {
+    struct zimboralo_tables tables;
+    struct zimboralo_image image;
+    uint8_t work[ZIMBORALO_WORK_BYTES];
+};
+
+/* Whether a refusal leaves the tables all zero; every other one leaves them as they were. */
+static inline int zimboralo_clears(unsigned number)
+{
+    return number >= ZIMBORALO_TOO_MANY_TERMS && number <= ZIMBORALO_TOO_MANY_PAIRS;
+}
+
+/* Counts that fit the tables after an answer of translate or read: its own, none where the tables are zero, and those
+ * that were there where the tables are as they were. The answer again. */
+static inline uint64_t zimboralo_count(struct zimboralo_tables *tables, uint64_t answer)
+{
+    unsigned number = zimboralo_number(answer);
+    if (number == ZIMBORALO_ACCEPTED) {
+        tables->state_count = zimboralo_states(answer);
+        tables->transition_count = zimboralo_transitions(answer);
+        tables->initial_count = zimboralo_initial(answer);
+    } else if (zimboralo_clears(number)) {
+        tables->state_count = tables->transition_count = tables->initial_count = 0;
+    }
+    return answer;
+}
+
+/* zimboralo_translate into a struct, with the counts. */
+static inline uint64_t zimboralo_translate_rule(const uint8_t *rule, size_t rule_len, struct zimboralo_tables *tables)
+{
+    return zimboralo_count(tables, zimboralo_translate(rule, rule_len, tables->states, sizeof tables->states,
+                                                       tables->transitions, sizeof tables->transitions,
+                                                       tables->initial, sizeof tables->initial));
+}
+
+/* zimboralo_read into a struct, with the counts. */
+static inline uint64_t zimboralo_read_image(const uint8_t *image, size_t image_len, struct zimboralo_tables *tables)
+{
+    return zimboralo_count(tables, zimboralo_read(image, image_len, tables->states, sizeof tables->states,
+                                                  tables->transitions, sizeof tables->transitions, tables->initial,
+                                                  sizeof tables->initial));
+}
+
+/* zimboralo_write from a struct to a struct, with the length; a refusal leaves the image as it was. */
+static inline uint64_t zimboralo_write_image(const struct zimboralo_tables *tables, struct zimboralo_image *image)
+{
+    uint64_t answer = zimboralo_write(tables->states, sizeof tables->states, tables->state_count, tables->transitions,
+                                      sizeof tables->transitions, tables->transition_count, tables->initial,
+                                      sizeof tables->initial, tables->initial_count, image->bytes, sizeof image->bytes);
+    if (zimboralo_number(answer) == ZIMBORALO_ACCEPTED)
+        image->length = zimboralo_length(answer);
+    return answer;
+}
+
+/* zimboralo_judge by the image in the buffers: of a decision before, or written or copied there. */
+static inline uint64_t zimboralo_judge_plan(const uint8_t *stem, size_t stem_len, const uint8_t *cycle,
+                                            size_t cycle_len, struct zimboralo_buffers *buffers)
+{
+    return zimboralo_judge(buffers->image.bytes, buffers->image.length, stem, stem_len, cycle, cycle_len,
+                           buffers->work, sizeof buffers->work);
+}
+
+/* A number of two bytes in an image, low byte first. */
+static inline size_t zimboralo_number_at(const uint8_t *at) { return at[0] | (size_t)at[1] << 8; }
+
+/* zimboralo_decide into the buffers, with the counts and the image's length: these are no part of a verdict, and are
+ * read off the image's contents. Further plans for the same rule go to zimboralo_judge_plan. */
+static inline uint64_t zimboralo_decide_plan(const uint8_t *rule, size_t rule_len, const uint8_t *stem, size_t stem_len,
+                                             const uint8_t *cycle, size_t cycle_len, struct zimboralo_buffers *buffers)
+{
+    struct zimboralo_tables *tables = &buffers->tables;
+    struct zimboralo_image *image = &buffers->image;
+    uint64_t answer = zimboralo_decide(rule, rule_len, stem, stem_len, cycle, cycle_len, tables->states,
+                                       sizeof tables->states, tables->transitions, sizeof tables->transitions,
+                                       tables->initial, sizeof tables->initial, image->bytes, sizeof image->bytes,
+                                       buffers->work, sizeof buffers->work);
+    if (zimboralo_number(answer) != ZIMBORALO_ACCEPTED)
+        return zimboralo_count(tables, answer);
+    tables->state_count = zimboralo_number_at(image->bytes + 2);
+    tables->transition_count = zimboralo_number_at(image->bytes + 8);
+    tables->initial_count = zimboralo_number_at(image->bytes + 14);
+    image->length = zimboralo_number_at(image->bytes + 16) + 2 * tables->initial_count;
+    return answer;
+}
 
 #ifdef __cplusplus
 }

@@ -10,17 +10,18 @@ def letters(rng, count):
 
 
 def lasso(rng):
-    """A stem and a cycle: short ones, and some at the limits of 0, 128 and 129 letters."""
+    """A stem and a cycle: short ones, and some with no letter, as many as a lasso may have, and one more."""
+    most = second.max_slots()
     pick = rng.random()
     if pick < .75:
         return letters(rng, rng.randrange(5)), letters(rng, rng.randrange(1, 6))
     if pick < .85:
-        n = rng.randrange(1, 129)
-        return letters(rng, 128 - n), letters(rng, n)
+        n = rng.randrange(1, most + 1)
+        return letters(rng, most - n), letters(rng, n)
     if pick < .92:
-        n = rng.randrange(1, 130)
-        return letters(rng, 129 - n), letters(rng, n)
-    return letters(rng, rng.randrange(130)), letters(rng, rng.choice((0, 1, 64)))
+        n = rng.randrange(1, most + 2)
+        return letters(rng, most + 1 - n), letters(rng, n)
+    return letters(rng, rng.randrange(most + 2)), letters(rng, rng.choice((0, 1, most // 2)))
 
 
 def hand_made(rng):

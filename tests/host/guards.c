@@ -1,5 +1,6 @@
 /* Every lent buffer at its exact smallest size between guard bytes that must stay as they were; and one byte shorter,
- * which is refused by 25 with every byte as it was. Prints one line and exits 1 where something is wrong. */
+ * which is refused by 25 with every byte as it was. The functions over structs against the plain calls, and the
+ * header's limits against what the library takes. Prints one line and exits 1 where something is wrong. */
 #include <stdio.h>
 #include <stdlib.h>
 #include <string.h>
@@ -12,6 +13,14 @@ static const size_t SIZES[BUFFERS] = {ZIMBORALO_STATES_BYTES, ZIMBORALO_TRANSITI
                                       ZIMBORALO_IMAGE_BYTES, ZIMBORALO_WORK_BYTES};
 static const char *const NAMES[BUFFERS] = {"states", "transitions", "initial", "image", "work"};
 enum buffer { STATES, TRANSITIONS, INITIAL, IMAGE, WORK };
+
+static const uint8_t always_eventually[] = {1, 0, 0, 2, 0, 0, 7, 0, 1, 0, 0, 0, 8, 3, 2};
+static const uint8_t never[] = {0, 0, 0};
+static const uint8_t unknown[] = {9, 0, 0};
+/* eventually 0 to 4 and next next 5: 97 pairs */
+static const uint8_t pairs[] = {1, 0, 0, 2, 0, 0, 7, 0, 1, 2, 1, 0, 7, 0, 3, 2, 2, 0, 7, 0, 5, 2, 3, 0, 7, 0, 7, 2, 4,
+                                0, 7, 0, 9, 2, 5, 0, 6, 11, 0, 6, 12, 0, 4, 2, 4, 4, 14, 6, 4, 15, 8, 4, 16, 10, 4, 17,
+                                13};
 
 static uint8_t *blocks[BUFFERS];
 static int wrong, looked;
@@ -115,7 +124,7 @@ static void in_a_row(const uint8_t *rule, size_t length)
         expect(memcmp(after[b], blocks[b], SIZES[b] + 2 * GUARD) == 0, "decide and the calls differ", NAMES[b]);
     for (int shorter = 0; shorter < BUFFERS; shorter++) {
         refill();
-        expect(decide(rule, length, cycle, sizeof cycle, shorter) == ZIMBORALO_TOO_SHORT, "decide took a short",
+        expect(decide(rule, length, cycle, sizeof cycle, shorter) == ZIMBORALO_TABLE_TOO_SHORT, "decide took a short",
                NAMES[shorter]);
         expect_untouched("decide touched a buffer");
     }
@@ -124,19 +133,15 @@ static void in_a_row(const uint8_t *rule, size_t length)
 /* The refusals of decide: 1 to 9 touch nothing, 8 comes after the rule's own and before 24, and 24 leaves zero tables. */
 static void refused(void)
 {
-    /* eventually 0 to 4 and next next 5: 97 pairs */
-    static const uint8_t pairs[] = {1, 0, 0, 2, 0, 0, 7, 0, 1, 2, 1, 0, 7, 0, 3, 2, 2, 0, 7, 0, 5, 2, 3, 0, 7, 0,
-        7, 2, 4, 0, 7, 0, 9, 2, 5, 0, 6, 11, 0, 6, 12, 0, 4, 2, 4, 4, 14, 6, 4, 15, 8,
-        4, 16, 10, 4, 17, 13};
-    static const uint8_t unknown[] = {9, 0, 0};
-    const uint8_t cycle[129] = {0};
+    const uint8_t cycle[ZIMBORALO_MAX_LETTERS + 1] = {0};
     refill();
     expect(decide(unknown, sizeof unknown, cycle, 0, BUFFERS) == ZIMBORALO_UNKNOWN_KIND, "decide took", "a kind");
     expect(decide(pairs, sizeof pairs, cycle, 0, BUFFERS) == ZIMBORALO_EMPTY_CYCLE, "decide took", "an empty cycle");
-    expect(decide(pairs, sizeof pairs, cycle, 129, BUFFERS) == ZIMBORALO_PLAN_TOO_LONG, "decide took", "129 letters");
+    expect(decide(pairs, sizeof pairs, cycle, sizeof cycle, BUFFERS) == ZIMBORALO_TOO_MANY_LETTERS, "decide took",
+           "a letter too many");
     expect_untouched("a refusal touched a buffer");
     expect(zimboralo_number(decide(pairs, sizeof pairs, cycle, 1, BUFFERS)) == ZIMBORALO_TOO_MANY_PAIRS, "decide took",
-           "97 pairs");
+           "a pair too many");
     expect_guards("decide touched a guard");
     for (int b = STATES; b <= INITIAL; b++)
         expect(zero(b, SIZES[b]), "not zero after 24", NAMES[b]);
@@ -171,27 +176,137 @@ static void whole(const uint8_t *rule, size_t length)
 
     for (int shorter = STATES; shorter <= INITIAL; shorter++) {
         refill();
-        expect(translate(rule, length, shorter) == ZIMBORALO_TOO_SHORT, "translate took a short", NAMES[shorter]);
-        expect(read_image(copy, zimboralo_length(written), shorter) == ZIMBORALO_TOO_SHORT, "read took a short",
+        expect(translate(rule, length, shorter) == ZIMBORALO_TABLE_TOO_SHORT, "translate took a short", NAMES[shorter]);
+        expect(read_image(copy, zimboralo_length(written), shorter) == ZIMBORALO_TABLE_TOO_SHORT, "read took a short",
                NAMES[shorter]);
         expect_untouched("a short table was touched");
     }
     for (int shorter = STATES; shorter <= IMAGE; shorter++) {
         refill();
-        expect(write_image(made, shorter) == ZIMBORALO_TOO_SHORT, "write took a short", NAMES[shorter]);
+        expect(write_image(made, shorter) == ZIMBORALO_TABLE_TOO_SHORT, "write took a short", NAMES[shorter]);
         expect_untouched("write touched a buffer");
     }
     refill();
     expect(zimboralo_judge(copy, zimboralo_length(written), cycle, 0, cycle, 1, lent(WORK), SIZES[WORK] - 1)
-               == ZIMBORALO_TOO_SHORT,
+               == ZIMBORALO_TABLE_TOO_SHORT,
            "judge took a short", NAMES[WORK]);
     expect_untouched("judge touched a buffer");
 }
 
+/* The buffers as a struct, with guards at both ends. */
+static struct {
+    uint8_t before[GUARD];
+    struct zimboralo_buffers buffers;
+    uint8_t behind[GUARD];
+} guarded;
+
+static struct zimboralo_tables *const tables = &guarded.buffers.tables;
+static struct zimboralo_image *const image = &guarded.buffers.image;
+static uint8_t *const inside[BUFFERS] = {guarded.buffers.tables.states, guarded.buffers.tables.transitions,
+                                         guarded.buffers.tables.initial, guarded.buffers.image.bytes,
+                                         guarded.buffers.work};
+
+/* A count or length that no call gave. */
+enum { NOT_SET = 77777 };
+
+static int accepted(uint64_t answer) { return zimboralo_number(answer) == ZIMBORALO_ACCEPTED; }
+
+/* The same bytes in the plain buffers and in the struct. */
+static void refill_both(void)
+{
+    refill();
+    for (int b = 0; b < BUFFERS; b++)
+        memcpy(inside[b], lent(b), SIZES[b]);
+    for (size_t i = 0; i < GUARD; i++)
+        guarded.before[i] = guarded.behind[i] = pattern(i);
+    tables->state_count = tables->transition_count = tables->initial_count = image->length = NOT_SET;
+}
+
+/* The plain call and its function over structs have answered alike and left the same bytes; the counts are those of
+ * `made` by an acceptance, else none where the tables are zero, else as they were; the length is the one given. */
+static void expect_same(const char *what, uint64_t plain, uint64_t answer, uint64_t made, size_t length)
+{
+    expect(plain == answer, what, "another answer");
+    for (int b = 0; b < BUFFERS; b++)
+        expect(memcmp(inside[b], lent(b), SIZES[b]) == 0, what, NAMES[b]);
+    int ok = 1;
+    for (size_t i = 0; i < GUARD; i++)
+        ok = ok && guarded.before[i] == pattern(i) && guarded.behind[i] == pattern(i);
+    expect(ok, what, "a guard of the struct");
+    size_t otherwise = zero(STATES, SIZES[STATES]) ? 0 : NOT_SET;
+    expect(tables->state_count == (accepted(answer) ? zimboralo_states(made) : otherwise)
+               && tables->transition_count == (accepted(answer) ? zimboralo_transitions(made) : otherwise)
+               && tables->initial_count == (accepted(answer) ? zimboralo_initial(made) : otherwise),
+           what, "counts");
+    expect(image->length == length, what, "length");
+}
+
+/* Writing and reading over structs, and their refusals, for an accepted rule's counts. Its image's length. */
+static size_t image_over_structs(uint64_t made)
+{
+    static uint8_t copy[ZIMBORALO_IMAGE_BYTES];
+    uint64_t written = write_image(made, BUFFERS);
+    size_t length = zimboralo_length(written);
+    expect_same("write_image", written, zimboralo_write_image(tables, image), made, length);
+    memcpy(copy, lent(IMAGE), length);
+    refill_both();
+    uint64_t loaded = read_image(copy, length, BUFFERS);
+    expect_same("read_image", loaded, zimboralo_read_image(copy, length, tables), made, NOT_SET);
+    refill_both();
+    loaded = read_image(copy, length - 1, BUFFERS);
+    expect(zimboralo_number(loaded) == ZIMBORALO_BAD_CONTENTS, "read took", "a cut image");
+    expect_same("read_image of a cut image", loaded, zimboralo_read_image(copy, length - 1, tables), 0, NOT_SET);
+    expect(zimboralo_write_image(tables, image) == ZIMBORALO_BAD_CONTENTS, "write_image took", "too large counts");
+    expect(image->length == NOT_SET, "a refused write_image set", "length");
+    return length;
+}
+
+/* Each function over structs against its plain call, on a rule that may be refused, with lassos that may be. */
+static void over_structs(const uint8_t *rule, size_t rule_length)
+{
+    static const uint8_t cycle[ZIMBORALO_MAX_LETTERS + 1] = {1, 0, 255};
+    static const size_t letters[] = {0, 1, 3, ZIMBORALO_MAX_LETTERS, ZIMBORALO_MAX_LETTERS + 1};
+    refill_both();
+    uint64_t made = translate(rule, rule_length, BUFFERS);
+    expect_same("translate_rule", made, zimboralo_translate_rule(rule, rule_length, tables), made, NOT_SET);
+    size_t length = accepted(made) ? image_over_structs(made) : NOT_SET;
+    for (size_t i = 0; i < sizeof letters / sizeof *letters; i++) {
+        refill_both();
+        uint64_t plain = decide(rule, rule_length, cycle, letters[i], BUFFERS);
+        uint64_t answer = zimboralo_decide_plan(rule, rule_length, cycle, 0, cycle, letters[i], &guarded.buffers);
+        expect_same("decide_plan", plain, answer, made, accepted(answer) ? length : NOT_SET);
+        if (!accepted(answer))
+            continue;
+        plain = zimboralo_judge(lent(IMAGE), length, cycle, 1, cycle, 2, lent(WORK), SIZES[WORK]);
+        expect_same("judge_plan", plain, zimboralo_judge_plan(cycle, 1, cycle, 2, &guarded.buffers), made, length);
+    }
+}
+
+/* The header's limits are the library's: what is as large is taken, and what is one larger is not. The sizes of the
+ * tables are those of `whole`, the states those of `refused`. */
+static void limits(void)
+{
+    static const uint8_t zero_nodes[ZIMBORALO_RULE_BYTES + 1] = {0}, letters[ZIMBORALO_MAX_LETTERS + 1] = {0};
+    /* true, mark 0, and eventually of the node before, over and over */
+    uint8_t nested[3 * (ZIMBORALO_MAX_UNTILS + 3)] = {1, 0, 0, 2, 0, 0};
+    for (uint8_t n = 2; n < ZIMBORALO_MAX_UNTILS + 3; n++) {
+        nested[3 * n] = 7;
+        nested[3 * n + 2] = n - 1;
+    }
+    refill();
+    expect(translate(zero_nodes, ZIMBORALO_RULE_BYTES, BUFFERS) == ZIMBORALO_BAD_PLACES, "not taken", "nodes");
+    expect(translate(zero_nodes, sizeof zero_nodes, BUFFERS) == ZIMBORALO_TOO_LONG, "taken", "a byte too many");
+    expect(accepted(translate(nested, sizeof nested - 3, BUFFERS)), "not taken", "untils");
+    expect(translate(nested, sizeof nested, BUFFERS) == ZIMBORALO_TOO_MANY_UNTILS, "taken", "an until too many");
+    expect(accepted(decide(never, sizeof never, letters, ZIMBORALO_MAX_LETTERS, BUFFERS)), "not taken", "letters");
+    expect(decide(never, sizeof never, letters, sizeof letters, BUFFERS) == ZIMBORALO_TOO_MANY_LETTERS, "taken",
+           "a letter too many");
+    expect(zimboralo_length(write_image(translate(never, sizeof never, BUFFERS), BUFFERS)) == ZIMBORALO_CONTENTS_BYTES,
+           "another size", "contents");
+}
+
 int main(void)
 {
-    static const uint8_t always_eventually[] = {1, 0, 0, 2, 0, 0, 7, 0, 1, 0, 0, 0, 8, 3, 2};
-    static const uint8_t never[] = {0, 0, 0};
     for (int b = 0; b < BUFFERS; b++)
         if (!(blocks[b] = malloc(SIZES[b] + 2 * GUARD)))
             return 1;
@@ -200,6 +315,11 @@ int main(void)
     in_a_row(always_eventually, sizeof always_eventually);
     in_a_row(never, sizeof never);
     refused();
+    over_structs(always_eventually, sizeof always_eventually);
+    over_structs(never, sizeof never);
+    over_structs(unknown, sizeof unknown);
+    over_structs(pairs, sizeof pairs);
+    limits();
     printf("guards: %d looked at, %d wrong\n", looked, wrong);
     for (int b = 0; b < BUFFERS; b++)
         free(blocks[b]);

@@ -9,6 +9,7 @@
 #include <string.h>
 
 #include "zimboralo.h"
+#include "zimboralo_text.h"
 
 struct bytes {
     uint8_t *at;
@@ -56,48 +57,20 @@ static struct bytes from_word(const char *word)
     return b;
 }
 
-static const char *words_of(unsigned number)
-{
-    static const char *const words[] = {
-        [1] = "the rule has over 96 bytes",
-        [2] = "the rule is empty or its length is no multiple of 3",
-        [3] = "a node of the rule has an unknown kind",
-        [4] = "a node of the rule has a mark above 7 or an unused byte that is not 0",
-        [5] = "a child in the rule is not below its parent",
-        [6] = "a node of the rule has no parent, or is a child at two places",
-        [7] = "the rule has over 8 untils",
-        [8] = "the plan's loop is empty",
-        [9] = "the plan has over 128 slots",
-        [10] = "the image's contents are wrong",
-        [11] = "a state of the image is wrong",
-        [12] = "a transition of the image is wrong",
-        [13] = "an initial state of the image is wrong",
-        [20] = "a node of the rule has too many terms",
-        [21] = "the rule has too large a product",
-        [22] = "the rule has too many transitions",
-        [23] = "the rule has too many states",
-        [24] = "the rule has too many pairs",
-        [25] = "a buffer is too short",
-    };
-    return number < sizeof words / sizeof *words && words[number] ? words[number] : "unknown refusal";
-}
-
 int main(int count, char **words)
 {
-    static uint8_t states[ZIMBORALO_STATES_BYTES], transitions[ZIMBORALO_TRANSITIONS_BYTES],
-        initial[ZIMBORALO_INITIAL_BYTES], image[ZIMBORALO_IMAGE_BYTES], work[ZIMBORALO_WORK_BYTES];
+    static struct zimboralo_buffers buffers;
     if (count != 4)
         stop("usage", "office RULE STEM CYCLE");
     struct bytes rule = from_word(words[1]), stem = from_word(words[2]), cycle = from_word(words[3]);
-    uint64_t answer = zimboralo_decide(rule.at, rule.length, stem.at, stem.length, cycle.at, cycle.length, states,
-                                       sizeof states, transitions, sizeof transitions, initial, sizeof initial, image,
-                                       sizeof image, work, sizeof work);
+    uint64_t answer =
+        zimboralo_decide_plan(rule.at, rule.length, stem.at, stem.length, cycle.at, cycle.length, &buffers);
     free(rule.at);
     free(stem.at);
     free(cycle.at);
     if (zimboralo_number(answer) != ZIMBORALO_ACCEPTED) {
         printf("refused %u place %u: %s\n", zimboralo_number(answer), zimboralo_place(answer),
-               words_of(zimboralo_number(answer)));
+               zimboralo_text(zimboralo_number(answer)));
         return 2;
     }
     puts(zimboralo_kept(answer) ? "kept" : "broken");

@@ -14,8 +14,7 @@
 
 #include "zimboralo.h"
 
-static uint8_t states[ZIMBORALO_STATES_BYTES], transitions[ZIMBORALO_TRANSITIONS_BYTES],
-    initial[ZIMBORALO_INITIAL_BYTES], image[ZIMBORALO_IMAGE_BYTES], work[ZIMBORALO_WORK_BYTES];
+static struct zimboralo_buffers buffers;
 
 enum { LONGEST = 1 << 17 };
 
@@ -47,19 +46,12 @@ static int refused(uint64_t answer)
     return 1;
 }
 
-static uint64_t written(uint64_t made)
-{
-    return zimboralo_write(states, sizeof states, zimboralo_states(made), transitions, sizeof transitions,
-                           zimboralo_transitions(made), initial, sizeof initial, zimboralo_initial(made), image,
-                           sizeof image);
-}
-
 static void print_image(uint64_t answer)
 {
     if (refused(answer))
         return;
     for (size_t i = 0; i < zimboralo_length(answer); i++)
-        printf("%02x", image[i]);
+        printf("%02x", buffers.image.bytes[i]);
     puts("");
 }
 
@@ -67,10 +59,8 @@ static void translate(void)
 {
     size_t n;
     uint8_t *rule = slice(&n);
-    uint64_t made = zimboralo_translate(rule, n, states, sizeof states, transitions, sizeof transitions, initial,
-                                        sizeof initial);
-    if (!refused(made))
-        print_image(written(made));
+    if (!refused(zimboralo_translate_rule(rule, n, &buffers.tables)))
+        print_image(zimboralo_write_image(&buffers.tables, &buffers.image));
     free(rule);
 }
 
@@ -78,7 +68,7 @@ static void judge(void)
 {
     size_t n, s, c;
     uint8_t *bytes = slice(&n), *stem = slice(&s), *cycle = slice(&c);
-    uint64_t answer = zimboralo_judge(bytes, n, stem, s, cycle, c, work, sizeof work);
+    uint64_t answer = zimboralo_judge(bytes, n, stem, s, cycle, c, buffers.work, sizeof buffers.work);
     if (!refused(answer))
         puts(zimboralo_kept(answer) ? "kept" : "broken");
     free(bytes);
@@ -90,13 +80,9 @@ static void read_back(void)
 {
     size_t n;
     uint8_t *bytes = slice(&n);
-    uint64_t made = zimboralo_read(bytes, n, states, sizeof states, transitions, sizeof transitions, initial,
-                                   sizeof initial);
-    if (!refused(made)) {
-        uint64_t answer = written(made);
-        if (!refused(answer))
-            puts(zimboralo_length(answer) == n && memcmp(image, bytes, n) == 0 ? "same" : "other");
-    }
+    if (!refused(zimboralo_read_image(bytes, n, &buffers.tables))
+        && !refused(zimboralo_write_image(&buffers.tables, &buffers.image)))
+        puts(buffers.image.length == n && memcmp(buffers.image.bytes, bytes, n) == 0 ? "same" : "other");
     free(bytes);
 }
 
@@ -107,46 +93,49 @@ static void write_tables(void)
     if (n != 12)
         exit(1);
     print_image(zimboralo_write(rows, s, number(counts), edges, t, number(counts + 4), first, i, number(counts + 8),
-                                image, sizeof image));
+                                buffers.image.bytes, sizeof buffers.image.bytes));
     free(counts);
     free(rows);
     free(edges);
     free(first);
 }
 
-/* The five buffers that decide fills. */
-struct lent {
-    uint8_t states[ZIMBORALO_STATES_BYTES], transitions[ZIMBORALO_TRANSITIONS_BYTES], initial[ZIMBORALO_INITIAL_BYTES],
-        image[ZIMBORALO_IMAGE_BYTES], work[ZIMBORALO_WORK_BYTES];
-};
-
 /* The buffers as translate, write and judge leave them, where the answer is neither 25 nor 1 to 9. */
-static void in_a_row(struct lent *b, const uint8_t *rule, size_t n)
+static void in_a_row(struct zimboralo_buffers *b, const uint8_t *rule, size_t n)
 {
-    uint64_t made = zimboralo_translate(rule, n, b->states, sizeof b->states, b->transitions, sizeof b->transitions,
-                                        b->initial, sizeof b->initial);
-    if (zimboralo_number(made) != ZIMBORALO_ACCEPTED)
+    if (zimboralo_number(zimboralo_translate_rule(rule, n, &b->tables)) != ZIMBORALO_ACCEPTED)
         return;
-    zimboralo_write(b->states, sizeof b->states, zimboralo_states(made), b->transitions, sizeof b->transitions,
-                    zimboralo_transitions(made), b->initial, sizeof b->initial, zimboralo_initial(made), b->image,
-                    sizeof b->image);
+    zimboralo_write_image(&b->tables, &b->image);
     memset(b->work, 0, sizeof b->work);
+}
+
+static int same_tables(const struct zimboralo_tables *a, const struct zimboralo_tables *b)
+{
+    return memcmp(a->states, b->states, sizeof a->states) == 0
+           && memcmp(a->transitions, b->transitions, sizeof a->transitions) == 0
+           && memcmp(a->initial, b->initial, sizeof a->initial) == 0 && a->state_count == b->state_count
+           && a->transition_count == b->transition_count && a->initial_count == b->initial_count;
+}
+
+static int same_buffers(const struct zimboralo_buffers *a, const struct zimboralo_buffers *b)
+{
+    return same_tables(&a->tables, &b->tables) && a->image.length == b->image.length
+           && memcmp(a->image.bytes, b->image.bytes, sizeof a->image.bytes) == 0
+           && memcmp(a->work, b->work, sizeof a->work) == 0;
 }
 
 static void decide(void)
 {
-    static struct lent here, want;
+    static struct zimboralo_buffers want;
     size_t n, s, c;
     uint8_t *rule = slice(&n), *stem = slice(&s), *cycle = slice(&c);
-    memset(&here, 0xa5, sizeof here);
+    memset(&buffers, 0xa5, sizeof buffers);
     memset(&want, 0xa5, sizeof want);
-    uint64_t answer = zimboralo_decide(rule, n, stem, s, cycle, c, here.states, sizeof here.states, here.transitions,
-                                       sizeof here.transitions, here.initial, sizeof here.initial, here.image,
-                                       sizeof here.image, here.work, sizeof here.work);
+    uint64_t answer = zimboralo_decide_plan(rule, n, stem, s, cycle, c, &buffers);
     unsigned number = zimboralo_number(answer);
-    if (number == ZIMBORALO_ACCEPTED || number >= ZIMBORALO_TOO_MANY_TERMS)
+    if (number == ZIMBORALO_ACCEPTED || zimboralo_clears(number))
         in_a_row(&want, rule, n);
-    if (memcmp(&here, &want, sizeof here) != 0)
+    if (!same_buffers(&buffers, &want))
         puts("other");
     else if (!refused(answer))
         puts(zimboralo_kept(answer) ? "kept" : "broken");
