@@ -9,7 +9,8 @@ use lib.ListN.{getD, length}
 use lib.Dec.{leb, ltb}
 use borrow.Author.Tests.{leb-true, ltb-true}
 use Rattle.answer.specs.Result.{Result, accepted, refused, andThen, Check, fine, require, lowest}
-use Rattle.formula.specs.Rule.{nodeCount, lengthCheck, nodeCheck, placeCheck, syntaxCheck, untilCheck}
+use Rattle.formula.specs.Rule.{nodeCount, releaseKind, lengthCheck, nodeCheck, placeCheck, syntaxCheck, untilCheck}
+use Rattle.formula.specs.Limits.{ruleBytes}
 use Rattle.formula.specs.Rule
 use Rattle.answer.proofs.Lowest.{fine-first}
 use Rattle.answer.proofs.Results.{never-both, require-fine, required}
@@ -116,12 +117,12 @@ length-proper rule = search proper
 -- a rule that 1 lets pass has few nodes
 few-nodes : (rule : List ℕ) → lengthCheck rule ≡ fine → nodeCount rule ≤ maxTransitions
 unfolding lengthCheck
-few-nodes rule e = omega (arith, leb-true (length rule) 96 (required _ 1 0 _ e .0))
+few-nodes rule e = omega (arith, leb-true (length rule) ruleBytes (required _ 1 0 _ e .0))
 
 -- 3 to 5
-node-proper : (rule : List ℕ) (n : ℕ) → n ≤ maxTransitions → Proper (nodeCheck rule n)
+node-proper : (highest : ℕ) (rule : List ℕ) (n : ℕ) → n ≤ maxTransitions → Proper (nodeCheck highest rule n)
 unfolding nodeCheck
-node-proper rule n le = search proper
+node-proper highest rule n le = search proper
 
 -- 6
 place-proper : (rule : List ℕ) (n : ℕ) → n ≤ maxTransitions → Proper (placeCheck rule n)
@@ -129,9 +130,9 @@ unfolding placeCheck
 place-proper rule n le = search proper
 
 -- 1 to 6
-syntax-proper : (rule : List ℕ) → Proper (syntaxCheck rule)
+syntax-proper : (highest : ℕ) (rule : List ℕ) → Proper (syntaxCheck highest rule)
 unfolding syntaxCheck
-syntax-proper rule =
+syntax-proper highest rule =
     then-proper (lengthCheck rule) _ (length-proper rule)
     (λ u e. let few : nodeCount rule ≤ maxTransitions = few-nodes rule e in search (proper, node-proper, place-proper) depth 7)
 
@@ -149,7 +150,7 @@ sizes-proper : (rule : List ℕ) → Proper (checked rule)
 unfolding checked Rule.checked syntaxCheck
 sizes-proper rule =
     then-proper (Rule.checked rule) _ (rule-proper rule)
-    (λ u e. let few : nodeCount rule ≤ maxTransitions = few-nodes rule (fine-first (lengthCheck rule) _ (fine-first (syntaxCheck rule) _ e)) in search (proper, size-proper))
+    (λ u e. let few : nodeCount rule ≤ maxTransitions = few-nodes rule (fine-first (lengthCheck rule) _ (fine-first (syntaxCheck releaseKind rule) _ e)) in search (proper, size-proper))
 
 -- 21
 product-proper : (rule : List ℕ) (place state : ℕ) → place ≤ maxTransitions → Proper (productCheck rule place state)
