@@ -7,7 +7,7 @@ use lib.ListN.{getD, length, replicate}
 unfoldable pub twoBytes : ℕ → List ℕ
 twoBytes n = n % 256 ∷ (n / 256 ∷ [])
 
--- the number in the two bytes from place i on, of which the first is the low one (01, The image, sentence 2)
+-- the number in the two bytes from index i on, of which the first is the low one (01, The image, sentence 2)
 abbrev pub numberAt : List ℕ → ℕ → ℕ
 numberAt bytes i = getD bytes i 0 + 256 * getD bytes (i + 1) 0
 

@@ -7,6 +7,9 @@ ghost use lib.ListN.{length, take, drop, replicate};
 ghost use lib.Seq.{sets};
 ghost use Rattle.answer.specs.Bytes.{twoBytes, numberAt};
 
+// The number of document 01 for a lent table, image buffer or working bytes that are too short.
+pub const TABLE_TOO_SHORT: u8 = 25;
+
 // The answer of a check: accepted, or a refusal's number and place.
 pub enum Checked {
     Accepted,
@@ -20,7 +23,7 @@ pub fn wide(x: u8) -> usize
     x as usize
 }
 
-// The number at place i, low byte first.
+// The number at index i, low byte first.
 pub fn number_at(bytes: &[u8], i: usize) -> usize
     requires { ⌜ i + 1 < length (now bytes) ⌝ }
     ensures { λ r. ⌜ r ≡ numberAt (now (bytes .entry)) i ⌝ }
@@ -48,7 +51,7 @@ pub fn zero(table: &mut [u8])
     }
 }
 
-// The first n bytes of source in the first places of target.
+// The first n bytes of source in the first bytes of target.
 pub fn copy(target: &mut [u8], source: &[u8], n: usize)
     requires { ⌜ (n ≤ length (now target)) × (n ≤ length (now source)) ⌝ }
     ensures { λ _. ⌜ now (target .exit) ≡ take n (now (source .entry)) ++ drop n (now (target .entry)) ⌝ }

@@ -21,7 +21,7 @@ use Rattle.answer.specs.Bytes.{zeros, filled}
 use Rattle.translation.specs.Translate.{stored, translated}
 use Rattle.image.specs.Image.{imageBytes, largestImage}
 use Rattle.image.specs.Calls.{Buffer, buffer, writes}
-use Rattle.image.proofs.Answers.{Long, fine-long, filled-long}
+use Rattle.image.proofs.Outcomes.{Long, fine-long, filled-long}
 use Rattle.judge.specs.Judge.{workBytes, Verdict, verdict, judgement, judged}
 use Rattle.lasso.specs.Lasso.{lassoCheck}
 use Rattle.judge.proofs.VerdictIff.{image-judged}

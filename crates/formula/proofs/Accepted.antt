@@ -1,4 +1,4 @@
--- What it says of a rule that no check refuses it.
+-- What it says of a rule that no check refuses it, node by node. Assumes nothing.
 use mathlib.Core.Path.{_≡_}
 use mathlib.Core.Bool.{true, and-eq-true-iff}
 use mathlib.Core.List.{List}

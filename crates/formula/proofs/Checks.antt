@@ -1,4 +1,4 @@
--- From the tests that the code makes to the checks of a rule.
+-- From the tests that the code makes to the checks of a rule, in their order. Assumes nothing.
 use mathlib.Core.Path.{_≡_}
 use mathlib.Core.Bool.{Bool, true, false, not, and-false, and-eq-true-iff}
 use mathlib.Core.List.{List}

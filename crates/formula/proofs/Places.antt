@@ -1,4 +1,4 @@
--- The places at which a node is a child: how many there can be, and what a loop over the nodes counts.
+-- The places at which a node is a child: how many there can be, and what a loop over the nodes counts. Assumes nothing.
 use mathlib.Core.Path.{_≡_, refl, sym, _∙_}
 use mathlib.Core.Bool.{Bool, true, false, cond}
 use mathlib.Core.List.{List}
@@ -10,6 +10,7 @@ use lib.Dec.{eqb}
 use lib.ListN.{getD, length, set, replicate}
 use lib.Seq.{getD-set-same, getD-set-other}
 use borrow.Author.Tests.{eq-eqb, ne-eqb, ltb-true, lt-ltb}
+use Rattle.answer.proofs.Zeros.{zeros-at}
 use Rattle.formula.specs.declared.Operand.{Operand}
 use Rattle.formula.specs.declared.Operand.the-variants.{Unused, Proposition, Child}
 use Rattle.formula.specs.Limits.{maxNodes}
@@ -59,14 +60,9 @@ pub record Counting (rule : List ℕ) (n : ℕ) (counts : List ℕ) (i : ℕ) : 
   pub size : length counts ≡ maxNodes
   pub counted : (k : ℕ) → getD counts k 0 ≡ places rule i k
 
-getD-zeros : (n k : ℕ) → getD {A = ℕ} (replicate n 0) k 0 ≡ 0
-getD-zeros zero k = refl
-getD-zeros (suc n) zero = refl
-getD-zeros (suc n) (suc k) = getD-zeros n k
-
 pub count-begins : (rule : List ℕ) (n : ℕ) → Counting rule n (replicate maxNodes 0) 0
 unfolding places
-count-begins rule n = record { within = omega arith; size = refl; counted = getD-zeros maxNodes }
+count-begins rule n = record { within = omega arith; size = refl; counted = zeros-at maxNodes }
 
 pub count-ends : (rule : List ℕ) (n : ℕ) (counts : List ℕ) (i : ℕ) → n ≤ i → Counting rule n counts i → (k : ℕ) → getD counts k 0 ≡ places rule n k
 count-ends rule n counts i le inv k =

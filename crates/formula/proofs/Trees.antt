@@ -1,4 +1,5 @@
--- The tree of a node by those of its children, and what holds of every tree of a rule that is accepted.
+-- The tree of a node by those of its children, and what holds of every tree of a rule that is accepted. Assumes nothing
+-- but that 4 and 5 let the nodes pass.
 use mathlib.Core.Path.{_≡_, refl, sym, ap, _∙_}
 use mathlib.Core.List.{List, [], _∷_, _++_}
 use Prim.Native.Nat.{ℕ, zero, suc, _+_, _*_, _≤_, _<_}

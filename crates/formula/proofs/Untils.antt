@@ -1,4 +1,4 @@
--- The untils of a rule: what a loop over the nodes counts, and the check of the count.
+-- The untils of a rule: what a loop over the nodes counts, and the check of the count. Assumes nothing.
 use mathlib.Core.Path.{_≡_, refl, _∙_}
 use mathlib.Core.Bool.{Bool, true, false, cond}
 use mathlib.Core.List.{List, [], _∷_}

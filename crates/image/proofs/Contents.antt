@@ -1,4 +1,4 @@
--- What a table of contents says that 10 does not refuse, and what then decides on the image.
+-- What a table of contents says that 10 does not refuse, and what then decides on the image. Assumes nothing.
 use mathlib.Core.Path.{_≡_, refl, sym, ap, _∙_}
 use mathlib.Core.Bool.{and-eq-true-iff}
 use mathlib.Core.List.{List}

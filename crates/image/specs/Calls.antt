@@ -8,15 +8,15 @@ use Rattle.automaton.specs.Automaton.{Automaton}
 use Rattle.automaton.specs.Records.{stateRecords, transitionRecords, initialRecords}
 use Rattle.automaton.specs.Tables.{countsOf, Counts, counts, Outcome, outcome, tableCheck}
 use Rattle.answer.specs.Bytes.{filled}
-use Rattle.image.specs.declared.Written.{Written}
-use Rattle.image.specs.declared.Written.the-variants.{Length, Refused}
+use Rattle.image.specs.declared.WrittenImage.{WrittenImage}
+use Rattle.image.specs.declared.WrittenImage.the-variants.{Length, Refused}
 use Rattle.image.specs.declared.Loaded.{Loaded}
-use Rattle.image.specs.declared.Loaded.the-variants.{Counted, Rejected}
+use Rattle.image.specs.declared.Loaded.the-variants.{Counted, Refused as NotLoaded}
 use Rattle.image.specs.Image.{imageBytes, largestImage}
 use Rattle.image.specs.Reader.{countsFit, readTables, readImage}
 
 -- what the answer of write says in document 01's numbers and values
-abbrev pub writeAnswer : Written → Result ℕ
+abbrev pub writeAnswer : WrittenImage → Result ℕ
 writeAnswer (Length n) = accepted n
 writeAnswer (Refused number place) = refused number place
 
@@ -47,17 +47,17 @@ writes c s t i image =
 -- what the answer of read says in document 01's numbers and values
 abbrev pub readAnswer : Loaded → Result Counts
 readAnswer (Counted states transitions initial) = accepted (countsOf states transitions initial)
-readAnswer (Rejected number place) = refused number place
+readAnswer (NotLoaded number place) = refused number place
 
--- the counts, the records, and zero in all unused places; a refusal leaves all as it was
+-- the counts, the records, and zero in all unused bytes; a refusal leaves all as it was
 abbrev pub loaded : Result Automaton → (states transitions initial : List ℕ) → Outcome
 loaded (accepted a) s t i =
     outcome (accepted (counts a)) (filled s (stateRecords a)) (filled t (transitionRecords a)) (filled i (initialRecords a))
 loaded (refused number place) s t i = outcome (refused number place) s t i
 
 -- 25, then 10 to 13
-unfoldable pub reads : (image states transitions initial : List ℕ) → Outcome
-reads image s t i = loaded (andThen (tableCheck s t i) (λ _. readImage image)) s t i
+unfoldable pub readInto : (image states transitions initial : List ℕ) → Outcome
+readInto image s t i = loaded (andThen (tableCheck s t i) (λ _. readImage image)) s t i
 
 -- what the call check says of an image: its counts, or its refusal by 10 to 13
 unfoldable pub checks : List ℕ → Result Counts

@@ -12,9 +12,28 @@ use Rattle.automaton.specs.Tables.{Counts, counts}
 unfoldable pub entry : (kind count offset : ℕ) → List ℕ
 entry kind count offset = twoBytes kind ++ (twoBytes count ++ twoBytes offset)
 
--- the bytes of the table of contents, three entries: where the states begin (01, The image, sentence 4)
+-- the bytes of an entry, and of the table of contents, three entries: where the states begin (01, The image, sentences
+-- 3 and 4)
+abbrev pub entryBytes : ℕ
+entryBytes = 6
+
 abbrev pub contentsBytes : ℕ
-contentsBytes = 18
+contentsBytes = 3 * entryBytes
+
+-- where the second number of each entry stands, the count of the states, the transitions and the initial numbers (01,
+-- The image, sentence 3)
+abbrev pub stateCountAt : ℕ
+stateCountAt = 2
+
+abbrev pub transitionCountAt : ℕ
+transitionCountAt = entryBytes + 2
+
+abbrev pub initialCountAt : ℕ
+initialCountAt = 2 * entryBytes + 2
+
+-- where the accepting byte of the first state stands (01, The image, sentence 5)
+abbrev pub acceptingAt : ℕ
+acceptingAt = contentsBytes + 2
 
 -- where the transitions begin, where the initial numbers begin and where the image ends: the states begin behind the
 -- contents, and each body begins where the one before it ends; a state or a transition takes 4 bytes, an initial

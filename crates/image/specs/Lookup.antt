@@ -6,17 +6,21 @@ use lib.ListN.{getD, length, drop}
 use Rattle.answer.specs.Bytes.{numberAt}
 use Rattle.automaton.specs.Automaton.{Transition, Automaton}
 use Rattle.automaton.specs.Limits.{maxStates}
-use Rattle.image.specs.Image.{transitionsAt, initialAt, imageLength, contentsBytes}
+use Rattle.image.specs.Image.{transitionsAt, initialAt, imageLength, contentsBytes, acceptingAt}
 use Rattle.image.specs.Reader.{countsAt, countSum, automatonFrom}
 
 -- the automaton of the image
-abbrev pub machine : List ℕ → Automaton
-machine image =
+abbrev pub imageAutomaton : List ℕ → Automaton
+imageAutomaton image =
     automatonFrom (countsAt image) (drop contentsBytes image) (drop (transitionsAt (countsAt image)) image) (drop (initialAt (countsAt image)) image)
 
 -- the transition record at a byte of the image
 abbrev pub recordAt : List ℕ → ℕ → Transition
 recordAt image at = record { must = getD image at 0; mustNot = getD image (at + 1) 0; target = numberAt image (at + 2) }
+
+-- the accepting byte of state q is 1
+abbrev pub AcceptingByte : List ℕ → ℕ → Type 0
+AcceptingByte image q = getD image (acceptingAt + 4 * q) 0 ≡ 1
 
 -- where the transition records of state q begin
 abbrev pub recordsAt : List ℕ → ℕ → ℕ
@@ -24,8 +28,8 @@ recordsAt image q = transitionsAt (countsAt image) + 4 * countSum (drop contents
 
 -- what is known of an image that is not refused by 10 to 13
 pub record Readable (image : List ℕ) : Type 0 where
-  pub few : numberAt image 2 ≤ maxStates
+  pub few : countsAt image .states ≤ maxStates
   pub size : length image ≡ imageLength (countsAt image)
-  pub sum : countSum (drop contentsBytes image) (numberAt image 2) ≡ numberAt image 8
-  pub targets : (i : ℕ) → i < numberAt image 8 → numberAt (drop (transitionsAt (countsAt image)) image) (4 * i + 2) < numberAt image 2
-  pub starts : (i : ℕ) → i < numberAt image 14 → numberAt (drop (initialAt (countsAt image)) image) (2 * i) < numberAt image 2
+  pub sum : countSum (drop contentsBytes image) (countsAt image .states) ≡ countsAt image .transitions
+  pub targets : (i : ℕ) → i < countsAt image .transitions → numberAt (drop (transitionsAt (countsAt image)) image) (4 * i + 2) < countsAt image .states
+  pub starts : (i : ℕ) → i < countsAt image .initial → numberAt (drop (initialAt (countsAt image)) image) (2 * i) < countsAt image .states

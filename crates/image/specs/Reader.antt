@@ -10,23 +10,43 @@ use Rattle.answer.specs.Result.{Result, accepted, andThen, Check, require, lowe
 use Rattle.automaton.specs.Automaton.{Transition, State, Automaton}
 use Rattle.automaton.specs.Limits.{maxStates, maxOfState, maxTransitions, maxInitial}
 use Rattle.automaton.specs.Tables.{Counts}
-use Rattle.image.specs.Image.{transitionsAt, initialAt, imageLength, contentsBytes}
+use Rattle.image.specs.Image.{entryBytes, contentsBytes, stateCountAt, transitionCountAt, initialCountAt, transitionsAt, initialAt, imageLength}
 
 -- the counts that an image's contents give
 abbrev pub countsAt : List ℕ → Counts
-countsAt image = record { states = numberAt image 2; transitions = numberAt image 8; initial = numberAt image 14 }
+countsAt image = record {
+  states = numberAt image stateCountAt;
+  transitions = numberAt image transitionCountAt;
+  initial = numberAt image initialCountAt;
+}
 
 -- whether 10 lets counts pass: those of the states, the transitions and the initial numbers are within their limits
 -- (01, Numbers that come from the input, 10)
 unfoldable pub countsFit : Counts → Bool
 countsFit c = leb (c .states) maxStates && (leb (c .transitions) maxTransitions && leb (c .initial) maxInitial)
 
+-- whether 10 lets the kinds of the three entries pass
+abbrev pub kindsFit : List ℕ → Bool
+kindsFit image =
+    eqb (numberAt image 0) 1 && (eqb (numberAt image entryBytes) 2 && eqb (numberAt image (2 * entryBytes)) 3)
+
+-- and their offsets, where the second and the third body are to begin there
+abbrev pub offsetsFit : List ℕ → (transitions initial : ℕ) → Bool
+offsetsFit image transitions initial =
+    eqb (numberAt image 4) contentsBytes
+    && (eqb (numberAt image (entryBytes + 4)) transitions && eqb (numberAt image (2 * entryBytes + 4)) initial)
+
+-- and where the bodies begin and end
+abbrev pub bodiesFit : List ℕ → Bool
+bodiesFit image =
+    offsetsFit image (transitionsAt (countsAt image)) (initialAt (countsAt image))
+    && eqb (length image) (imageLength (countsAt image))
+
 -- 10, at place 0: an image too short for its table of contents, one whose contents have other kinds than 1, 2, 3,
 -- counts that do not fit or offsets that are not where the bodies begin, or one that does not end with its last body
 -- (01, Numbers that come from the input, 10)
 unfoldable pub contentsCheck : List ℕ → Check
-contentsCheck image =
-    require (leb contentsBytes (length image) && ((eqb (numberAt image 0) 1 && (eqb (numberAt image 6) 2 && eqb (numberAt image 12) 3)) && (countsFit (countsAt image) && ((eqb (numberAt image 4) contentsBytes && (eqb (numberAt image 10) (transitionsAt (countsAt image)) && eqb (numberAt image 16) (initialAt (countsAt image)))) && eqb (length image) (imageLength (countsAt image)))))) 10 0
+contentsCheck image = require (leb contentsBytes (length image) && (kindsFit image && (countsFit (countsAt image) && bodiesFit image))) 10 0
 
 -- 11, at place i: state record i counts more transitions than a state may have, has neither 0 nor 1 as its accepting
 -- byte, or does not end in 0 (01, Numbers that come from the input, 11)
@@ -46,8 +66,8 @@ sumCheck c states = require (eqb (countSum states (c .states)) (c .transitions))
 
 -- 12, at place i: transition record i leads to no state, or asks for a proposition that it forbids (01, Numbers that
 -- come from the input, 12)
-unfoldable pub transitionCheck : (stateCount : ℕ) → List ℕ → ℕ → Check
-transitionCheck stateCount transitions i =
+unfoldable pub transitionRecordCheck : (stateCount : ℕ) → List ℕ → ℕ → Check
+transitionRecordCheck stateCount transitions i =
     require (ltb (numberAt transitions (4 * i + 2)) stateCount && eqb (bitAnd (getD transitions (4 * i) 0) (getD transitions (4 * i + 1) 0)) 0) 12 i
 
 -- 13, at place i: initial number i is no state's, or the one before it is as high or higher (01, Numbers that come
@@ -62,7 +82,7 @@ unfoldable pub recordsCheck : Counts → (states transitions initial : List ℕ)
 recordsCheck c states transitions initial =
     andThen (lowest (stateCheck states) (c .states))
     (λ _. andThen (sumCheck c states)
-    (λ _. andThen (lowest (transitionCheck (c .states) transitions) (c .transitions)) (λ _. lowest (initialCheck (c .states) initial) (c .initial))))
+    (λ _. andThen (lowest (transitionRecordCheck (c .states) transitions) (c .transitions)) (λ _. lowest (initialCheck (c .states) initial) (c .initial))))
 
 -- the first n transition records
 unfoldable pub transitionsFrom : ℕ → List ℕ → List Transition

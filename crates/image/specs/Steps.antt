@@ -7,7 +7,7 @@ use Rattle.answer.specs.Result.{Result, accepted, refused}
 use Rattle.automaton.specs.Tables.{Counts}
 use Rattle.answer.specs.Bytes.{filled}
 use Rattle.image.specs.declared.StateCount.{StateCount}
-use Rattle.image.specs.declared.StateCount.the-variants.{Count, Wrong}
+use Rattle.image.specs.declared.StateCount.the-variants.{Count, Refused}
 use Rattle.image.specs.Image.{transitionsAt, initialAt, imageLength, contents, contentsBytes}
 use Rattle.image.specs.Calls.{Buffer, buffer}
 
@@ -28,4 +28,4 @@ pub record Loads (image : List ℕ) (c : Counts) (before-states before-transitio
 -- what the check of state record i comes to: its transition count, or 11
 abbrev pub stateAnswer : ℕ → StateCount → Result ℕ
 stateAnswer i (Count n) = accepted n
-stateAnswer i Wrong = refused 11 i
+stateAnswer i Refused = refused 11 i

@@ -22,8 +22,8 @@ use Rattle.translation.specs.Degeneralized.{degeneralized, translation}
 use Rattle.automaton.specs.Limits.{maxTransitions}
 use Rattle.automaton.specs.Tables.{Counts, Outcome, tableCheck}
 use Rattle.translation.specs.Translate.{stored, unless, translated}
-use Rattle.image.specs.Reader.{countsAt, countsFit, contentsCheck, stateCheck, transitionCheck, initialCheck, recordsCheck, readTables, readImage}
-use Rattle.image.specs.Calls.{bufferCheck, written, writes, loaded, reads}
+use Rattle.image.specs.Reader.{countsAt, countsFit, contentsCheck, stateCheck, transitionRecordCheck, initialCheck, recordsCheck, readTables, readImage}
+use Rattle.image.specs.Calls.{bufferCheck, written, writes, loaded, readInto}
 use Rattle.image.proofs.Tests.{Small, counts-small}
 use Rattle.image.proofs.Contents.{contents-fine}
 use Rattle.lasso.specs.Lasso.{lassoCheck}
@@ -197,8 +197,8 @@ unfolding stateCheck
 state-proper s k le = search proper
 
 -- 12
-transition-proper : (states : ℕ) (t : List ℕ) (k : ℕ) → k ≤ maxTransitions → Proper (transitionCheck states t k)
-unfolding transitionCheck
+transition-proper : (states : ℕ) (t : List ℕ) (k : ℕ) → k ≤ maxTransitions → Proper (transitionRecordCheck states t k)
+unfolding transitionRecordCheck
 transition-proper states t k le = search proper
 
 -- 13
@@ -226,8 +226,8 @@ unfolding readImage
 image-proper image = then-proper (contentsCheck image) _ (contents-proper image) (λ u e. records-proper (countsAt image) _ _ _ (contents-fine image e .small))
 
 -- 25 and 10 to 13
-pub reads-proper : (image s t i : List ℕ) → Proper (reads image s t i .answer)
-unfolding reads
+pub reads-proper : (image s t i : List ℕ) → Proper (readInto image s t i .answer)
+unfolding readInto
 reads-proper image s t i = go (andThen (tableCheck s t i) (λ _. readImage image)) (search (proper, tables-proper, image-proper))
   where
     go : (r : Result Automaton) → Proper r → Proper (loaded r s t i .answer)

@@ -3,7 +3,7 @@
 use borrow.Author.Needs.{needs}
 use mathlib.Core.Path.{sym, ap, _∙_}
 use Rattle.image.specs.Calls.{readAnswer}
-use Rattle.image.proofs.Answers.{tables-long, read-short, read-refused, read-accepted}
+use Rattle.image.proofs.Outcomes.{tables-long, read-short, read-refused, read-accepted}
 use Rattle.image.proofs.Contents.{checks-sized}
 use Rattle.image.proofs.read.Statement.{statement}
 use Rattle.image.proofs.read.Tie as tie

@@ -6,7 +6,7 @@ use mathlib.Core.Path.{sym, ap, _∙_}
 use borrow.Author.Tests.{not-false}
 use Rattle.answer.specs.Result.{answer}
 use Rattle.image.proofs.Tests.{counts-small}
-use Rattle.image.proofs.Answers.{tables-long, write-short, buffer-short, counts-refused, records-refused, write-accepted}
+use Rattle.image.proofs.Outcomes.{tables-long, write-short, buffer-short, counts-refused, records-refused, write-accepted}
 use Rattle.image.proofs.write.Statement.{statement}
 use Rattle.image.proofs.write.Tie as tie
 

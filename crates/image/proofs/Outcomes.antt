@@ -1,4 +1,5 @@
--- The outcomes of write and read, by the answers of their checks and what was stored.
+-- The outcomes of write and read, by the answers of their checks and what was stored. Assumes of the bytes only that
+-- they are bytes.
 use mathlib.Core.Path.{_≡_, refl, sym, ap, _∙_}
 use mathlib.Core.Bool.{Bool, true, false, not, _&&_, and-eq-true-iff}
 use mathlib.Core.List.{List, _++_}
@@ -17,7 +18,7 @@ use Rattle.automaton.specs.Tables.{Counts, counts, Outcome, outcome, tableCheck
 use Rattle.answer.specs.Bytes.{filled}
 use Rattle.image.specs.Image.{transitionsAt, initialAt, imageBytes, contentsBytes, largestImage}
 use Rattle.image.specs.Reader.{countsAt, countsFit, recordsCheck, readTables}
-use Rattle.image.specs.Calls.{Buffer, buffer, written, writes, loaded, reads, checks}
+use Rattle.image.specs.Calls.{Buffer, buffer, written, writes, loaded, readInto, checks}
 use Rattle.image.specs.Steps.{joinedOver, Loads}
 use Rattle.image.proofs.Tests.{Small, counts-small}
 use Rattle.image.proofs.Tables.{Bytes, drop-bytes, Passed, counts-back, states-back, transitions-back, initial-back, image-back, image-length}
@@ -163,17 +164,17 @@ body-passed image contents bytes checked =
 
 -- the reader, its tests in their order
 module _ (image s t i : List ℕ) {r : Bool} (fit : r ≡ (leb statesBytes (length s) && (leb transitionsBytes (length t) && leb initialBytes (length i)))) where
-  pub read-short : not r ≡ true → outcome (refused 25 0) s t i ≡ reads image s t i
-  unfolding reads
+  pub read-short : not r ≡ true → outcome (refused 25 0) s t i ≡ readInto image s t i
+  unfolding readInto
   read-short f = rw (tables-short s t i fit f)
 
   module _ (long : not r ≡ false) where
-    pub read-refused : {answer : Result Counts} {number place : ℕ} → answer ≡ refused number place → answer ≡ checks image → outcome answer s t i ≡ reads image s t i
-    unfolding reads
+    pub read-refused : {answer : Result Counts} {number place : ℕ} → answer ≡ refused number place → answer ≡ checks image → outcome answer s t i ≡ readInto image s t i
+    unfolding readInto
     read-refused told e = rw (tables-fine s t i fit long, checks-refused image (sym told ∙ e), told)
 
-    pub read-accepted : {c : Counts} {s₁ t₁ i₁ : List ℕ} → Bytes image → accepted c ≡ checks image → Loads image c s t i s₁ t₁ i₁ → outcome (accepted c) s₁ t₁ i₁ ≡ reads image s t i
-    unfolding reads
+    pub read-accepted : {c : Counts} {s₁ t₁ i₁ : List ℕ} → Bytes image → accepted c ≡ checks image → Loads image c s t i s₁ t₁ i₁ → outcome (accepted c) s₁ t₁ i₁ ≡ readInto image s t i
+    unfolding readInto
     read-accepted {c} bytes e loads =
         let found = checks-of image c e in
         let parts = read-of image (found .automaton) (found .read) in
