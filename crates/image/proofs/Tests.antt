@@ -11,6 +11,7 @@ use borrow.Author.Tests.{leb-true, lt-ltb, le-ltb, le-leb, lt-leb, eq-eqb, ne-eq
 use Rattle.answer.specs.Result.{Result, accepted, refused, andThen, Check, fine, lowest}
 use Rattle.automaton.specs.Limits.{maxStates, maxOfState, maxTransitions, maxInitial}
 use Rattle.automaton.specs.Tables.{Counts, countsOf}
+use Rattle.image.specs.Steps.{Small}
 use Rattle.image.specs.Image.{transitionsAt, initialAt, imageLength, contentsBytes}
 use Rattle.answer.specs.Bytes.{numberAt}
 use Rattle.image.specs.Reader.{countsAt, countsFit, contentsCheck, stateCheck, sumCheck, transitionRecordCheck, initialCheck, recordsCheck}
@@ -37,12 +38,6 @@ module _ (x a y b z d : ℕ) where
 
     pub third-agrees : {y₁ z₁ : ℕ} → y₁ ≡ y → y₁ ≡ b → z₁ ≡ z → eqb z₁ d ≡ (eqb x a && (eqb y b && eqb z d))
     third-agrees f second g = rw (← e, ← f, ← g, eq-eqb x₁ a first, eq-eqb _ b second)
-
--- what it says of counts that they fit
-pub record Small (c : Counts) : Type 0 where
-  pub states : c .states ≤ maxStates
-  pub transitions : c .transitions ≤ maxTransitions
-  pub initial : c .initial ≤ maxInitial
 
 pub counts-small : (c : Counts) → countsFit c ≡ true → Small c
 unfolding countsFit

@@ -12,19 +12,18 @@ use automaton::MAX_TRANSITIONS;
 use automaton::STATES_BYTES;
 use automaton::TRANSITIONS_BYTES;
 ghost use mathlib.Core.Path.{_≡_};
-ghost use mathlib.Core.Bool.{_&&_};
 ghost use mathlib.Core.List.{_++_};
 ghost use Prim.Native.Nat.{_+_, _*_, _<_, _≤_};
-ghost use lib.Dec.{eqb, leb};
+ghost use lib.Dec.{eqb};
 ghost use lib.ListN.{length, take, drop};
 ghost use Rattle.answer.specs.Result.{accepted, andThen, require, lowest, answer};
-ghost use Rattle.automaton.specs.Limits.{maxStates, maxTransitions, maxInitial, statesBytes, transitionsBytes, initialBytes};
-ghost use Rattle.automaton.specs.Tables.{outcome, countsOf};
+ghost use Rattle.automaton.specs.Limits.{maxStates};
+ghost use Rattle.automaton.specs.Tables.{outcome, countsOf, lengthsFit};
 ghost use Rattle.answer.specs.Bytes.{filled, numberAt};
-ghost use Rattle.image.specs.Image.{entry, entryBytes, transitionsAt, initialAt, imageLength, contents, contentsBytes, largestImage};
-ghost use Rattle.image.specs.Reader.{countsAt, countsFit, kindsFit, offsetsFit, contentsCheck, stateCheck, countSum, transitionRecordCheck, initialCheck, recordsCheck};
+ghost use Rattle.image.specs.Image.{entry, entryBytes, imageLength, contents, contentsBytes, largestImage};
+ghost use Rattle.image.specs.Reader.{countsAt, countsFit, kindsFit, offsetsFit, contentsCheck, stateCheck, countSum, transitionRecordCheck, initialCheck, recordsCheck, bodiesCheck};
 ghost use Rattle.image.specs.Calls.{writeAnswer, buffer, writes, readAnswer, readInto, checks};
-ghost use Rattle.image.specs.Steps.{stateAnswer, joinedOver, Loads};
+ghost use Rattle.image.specs.Steps.{stateAnswer, joinedOver, HasRecords, Small, Long, Loads};
 
 // The numbers of document 01 by which an image or tables are refused.
 pub const BAD_CONTENTS: u8 = 10;
@@ -81,7 +80,7 @@ enum StateCount {
 
 // The lengths of three lent tables against 25.
 fn tables_fit(states: usize, transitions: usize, initial: usize) -> bool
-    ensures { λ r. ⌜ r ≡ (leb statesBytes states && (leb transitionsBytes transitions && leb initialBytes initial)) ⌝ }
+    ensures { λ r. ⌜ r ≡ lengthsFit states transitions initial ⌝ }
 {
     if states < STATES_BYTES {
         return false;
@@ -206,7 +205,7 @@ fn check_records(
     initial: &[u8],
     initial_count: usize,
 ) -> Checked
-    requires { ⌜ («state_count» ≤ maxStates) × (4 * «state_count» ≤ length (now states)) × (4 * «transition_count» ≤ length (now transitions)) × (2 * «initial_count» ≤ length (now initial)) ⌝ }
+    requires { ⌜ HasRecords (countsOf «state_count» «transition_count» «initial_count») (now states) (now transitions) (now initial) ⌝ }
     ensures { λ r. ⌜ answer r ≡ recordsCheck (countsOf «state_count» «transition_count» «initial_count») (now (states .entry)) (now (transitions .entry)) (now (initial .entry)) ⌝ }
 {
     let first = check_states(states, state_count, transition_count);
@@ -277,8 +276,8 @@ fn check_contents(image: &[u8]) -> Loaded
 
 // 11 to 13 of an image that has its contents and its length.
 fn check_bodies(image: &[u8], states: usize, transitions: usize, initial: usize) -> Checked
-    requires { ⌜ (states ≤ maxStates) × (transitions ≤ maxTransitions) × (initial ≤ maxInitial) × (length (now image) ≡ imageLength (countsOf states transitions initial)) ⌝ }
-    ensures { λ r. ⌜ answer r ≡ recordsCheck (countsOf states transitions initial) (drop contentsBytes (now (image .entry))) (drop (transitionsAt (countsOf states transitions initial)) (now (image .entry))) (drop (initialAt (countsOf states transitions initial)) (now (image .entry))) ⌝ }
+    requires { ⌜ Small (countsOf states transitions initial) × (length (now image) ≡ imageLength (countsOf states transitions initial)) ⌝ }
+    ensures { λ r. ⌜ answer r ≡ bodiesCheck (countsOf states transitions initial) (now (image .entry)) ⌝ }
 {
     let transitions_at = CONTENTS_BYTES + 4 * states;
     let initial_at = transitions_at + 4 * transitions;
@@ -326,7 +325,7 @@ fn load_bodies(
     transitions: &mut [u8],
     initial: &mut [u8],
 )
-    requires { ⌜ («state_count» ≤ maxStates) × («transition_count» ≤ maxTransitions) × («initial_count» ≤ maxInitial) × (length (now image) ≡ imageLength (countsOf «state_count» «transition_count» «initial_count»)) × (statesBytes ≤ length (now states)) × (transitionsBytes ≤ length (now transitions)) × (initialBytes ≤ length (now initial)) ⌝ }
+    requires { ⌜ Small (countsOf «state_count» «transition_count» «initial_count») × (length (now image) ≡ imageLength (countsOf «state_count» «transition_count» «initial_count»)) × Long (now states) (now transitions) (now initial) ⌝ }
     ensures { λ _. ⌜ Loads (now (image .entry)) (countsOf «state_count» «transition_count» «initial_count») (now (states .entry)) (now (transitions .entry)) (now (initial .entry)) (now (states .exit)) (now (transitions .exit)) (now (initial .exit)) ⌝ }
 {
     let transitions_at = CONTENTS_BYTES + 4 * state_count;
@@ -374,7 +373,7 @@ fn write_entry(bytes: &mut [u8], kind: u8, count: usize, offset: usize)
 
 // The table of contents at the start.
 fn write_contents(image: &mut [u8], states: usize, transitions: usize, initial: usize)
-    requires { ⌜ (contentsBytes ≤ length (now image)) × (states ≤ maxStates) × (transitions ≤ maxTransitions) × (initial ≤ maxInitial) ⌝ }
+    requires { ⌜ (contentsBytes ≤ length (now image)) × Small (countsOf states transitions initial) ⌝ }
     ensures { λ _. ⌜ now (image .exit) ≡ contents (countsOf states transitions initial) ++ drop contentsBytes (now (image .entry)) ⌝ }
 {
     let transitions_at = CONTENTS_BYTES + 4 * states;
@@ -399,7 +398,7 @@ fn write_image(
     initial_count: usize,
     image: &mut [u8],
 ) -> usize
-    requires { ⌜ («state_count» ≤ maxStates) × («transition_count» ≤ maxTransitions) × («initial_count» ≤ maxInitial) × (statesBytes ≤ length (now states)) × (transitionsBytes ≤ length (now transitions)) × (initialBytes ≤ length (now initial)) × (largestImage ≤ length (now image)) ⌝ }
+    requires { ⌜ Small (countsOf «state_count» «transition_count» «initial_count») × Long (now states) (now transitions) (now initial) × (largestImage ≤ length (now image)) ⌝ }
     ensures { λ r. ⌜ buffer (accepted r) (now (image .exit)) ≡ joinedOver (countsOf «state_count» «transition_count» «initial_count») (now (states .entry)) (now (transitions .entry)) (now (initial .entry)) (now (image .entry)) ⌝ }
 {
     let transitions_at = CONTENTS_BYTES + 4 * state_count;

@@ -10,7 +10,7 @@ use native.Mathlib.Decide.{ℕ-discrete, decLt}
 use lib.ListN.{length, getD}
 use borrow.Author.Tests.{lt-ltb, le-ltb}
 use Rattle.lasso.specs.Lasso.{letter}
-use Rattle.automaton.specs.Automaton.{Automaton, Step, Accepts, AcceptingPass}
+use Rattle.automaton.specs.Automaton.{Automaton, Step, Accepts, AcceptingPass, passBegin}
 use Rattle.sets.specs.Sets.{In}
 use Rattle.judge.specs.RunBits.{Lifted, After, Linked, one, join, joinMet}
 use Rattle.judge.specs.Limits.{startBit, metBit}
@@ -286,7 +286,7 @@ module _ (a : Automaton) (n : ℕ) (stem cycle : List ℕ) where
     module _ (inside : (q x t : ℕ) → Step a q x t → t < n) (initial : (q : ℕ) → In q (a .initial) → q < n) (pass : AcceptingPass a stem cycle) where
       -- where pass e begins, and the state there
       abbrev passAt : ℕ → ℕ
-      passAt e = length stem + e * length cycle
+      passAt = passBegin stem cycle
 
       abbrev state : ℕ → ℕ
       state e = pass .at (passAt e)

@@ -14,7 +14,7 @@ use Rattle.image.specs.Image.{initialAt, contentsBytes}
 use Rattle.answer.specs.Bytes.{numberAt}
 use Rattle.image.specs.Reader.{countsAt, countSum}
 use Rattle.judge.specs.RunBits.{Token, Lifted, Adds, ByRecord}
-use Rattle.image.specs.Lookup.{imageAutomaton, recordsAt, Readable, AcceptingByte}
+use Rattle.image.specs.Lookup.{imageAutomaton, recordsAt, Readable, AcceptingByte, transitionCountOf}
 use Rattle.judge.specs.Limits.{startBit, rowsWords}
 use Rattle.judge.proofs.Decisions.{false-true}
 use Rattle.judge.proofs.Gathers.{adds-none, adds-as, Gathering}
@@ -41,7 +41,7 @@ module _ (image : List ℕ) (rows : List ℕ) (q x : ℕ) where
   abbrev pub ByRecords : (at i t k : ℕ) → Type 0
   ByRecords at i t k = ByRecord image (at + 4 * i) x (Token rows) q t k
 
-  pub all-records : (before after : List ℕ) (at n : ℕ) → q < countsAt image .states → at ≡ recordsAt image q → n ≡ numberAt image (contentsBytes + 4 * q)
+  pub all-records : (before after : List ℕ) (at n : ℕ) → q < countsAt image .states → at ≡ recordsAt image q → n ≡ transitionCountOf image q
       → Adds before after (λ t k. (i : ℕ) × (i < n) × ByRecords at i t k) → Adds before after (λ t k. Step (imageAutomaton image) q x t × Token rows q k)
   all-records before after at n lq ea en adds = adds-as adds to from
     where
@@ -56,21 +56,21 @@ module _ (image : List ℕ) (rows : List ℕ) (q x : ℕ) where
           let d = step-taken image q x t s in
           (d .index, rw en (d .below), (rw ea (d .takes), (rw ea (d .reaches), h)))
 
-  pub records-next : (at n : ℕ) → at ≡ recordsAt image q → n ≡ numberAt image (contentsBytes + 4 * q) → at + 4 * n ≡ recordsAt image (q + 1)
+  pub records-next : (at n : ℕ) → at ≡ recordsAt image q → n ≡ transitionCountOf image q → at + 4 * n ≡ recordsAt image (q + 1)
   unfolding countSum
   records-next at n ea en =
       let e : n ≡ numberAt (drop contentsBytes image) (4 * q) = en ∙ sym (number-drop contentsBytes image (4 * q)) in
       rw (add-one q) (omega arith)
 
   -- where record i of state q lies, and where it leads
-  pub transition-fits : Readable image → (at n i : ℕ) → q < countsAt image .states → at ≡ recordsAt image q → n ≡ numberAt image (contentsBytes + 4 * q) → i < n
+  pub transition-fits : Readable image → (at n i : ℕ) → q < countsAt image .states → at ≡ recordsAt image q → n ≡ transitionCountOf image q → i < n
       → (at + 4 * i + 3 < length image) × (4 * numberAt image (at + 4 * i + 2) + 4 ≤ rowsWords)
   transition-fits fine at n i lq ea en lt =
       let e = records-end image fine q lq in
       let t = target-inside image fine q i lq (rw en at lt) in
       (omega arith, rw ea (omega (arith, fine .few)))
 
-  pub records-fit : Readable image → (at n : ℕ) → q < countsAt image .states → at ≡ recordsAt image q → n ≡ numberAt image (contentsBytes + 4 * q) → at + 4 * n ≤ length image
+  pub records-fit : Readable image → (at n : ℕ) → q < countsAt image .states → at ≡ recordsAt image q → n ≡ transitionCountOf image q → at + 4 * n ≤ length image
   records-fit fine at n lq ea en = rw (ea, en) (records-end image fine q lq)
 
 -- ---- all states

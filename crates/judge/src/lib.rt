@@ -24,9 +24,9 @@ ghost use Rattle.answer.specs.Bytes.{numberAt};
 ghost use Rattle.judge.specs.Judge.{judgeAnswer, judgement, judgedOn, judged};
 ghost use Rattle.judge.specs.Limits.{startBit, metBit, rowBits};
 ghost use Rattle.judge.specs.RunBits.{HasRow, Full, Token, Lifted, Is, Adds, Ored, Tells, Onward, ByRecord, Moved, AfterAll, Via, Joined, Linked, Started, SomeStarted, Confined, Ran};
-ghost use Rattle.image.specs.Image.{contentsBytes, acceptingAt};
+ghost use Rattle.image.specs.Image.{acceptingAt};
 ghost use Rattle.image.specs.Reader.{countsAt};
-ghost use Rattle.image.specs.Lookup.{imageAutomaton, AcceptingByte, recordsAt, Readable};
+ghost use Rattle.image.specs.Lookup.{imageAutomaton, AcceptingByte, transitionCountOf, recordsAt, Readable};
 
 // How many working bytes judging asks for.
 pub const WORK_BYTES: usize = automaton::MAX_STATES * lasso::MAX_LETTERS;
@@ -132,7 +132,7 @@ fn take_transitions(
     rows: &[u64],
     next: &mut [u64],
 )
-    requires { ⌜ Readable (now image) × (q < countsAt (now image) .states) × (at ≡ recordsAt (now image) q) × (count ≡ numberAt (now image) (contentsBytes + 4 * q)) × Full (now rows) × Full (now next) ⌝ }
+    requires { ⌜ Readable (now image) × (q < countsAt (now image) .states) × (at ≡ recordsAt (now image) q) × (count ≡ transitionCountOf (now image) q) × Full (now rows) × Full (now next) ⌝ }
     ensures { λ _. ⌜ Adds (now (next .entry)) (now (next .exit)) (Onward (imageAutomaton (now (image .entry))) letter (Token (now (rows .entry))) q) ⌝ }
 {
     let mut i = 0;

@@ -22,9 +22,10 @@ use Rattle.translation.specs.Degeneralized.{degeneralized, translation}
 use Rattle.automaton.specs.Limits.{maxTransitions}
 use Rattle.automaton.specs.Tables.{Counts, Outcome, tableCheck}
 use Rattle.translation.specs.Translate.{stored, unless, translated}
+use Rattle.image.specs.Steps.{Small}
 use Rattle.image.specs.Reader.{countsAt, countsFit, contentsCheck, stateCheck, transitionRecordCheck, initialCheck, recordsCheck, readTables, readImage}
 use Rattle.image.specs.Calls.{bufferCheck, written, writes, loaded, readInto}
-use Rattle.image.proofs.Tests.{Small, counts-small}
+use Rattle.image.proofs.Tests.{counts-small}
 use Rattle.image.proofs.Contents.{contents-fine}
 use Rattle.lasso.specs.Lasso.{lassoCheck}
 use Rattle.judge.specs.Judge.{judgeable, judgedBy, judged}

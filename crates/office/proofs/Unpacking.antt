@@ -13,11 +13,12 @@ use Rattle.translation.specs.Degeneralized.{translation}
 use Rattle.automaton.specs.Limits.{maxStates, maxTransitions, maxInitial}
 use Rattle.automaton.specs.Tables.{Counts, counts, tableCheck, countsOf}
 use Rattle.translation.specs.Translate.{stored, unless, translated}
+use Rattle.image.specs.Steps.{Small}
 use Rattle.image.specs.Image.{imageLength, largestImage}
 use Rattle.image.specs.Reader.{countsFit, recordsCheck, automatonFrom, readTables, readImage}
 use Rattle.image.specs.Calls.{buffer, bufferCheck, writes, loaded, readInto, checks}
 use Rattle.image.proofs.Before.{follows, passes}
-use Rattle.image.proofs.Tests.{Small, counts-small}
+use Rattle.image.proofs.Tests.{counts-small}
 use Rattle.image.proofs.Contents.{checks-sized}
 use Rattle.image.proofs.Sizes.{image-size}
 use Rattle.image.proofs.Tables.{counts-back}

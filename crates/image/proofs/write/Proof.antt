@@ -57,7 +57,7 @@ write-image-requires c κs =
     let a = tables .before .before .before .before .before .before .args in
     let long = tables-long (a .states .now) (a .transitions .now) (a .initial .now) (tables .before .tables-fit .ensures) (tables .if1 .left) in
     let small = counts-small _ (sym (counts .before .counts-fit .ensures) ∙ not-false _ (counts .if3 .left)) in
-    (small .states, small .transitions, small .initial, long .states, long .transitions, long .initial, omega arith)
+    (small, long, omega arith)
 
 same-length : tie.Need-same-length
 same-length c = search needs
