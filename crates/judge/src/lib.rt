@@ -113,7 +113,7 @@ fn set_bit(rows: &mut [u64], q: usize, k: usize)
 
 // The runs of row q in the target's row, if the transition record at byte `at` reads the letter.
 fn take_transition(image: &[u8], at: usize, letter: u8, rows: &[u64], q: usize, next: &mut [u64])
-    requires { ⌜ (at + 3 < length (now image)) × HasRow (now rows) q × (4 * numberAt (now image) (at + 2) + 4 ≤ length (now next)) ⌝ }
+    requires { ⌜ (at + 3 < length (now image)) × HasRow (now rows) q × HasRow (now next) (numberAt (now image) (at + 2)) ⌝ }
     ensures { λ _. ⌜ Adds (now (next .entry)) (now (next .exit)) (ByRecord (now (image .entry)) at letter (Token (now (rows .entry))) q) ⌝ }
 {
     if !reads_letter(image[at], image[at + 1], letter) {
