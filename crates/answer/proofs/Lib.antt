@@ -1,4 +1,5 @@
--- What is known of answers, for the crates above.
+-- What is known of answers, for the crates above. Assumes nothing.
 pub mod Lowest
 pub mod Results
 pub mod Storing
+pub mod Zeros

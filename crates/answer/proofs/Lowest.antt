@@ -1,4 +1,4 @@
--- The lowest refusal of a run of checks: what a loop from 0 knows of it.
+-- The lowest refusal of a run of checks: what a loop from 0 knows of it. Assumes nothing.
 use mathlib.Core.Path.{_≡_, refl, sym}
 use Prim.Native.Nat.{ℕ, zero, suc, _+_, _≤_, _<_}
 use native.Mathlib.Decide.{ℕ-discrete}

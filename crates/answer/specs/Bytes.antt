@@ -7,9 +7,13 @@ use lib.ListN.{getD, length, replicate}
 unfoldable pub twoBytes : ℕ → List ℕ
 twoBytes n = n % 256 ∷ (n / 256 ∷ [])
 
--- the number in the two bytes from place i on, of which the first is the low one (01, The image, sentence 2)
+-- the number in two bytes, the low one before the high one (01, The image, sentence 2)
+abbrev pub number : (low high : ℕ) → ℕ
+number low high = low + 256 * high
+
+-- the number in the two bytes from index i on
 abbrev pub numberAt : List ℕ → ℕ → ℕ
-numberAt bytes i = getD bytes i 0 + 256 * getD bytes (i + 1) 0
+numberAt bytes i = number (getD bytes i 0) (getD bytes (i + 1) 0)
 
 -- a table as 20 to 24 leave it: nothing but zeros (01, Numbers that come from the state, last paragraph, sentence 1)
 abbrev pub zeros : List ℕ → List ℕ

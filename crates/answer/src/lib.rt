@@ -5,7 +5,10 @@ ghost use mathlib.Core.List.{_++_};
 ghost use Prim.Native.Nat.{_+_, _<_, _≤_};
 ghost use lib.ListN.{length, take, drop, replicate};
 ghost use lib.Seq.{sets};
-ghost use Rattle.answer.specs.Bytes.{twoBytes, numberAt};
+ghost use Rattle.answer.specs.Bytes.{twoBytes, number, numberAt};
+
+// The number of document 01 for a lent table, image buffer or working bytes that are too short.
+pub const TABLE_TOO_SHORT: u8 = 25;
 
 // The answer of a check: accepted, or a refusal's number and place.
 pub enum Checked {
@@ -20,12 +23,20 @@ pub fn wide(x: u8) -> usize
     x as usize
 }
 
-// The number at place i, low byte first.
+// The number in two bytes, low byte first.
+pub fn number_of(low: u8, high: u8) -> usize
+    ensures value { λ r. ⌜ r ≡ number low high ⌝ }
+    ensures within { λ r. ⌜ r ≤ 65535 ⌝ }
+{
+    wide(low) + 256 * wide(high)
+}
+
+// The number at index i, low byte first.
 pub fn number_at(bytes: &[u8], i: usize) -> usize
     requires { ⌜ i + 1 < length (now bytes) ⌝ }
     ensures { λ r. ⌜ r ≡ numberAt (now (bytes .entry)) i ⌝ }
 {
-    wide(bytes[i]) + 256 * wide(bytes[i + 1])
+    number_of(bytes[i], bytes[i + 1])
 }
 
 // A number of two bytes, low byte first.
@@ -48,7 +59,7 @@ pub fn zero(table: &mut [u8])
     }
 }
 
-// The first n bytes of source in the first places of target.
+// The first n bytes of source in the first bytes of target.
 pub fn copy(target: &mut [u8], source: &[u8], n: usize)
     requires { ⌜ (n ≤ length (now target)) × (n ≤ length (now source)) ⌝ }
     ensures { λ _. ⌜ now (target .exit) ≡ take n (now (source .entry)) ++ drop n (now (target .entry)) ⌝ }

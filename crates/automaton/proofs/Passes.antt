@@ -1,4 +1,4 @@
--- A machine with finitely many states has an accepting pass through the cycle of a lasso exactly if some endless run of
+-- An automaton with finitely many states has an accepting pass through the cycle of a lasso exactly if some endless run of
 -- it accepts again and again. Assumes of the word only that it repeats.
 use Prim.Native.Nat.{ℕ, zero, suc, _+_, _-_, _*_, _<_, _≤_}
 use mathlib.Core.Path.{_≡_, refl, sym, _∙_, ap, subst}
@@ -13,35 +13,35 @@ use Rattle.automaton.specs.Automaton.{Automaton, Step, Accepts, Acceptin
 use Rattle.sets.specs.Sets.{In}
 use Rattle.automaton.proofs.Positions.{Again, pigeon}
 
--- a machine over states X: where it begins, what it may do on a letter, and which states accept
-pub record Machine (X : Type 0) : Type 1 where
+-- an automaton over states X of any type: where it begins, what it may do on a letter, and which states accept
+pub record AutomatonOver (X : Type 0) : Type 1 where
   pub Initial : X → Type 0
   pub Step : X → (letter : ℕ) → X → Type 0
   pub Accepting : X → Type 0
 
 -- the states of an automaton as numbers
-abbrev pub numbered : Automaton → Machine ℕ
+abbrev pub numbered : Automaton → AutomatonOver ℕ
 numbered automaton = record { Initial = λ k. In k (automaton .initial); Step = Step automaton; Accepting = Accepts automaton }
 
 -- an endless run on w that accepts again and again
-pub record Endless (w : ℕ → ℕ) {X : Type 0} (machine : Machine X) (p : ℕ → X) : Type 0 where
-  pub begins : machine .Initial (p 0)
-  pub steps : (i : ℕ) → machine .Step (p i) (w i) (p (suc i))
-  pub again : Again (λ i. machine .Accepting (p i))
+pub record Endless (w : ℕ → ℕ) {X : Type 0} (automaton : AutomatonOver X) (p : ℕ → X) : Type 0 where
+  pub begins : automaton .Initial (p 0)
+  pub steps : (i : ℕ) → automaton .Step (p i) (w i) (p (suc i))
+  pub again : Again (λ i. automaton .Accepting (p i))
 
 -- an accepting pass on w, with s letters of stem and n of cycle: a run that stands at the beginning of pass `second`
 -- where it stood at the beginning of pass `first`, and has accepted meanwhile
-pub record Pass (s n : ℕ) (w : ℕ → ℕ) {X : Type 0} (machine : Machine X) : Type 0 where
+pub record Pass (s n : ℕ) (w : ℕ → ℕ) {X : Type 0} (automaton : AutomatonOver X) : Type 0 where
   pub at : ℕ → X
   pub first : ℕ
   pub second : ℕ
   pub later : first < second
-  pub begins : machine .Initial (at 0)
-  pub steps : (i : ℕ) → i < s + second * n → machine .Step (at i) (w i) (at (suc i))
+  pub begins : automaton .Initial (at 0)
+  pub steps : (i : ℕ) → i < s + second * n → automaton .Step (at i) (w i) (at (suc i))
   pub same : at (s + first * n) ≡ at (s + second * n)
-  pub accepts : (i : ℕ) × (s + first * n ≤ i) × (i ≤ s + second * n) × machine .Accepting (at i)
+  pub accepts : (i : ℕ) × (s + first * n ≤ i) × (i ≤ s + second * n) × automaton .Accepting (at i)
 
--- an automaton's accepting passes are those of the machine over its state numbers
+-- an automaton's accepting passes are those of the automaton over its state numbers
 pub pass-iff : (a : Automaton) (stem cycle : List ℕ) → AcceptingPass a stem cycle ↔ Pass (length stem) (length cycle) (letter stem cycle) (numbered a)
 pass-iff a stem cycle = (
   λ p. record { at = p .at; first = p .first; second = p .second; later = p .later; begins = p .begins; steps = p .steps; same = p .same; accepts = p .accepts },
@@ -49,7 +49,7 @@ pass-iff a stem cycle = (
 )
 
 -- ---- from an endless run through states below N to a pass
-module _ (s n : ℕ) (pos : 0 < n) (w : ℕ → ℕ) (machine : Machine ℕ) (p : ℕ → ℕ) (run : Endless w machine p) (N : ℕ) (few : (i : ℕ) → p i < N) where
+module _ (s n : ℕ) (pos : 0 < n) (w : ℕ → ℕ) (automaton : AutomatonOver ℕ) (p : ℕ → ℕ) (run : Endless w automaton p) (N : ℕ) (few : (i : ℕ) → p i < N) where
   -- passes between whose beginnings the run accepts
   pass : ℕ → ℕ
   pass zero = 0
@@ -63,15 +63,15 @@ module _ (s n : ℕ) (pos : 0 < n) (w : ℕ → ℕ) (machine : Machine ℕ) (p 
   pass-grows zero k = subst (λ (c : ℕ). pass k ≤ pass c) {x = k} (omega arith) (omega arith)
   pass-grows (suc d) k = subst (λ (c : ℕ). pass k ≤ pass c) {x = suc (k + d)} (omega arith) (omega (arith, pass-grows d k, pass-next (k + d)))
 
-  between : (k : ℕ) → (j : ℕ) × (s + pass k * n ≤ j) × (j ≤ s + pass (suc k) * n) × machine .Accepting (p j)
+  between : (k : ℕ) → (j : ℕ) × (s + pass k * n ≤ j) × (j ≤ s + pass (suc k) * n) × automaton .Accepting (p j)
   unfolding pass
   between k =
       let (j, l, c) = run .again (s + pass k * n) in (j, l, omega (arith, le-mul-of-pos-right (suc (pass k) + j) pos), c)
 
-  pub endless-pass : Pass s n w machine
+  pub endless-pass : Pass s n w automaton
   endless-pass = make (pigeon N (λ k. p (s + pass k * n)) (λ k l. few (s + pass k * n)))
     where
-      make : (a b : ℕ) × (a < b) × (b ≤ N) × (p (s + pass a * n) ≡ p (s + pass b * n)) → Pass s n w machine
+      make : (a b : ℕ) × (a < b) × (b ≤ N) × (p (s + pass a * n) ≡ p (s + pass b * n)) → Pass s n w automaton
       make (a, b, x, y, e) = record {
         at = p;
         first = pass a;
@@ -87,7 +87,7 @@ module _ (s n : ℕ) (pos : 0 < n) (w : ℕ → ℕ) (machine : Machine ℕ) (p 
           up = subst (λ (c : ℕ). pass (suc a) ≤ pass c) {x = suc a + (b - suc a)} (omega arith) (pass-grows (b - suc a) (suc a))
 
 -- ---- from a pass to an endless run, round and round
-module _ (s n : ℕ) (pos : 0 < n) (w : ℕ → ℕ) (round : (i : ℕ) → s ≤ i → w (i + n) ≡ w i) {X : Type 0} (machine : Machine X) (l : Pass s n w machine) where
+module _ (s n : ℕ) (pos : 0 < n) (w : ℕ → ℕ) (round : (i : ℕ) → s ≤ i → w (i + n) ≡ w i) {X : Type 0} (automaton : AutomatonOver X) (l : Pass s n w automaton) where
   abbrev turns : ℕ
   turns = l .second - l .first
 
@@ -200,26 +200,26 @@ module _ (s n : ℕ) (pos : 0 < n) (w : ℕ → ℕ) (round : (i : ℕ) → s �
   visit : (k : ℕ) → start ≤ k → k < end → Again (λ j. back j ≡ k)
   visit k a b i = let (j, x, e) = come-round i in (j + (k - start), omega arith, omega (arith, ahead (k - start) j (omega arith)))
 
-  accepts-again : Again (λ j. machine .Accepting (l .at (back j)))
+  accepts-again : Again (λ j. automaton .Accepting (l .at (back j)))
   accepts-again i = let (k, a, b, c) = l .accepts in split k a b c (decLt k end)
     where
-      put : (k : ℕ) → machine .Accepting (l .at k) → (j : ℕ) × (i ≤ j) × (back j ≡ k) → (j : ℕ) × (i ≤ j) × machine .Accepting (l .at (back j))
-      put k c (j, x, e) = (j, x, subst (λ (z : ℕ). machine .Accepting (l .at z)) (sym e) c)
+      put : (k : ℕ) → automaton .Accepting (l .at k) → (j : ℕ) × (i ≤ j) × (back j ≡ k) → (j : ℕ) × (i ≤ j) × automaton .Accepting (l .at (back j))
+      put k c (j, x, e) = (j, x, subst (λ (z : ℕ). automaton .Accepting (l .at z)) (sym e) c)
 
-      split : (k : ℕ) → start ≤ k → k ≤ end → machine .Accepting (l .at k) → Dec (k < end) → (j : ℕ) × (i ≤ j) × machine .Accepting (l .at (back j))
+      split : (k : ℕ) → start ≤ k → k ≤ end → automaton .Accepting (l .at k) → Dec (k < end) → (j : ℕ) × (i ≤ j) × automaton .Accepting (l .at (back j))
       split k a b c (yes h) = put k c (visit k a h i)
       split k a b c (no h) =
           let e : k ≡ end = omega arith in
-          put start (subst (machine .Accepting) (ap (l .at) e ∙ sym (l .same)) c) (visit start (omega arith) start-end i)
+          put start (subst (automaton .Accepting) (ap (l .at) e ∙ sym (l .same)) c) (visit start (omega arith) start-end i)
 
-  pub pass-endless : (p : ℕ → X) × Endless w machine p
+  pub pass-endless : (p : ℕ → X) × Endless w automaton p
   pass-endless = (
     λ i. l .at (back i),
     record {
       begins = unfold back in l .begins;
       steps = λ i.
-          subst (machine .Step (l .at (back i)) (w i)) (back-step i)
-          (subst (λ (x : ℕ). machine .Step (l .at (back i)) x (l .at (suc (back i)))) (same-letter i) (l .steps (back i) (back-lt i)));
+          subst (automaton .Step (l .at (back i)) (w i)) (back-step i)
+          (subst (λ (x : ℕ). automaton .Step (l .at (back i)) x (l .at (suc (back i)))) (same-letter i) (l .steps (back i) (back-lt i)));
       again = accepts-again;
     },
   )

@@ -43,19 +43,22 @@ Step automaton q a next =
 abbrev pub Accepts : Automaton → ℕ → Type 0
 Accepts automaton q = getD (automaton .states) q noState .accepting ≡ true
 
+-- the letter at which pass k through the cycle begins: behind the stem and k cycles (01, Judging, sentence 3)
+abbrev pub passBegin : (stem cycle : List ℕ) (k : ℕ) → ℕ
+passBegin stem cycle k = length stem + k * length cycle
+
 -- an accepting pass (document 01: lap): a run, `at i` being its state when letter i comes, that starts in an initial
 -- state, is in one and the same state when passes `first` and `second` through the cycle begin, and between these two
--- letters, or at one of them, is in an accepting state. Pass k begins behind the stem and k cycles (01, Judging,
--- sentences 1, 3 and 4)
+-- letters, or at one of them, is in an accepting state (01, Judging, sentences 1, 3 and 4)
 pub record AcceptingPass (automaton : Automaton) (stem cycle : List ℕ) : Type 0 where
   pub at : ℕ → ℕ
   pub first : ℕ
   pub second : ℕ
   pub later : first < second
   pub begins : In (at 0) (automaton .initial)
-  pub steps : (i : ℕ) → i < length stem + second * length cycle → Step automaton (at i) (letter stem cycle i) (at (suc i))
-  pub same : at (length stem + first * length cycle) ≡ at (length stem + second * length cycle)
-  pub accepts : (i : ℕ) × (length stem + first * length cycle ≤ i) × (i ≤ length stem + second * length cycle) × Accepts automaton (at i)
+  pub steps : (i : ℕ) → i < passBegin stem cycle second → Step automaton (at i) (letter stem cycle i) (at (suc i))
+  pub same : at (passBegin stem cycle first) ≡ at (passBegin stem cycle second)
+  pub accepts : (i : ℕ) × (passBegin stem cycle first ≤ i) × (i ≤ passBegin stem cycle second) × Accepts automaton (at i)
 
 -- The automaton recognizes the lassos with property P: of those whose cycle has a letter, however long, it has an
 -- accepting pass exactly on these (demand 3, of a rule's automaton and the lassos that satisfy the rule).

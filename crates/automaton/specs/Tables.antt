@@ -1,7 +1,7 @@
 -- Three lent tables with an automaton's records: how many of each, and 25.
 use Prim.Native.Nat.{ℕ, _+_}
 use mathlib.Core.List.{List, [], _∷_}
-use mathlib.Core.Bool.{_&&_}
+use mathlib.Core.Bool.{Bool, _&&_}
 use lib.ListN.{length}
 use lib.Dec.{leb}
 use Rattle.answer.specs.Result.{Result, Check, require}
@@ -24,7 +24,11 @@ transitionCount [] = 0
 transitionCount (s ∷ rest) = length (s .transitions) + transitionCount rest
 
 abbrev pub counts : Automaton → Counts
-counts a = record { states = length (a .states); transitions = transitionCount (a .states); initial = length (a .initial) }
+counts a = record {
+  states = length (a .states);
+  transitions = transitionCount (a .states);
+  initial = length (a .initial);
+}
 
 -- an answer, and the three lent tables afterwards
 pub record Outcome : Type 0 where
@@ -36,8 +40,13 @@ pub record Outcome : Type 0 where
 abbrev pub outcome : Result Counts → (states transitions initial : List ℕ) → Outcome
 outcome a s t i = record { answer = a; states = s; transitions = t; initial = i }
 
+-- whether 25 lets the lengths of three tables pass
+abbrev pub lengthsFit : (states transitions initial : ℕ) → Bool
+lengthsFit states transitions initial =
+    leb statesBytes states && (leb transitionsBytes transitions && leb initialBytes initial)
+
 -- 25, at place 0: a table has no room for the most states, transitions or initial numbers (01, Numbers that come from
 -- the state, 25)
 unfoldable pub tableCheck : (states transitions initial : List ℕ) → Check
 tableCheck states transitions initial =
-    require (leb statesBytes (length states) && (leb transitionsBytes (length transitions) && leb initialBytes (length initial))) 25 0
+    require (lengthsFit (length states) (length transitions) (length initial)) 25 0

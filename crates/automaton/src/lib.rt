@@ -1,8 +1,5 @@
 // The sizes of an automaton and of the tables that hold its records.
 
-// The number of document 01 for a lent table that is too short.
-pub const TABLE_TOO_SHORT: u8 = 25;
-
 // The limits of an automaton (specs/Limits.antt has where they come from): its states, the transitions of one state and
 // so of all, its initial states.
 pub const MAX_STATES: usize = 96;

@@ -1,4 +1,4 @@
--- The formula of a rule holds on a word exactly if the machine that counts levels over obligation sets has an endless
+-- The formula of a rule holds on a word exactly if the automaton that counts levels over obligation sets has an endless
 -- run there that accepts again and again. Assumes of a state's transitions that they represent its terms.
 use Prim.Native.Nat.{ℕ, zero, suc, _+_, _<_, _≤_}
 use mathlib.Core.Path.{_≡_, refl, sym, _∙_, ap, subst}
@@ -27,15 +27,15 @@ use Rattle.correctness.proofs.Periodic.{holds-dec}
 use Rattle.correctness.proofs.Complete.{complete}
 use Rattle.correctness.proofs.Tests.{fulfils-iff}
 use Rattle.correctness.proofs.Levels.{Over, level, last-again, fulfilled-again}
-use Rattle.automaton.proofs.Passes.{Machine, Endless}
+use Rattle.automaton.proofs.Passes.{AutomatonOver, Endless}
 
 -- an obligation set with a level
 pub record Counted : Type 0 where
   pub obligations : ℕ
   pub level : ℕ
 
--- the machine on them, where Move e t says that t is a transition of the set e
-abbrev pub counting : List ℕ → (ℕ → Term → Type 0) → Machine Counted
+-- the automaton on them, where Move e t says that t is a transition of the set e
+abbrev pub counting : List ℕ → (ℕ → Term → Type 0) → AutomatonOver Counted
 counting rule Move = record {
   Initial = λ x. In (x .obligations) (cover (formula rule)) × (x .level ≡ 0);
   Step = λ x letter y.

@@ -1,4 +1,4 @@
--- The automaton of an accepted rule numbers the machine that counts levels over obligation sets: the first walk
+-- The automaton of an accepted rule numbers the automaton that counts levels over obligation sets: the first walk
 -- numbers the sets, the second the pairs of such a number and a level. Assumes that both walks are accepted.
 use Prim.Native.Nat.{ℕ, zero, suc, _<_}
 use mathlib.Core.Path.{_≡_, refl, sym, _∙_, ap, subst}

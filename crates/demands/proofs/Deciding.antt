@@ -19,9 +19,10 @@ use Rattle.automaton.specs.Records.{stateRecords, transitionRecords, initialRec
 use Rattle.automaton.specs.Tables.{Counts, counts, Outcome, outcome}
 use Rattle.answer.specs.Bytes.{zeros, filled}
 use Rattle.translation.specs.Translate.{stored, translated}
+use Rattle.image.specs.Steps.{Long}
 use Rattle.image.specs.Image.{imageBytes, largestImage}
 use Rattle.image.specs.Calls.{Buffer, buffer, writes}
-use Rattle.image.proofs.Answers.{Long, fine-long, filled-long}
+use Rattle.image.proofs.Outcomes.{fine-long, filled-long}
 use Rattle.judge.specs.Judge.{workBytes, Verdict, verdict, judgement, judged}
 use Rattle.lasso.specs.Lasso.{lassoCheck}
 use Rattle.judge.proofs.VerdictIff.{image-judged}

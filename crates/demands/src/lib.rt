@@ -1,11 +1,11 @@
 // From a rule and a lasso to the verdict: the calls translate, write and judge in a row.
 use answer::Checked;
+use answer::TABLE_TOO_SHORT;
 use automaton::INITIAL_BYTES;
 use automaton::STATES_BYTES;
-use automaton::TABLE_TOO_SHORT;
 use automaton::TRANSITIONS_BYTES;
 use image::IMAGE_BYTES;
-use image::Written;
+use image::WrittenImage;
 use image::write;
 use judge::Judged;
 use judge::WORK_BYTES;
@@ -59,8 +59,8 @@ fn decide_checked(
     match translate(rule, states, transitions, initial) {
         Translated::Refused(number, place) => Judged::Refused(number, place),
         Translated::Accepted(n, m, k) => match write(states, n, transitions, m, initial, k, image) {
-            Written::Refused(number, place) => Judged::Refused(number, place),
-            Written::Length(length) => judge(&image[..length], stem, cycle, work),
+            WrittenImage::Refused(number, place) => Judged::Refused(number, place),
+            WrittenImage::Length(length) => judge(&image[..length], stem, cycle, work),
         },
     }
 }

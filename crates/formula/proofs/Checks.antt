@@ -1,4 +1,4 @@
--- From the tests that the code makes to the checks of a rule.
+-- From the tests that the code makes to the checks of a rule, in their order. Assumes nothing.
 use mathlib.Core.Path.{_≡_}
 use mathlib.Core.Bool.{Bool, true, false, not, and-false, and-eq-true-iff}
 use mathlib.Core.List.{List}
@@ -6,24 +6,13 @@ use Prim.Native.Nat.{ℕ, _%_, _≤_, _<_}
 use native.Mathlib.Omega.{arith}
 use lib.ListN.{length}
 use lib.Dec.{eqb, leb, ltb}
-use borrow.Author.Tests.{leb-true, lt-ltb, le-ltb, le-leb, lt-leb, eq-eqb, ne-eqb, not-true, not-false}
+use borrow.Author.Tests.{lt-ltb, le-ltb, le-leb, lt-leb, eq-eqb, ne-eqb, not-true, not-false}
 use Rattle.formula.specs.declared.Operand.{Operand}
 use Rattle.answer.specs.Result.{fine, refused, lowest}
-use Rattle.formula.specs.Rule.{kindAt, leftAt, rightAt, leftOperand, rightOperand, byteFits, childFits, nodeCount, root, nodeCheck, places, placeCheck, lengthCheck, syntaxCheck, untilCheck, checked}
+use Rattle.formula.specs.Limits.{ruleBytes}
+use Rattle.formula.specs.Rule.{kindAt, leftByteFits, rightByteFits, leftChildFits, rightChildFits, releaseKind, nodeCount, root, nodeCheck, ChildrenBelow, places, placeCheck, lengthCheck, syntaxCheck, untilCheck, checked}
+use Rattle.answer.proofs.Lowest.{lowest-each}
 use Rattle.answer.proofs.Results.{require-fine, required}
-
--- the tests of a node's bytes
-abbrev pub leftByte : List ℕ → ℕ → Bool
-leftByte rule n = byteFits (leftOperand (kindAt rule n)) (leftAt rule n)
-
-abbrev pub rightByte : List ℕ → ℕ → Bool
-rightByte rule n = byteFits (rightOperand (kindAt rule n)) (rightAt rule n)
-
-abbrev pub leftChild : List ℕ → ℕ → Bool
-leftChild rule n = childFits (leftOperand (kindAt rule n)) (leftAt rule n) n
-
-abbrev pub rightChild : List ℕ → ℕ → Bool
-rightChild rule n = childFits (rightOperand (kindAt rule n)) (rightAt rule n) n
 
 -- a test of the code, by what it reads of the rule
 pub read-test : (operandOf : ℕ → Operand) (test : Operand → ℕ → Bool) {kind k byte b : ℕ} {operand : Operand} {passes t : Bool} → kind ≡ k → byte ≡ b
@@ -31,34 +20,34 @@ pub read-test : (operandOf : ℕ → Operand) (test : Operand → ℕ → Bool) 
 read-test operandOf test ek eb eo ep et = cc
 
 -- node n by its tests as the code makes them, in their order
-module _ (rule : List ℕ) (n : ℕ) where
-  pub kind-unknown : 8 < kindAt rule n → refused 3 n ≡ nodeCheck rule n
+module _ (highest : ℕ) (rule : List ℕ) (n : ℕ) where
+  pub kind-unknown : highest < kindAt rule n → refused 3 n ≡ nodeCheck highest rule n
   unfolding nodeCheck
-  kind-unknown lt = rw (lt-leb (kindAt rule n) 8 lt)
+  kind-unknown lt = rw (lt-leb (kindAt rule n) highest lt)
 
-  module _ (known : kindAt rule n ≤ 8) where
-    pub left-unfit : not (leftByte rule n) ≡ true → refused 4 n ≡ nodeCheck rule n
+  module _ (known : kindAt rule n ≤ highest) where
+    pub left-unfit : not (leftByteFits rule n) ≡ true → refused 4 n ≡ nodeCheck highest rule n
     unfolding nodeCheck
-    left-unfit e = rw (le-leb (kindAt rule n) 8 known, not-true (leftByte rule n) e)
+    left-unfit e = rw (le-leb (kindAt rule n) highest known, not-true (leftByteFits rule n) e)
 
-    module _ (left-fits : not (leftByte rule n) ≡ false) where
-      pub right-unfit : not (rightByte rule n) ≡ true → refused 4 n ≡ nodeCheck rule n
+    module _ (left-fits : not (leftByteFits rule n) ≡ false) where
+      pub right-unfit : not (rightByteFits rule n) ≡ true → refused 4 n ≡ nodeCheck highest rule n
       unfolding nodeCheck
-      right-unfit e = rw (le-leb (kindAt rule n) 8 known, not-false (leftByte rule n) left-fits, not-true (rightByte rule n) e)
+      right-unfit e = rw (le-leb (kindAt rule n) highest known, not-false (leftByteFits rule n) left-fits, not-true (rightByteFits rule n) e)
 
-      module _ (right-fits : not (rightByte rule n) ≡ false) where
-        pub left-above : not (leftChild rule n) ≡ true → refused 5 n ≡ nodeCheck rule n
+      module _ (right-fits : not (rightByteFits rule n) ≡ false) where
+        pub left-above : not (leftChildFits rule n) ≡ true → refused 5 n ≡ nodeCheck highest rule n
         unfolding nodeCheck
-        left-above e = rw (le-leb (kindAt rule n) 8 known, not-false (leftByte rule n) left-fits, not-false (rightByte rule n) right-fits, not-true (leftChild rule n) e)
+        left-above e = rw (le-leb (kindAt rule n) highest known, not-false (leftByteFits rule n) left-fits, not-false (rightByteFits rule n) right-fits, not-true (leftChildFits rule n) e)
 
-        module _ (left-below : not (leftChild rule n) ≡ false) where
-          pub right-above : not (rightChild rule n) ≡ true → refused 5 n ≡ nodeCheck rule n
+        module _ (left-below : not (leftChildFits rule n) ≡ false) where
+          pub right-above : not (rightChildFits rule n) ≡ true → refused 5 n ≡ nodeCheck highest rule n
           unfolding nodeCheck
-          right-above e = rw (le-leb (kindAt rule n) 8 known, not-false (leftByte rule n) left-fits, not-false (rightByte rule n) right-fits, not-false (leftChild rule n) left-below, not-true (rightChild rule n) e)
+          right-above e = rw (le-leb (kindAt rule n) highest known, not-false (leftByteFits rule n) left-fits, not-false (rightByteFits rule n) right-fits, not-false (leftChildFits rule n) left-below, not-true (rightChildFits rule n) e)
 
-          pub all-fits : not (rightChild rule n) ≡ false → fine ≡ nodeCheck rule n
+          pub all-fits : not (rightChildFits rule n) ≡ false → fine ≡ nodeCheck highest rule n
           unfolding nodeCheck
-          all-fits e = rw (le-leb (kindAt rule n) 8 known, not-false (leftByte rule n) left-fits, not-false (rightByte rule n) right-fits, not-false (leftChild rule n) left-below, not-false (rightChild rule n) e)
+          all-fits e = rw (le-leb (kindAt rule n) highest known, not-false (leftByteFits rule n) left-fits, not-false (rightByteFits rule n) right-fits, not-false (leftChildFits rule n) left-below, not-false (rightChildFits rule n) e)
 
 -- node k by the count of its places and its kind
 module _ (rule : List ℕ) (k : ℕ) where
@@ -87,62 +76,66 @@ module _ (rule : List ℕ) (k : ℕ) where
     place-twice more inner = rw (ne-eqb count 0 some, and-false (not (eqb k (root rule))), lt-ltb 3 (kindAt rule k) (omega arith), le-leb 2 count (omega arith))
 
 -- 1 to 6 by the tests of the length and the answers of the other checks
-module _ (rule : List ℕ) where
-  pub too-long : 96 < length rule → refused 1 0 ≡ syntaxCheck rule
+module _ (highest : ℕ) (rule : List ℕ) where
+  pub too-long : ruleBytes < length rule → refused 1 0 ≡ syntaxCheck highest rule
   unfolding syntaxCheck lengthCheck
-  too-long lt = rw (lt-leb (length rule) 96 lt)
+  too-long lt = rw (lt-leb (length rule) ruleBytes lt)
 
-  module _ (fits : length rule ≤ 96) where
-    pub empty : length rule ≡ 0 → refused 2 0 ≡ syntaxCheck rule
+  module _ (fits : length rule ≤ ruleBytes) where
+    pub empty : length rule ≡ 0 → refused 2 0 ≡ syntaxCheck highest rule
     unfolding syntaxCheck lengthCheck
-    empty e = rw (le-leb (length rule) 96 fits, le-ltb 0 (length rule) (omega arith))
+    empty e = rw (le-leb (length rule) ruleBytes fits, le-ltb 0 (length rule) (omega arith))
 
-    pub broken : (length rule % 3 ≡ 0 → ⊥) → refused 2 0 ≡ syntaxCheck rule
+    pub broken : (length rule % 3 ≡ 0 → ⊥) → refused 2 0 ≡ syntaxCheck highest rule
     unfolding syntaxCheck lengthCheck
-    broken e = rw (le-leb (length rule) 96 fits, ne-eqb (length rule % 3) 0 e, and-false (ltb 0 (length rule)))
+    broken e = rw (le-leb (length rule) ruleBytes fits, ne-eqb (length rule % 3) 0 e, and-false (ltb 0 (length rule)))
 
     module _ (some : length rule ≡ 0 → ⊥) (whole : length rule % 3 ≡ 0) where
       length-fine : lengthCheck rule ≡ fine
       unfolding lengthCheck
-      length-fine = rw (le-leb (length rule) 96 fits, lt-ltb 0 (length rule) (omega arith), eq-eqb (length rule % 3) 0 whole)
+      length-fine = rw (le-leb (length rule) ruleBytes fits, lt-ltb 0 (length rule) (omega arith), eq-eqb (length rule % 3) 0 whole)
 
-      pub node-refused : {number place : ℕ} → refused number place ≡ lowest (nodeCheck rule) (nodeCount rule) → refused number place ≡ syntaxCheck rule
+      pub node-refused : {number place : ℕ} → refused number place ≡ lowest (nodeCheck highest rule) (nodeCount rule) → refused number place ≡ syntaxCheck highest rule
       unfolding syntaxCheck
       node-refused e = rw (length-fine, ← e)
 
-      pub places-left : lowest (nodeCheck rule) (nodeCount rule) ≡ fine → lowest (placeCheck rule) (nodeCount rule) ≡ syntaxCheck rule
+      pub places-left : lowest (nodeCheck highest rule) (nodeCount rule) ≡ fine → lowest (placeCheck rule) (nodeCount rule) ≡ syntaxCheck highest rule
       unfolding syntaxCheck
       places-left e = rw (length-fine, e)
 
 -- the whole rule by the answers of 1 to 6 and of 7
 module _ (rule : List ℕ) where
-  pub syntax-refused : {number place : ℕ} → refused number place ≡ syntaxCheck rule → refused number place ≡ checked rule
+  pub syntax-refused : {number place : ℕ} → refused number place ≡ syntaxCheck releaseKind rule → refused number place ≡ checked rule
   unfolding checked
   syntax-refused e = rw (← e)
 
-  pub untils-left : syntaxCheck rule ≡ fine → untilCheck rule ≡ checked rule
+  pub untils-left : syntaxCheck releaseKind rule ≡ fine → untilCheck rule ≡ checked rule
   unfolding checked
   untils-left e = rw e
 
 -- what a fine check says of node n
 pub record Tested (rule : List ℕ) (n : ℕ) : Type 0 where
-  pub known : kindAt rule n ≤ 8
-  pub left-fits : leftByte rule n ≡ true
-  pub right-fits : rightByte rule n ≡ true
-  pub left-below : leftChild rule n ≡ true
-  pub right-below : rightChild rule n ≡ true
+  pub left-fits : leftByteFits rule n ≡ true
+  pub right-fits : rightByteFits rule n ≡ true
+  pub left-below : leftChildFits rule n ≡ true
+  pub right-below : rightChildFits rule n ≡ true
 
-pub tested : (rule : List ℕ) (n : ℕ) → nodeCheck rule n ≡ fine → Tested rule n
+pub tested : (highest : ℕ) (rule : List ℕ) (n : ℕ) → nodeCheck highest rule n ≡ fine → Tested rule n
 unfolding nodeCheck
-tested rule n e =
-    let k = required (leb (kindAt rule n) 8) 3 n _ e in
+tested highest rule n e =
+    let k = required (leb (kindAt rule n) highest) 3 n _ e in
     let b = required _ 4 n _ (k .1) in
     let bytes = and-eq-true-iff _ _ .0 (b .0) in
     let children = and-eq-true-iff _ _ .0 (require-fine _ 5 n (b .1)) in
     record {
-      known = leb-true (kindAt rule n) 8 (k .0);
       left-fits = bytes .0;
       right-fits = bytes .1;
       left-below = children .0;
       right-below = children .1;
     }
+
+-- and what fine checks say of the children of n nodes
+pub children-below : (highest : ℕ) (rule : List ℕ) (n : ℕ) → lowest (nodeCheck highest rule) n ≡ fine → ChildrenBelow rule n
+children-below highest rule n all =
+    let node : (i : ℕ) → i < n → Tested rule i = λ i lt. tested highest rule i (lowest-each (nodeCheck highest rule) n all i lt) in
+    record { lefts = λ i lt. node i lt .left-below; rights = λ i lt. node i lt .right-below }

@@ -1,4 +1,4 @@
--- What the proofs of several functions, and of the crates above, cite.
+-- What the proofs of several functions, and of the crates above, cite. Assumes nothing.
 pub mod Operands
 pub mod Checks
 pub mod Places

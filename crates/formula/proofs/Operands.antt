@@ -1,4 +1,4 @@
--- What the bytes of a node are, by its kind.
+-- What the bytes of a node are, by its kind. Assumes nothing.
 use mathlib.Core.Path.{_≡_}
 use Prim.Native.Nat.{ℕ, _≤_, _<_}
 use native.Mathlib.Omega.{arith}

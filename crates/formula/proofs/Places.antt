@@ -1,4 +1,4 @@
--- The places at which a node is a child: how many there can be, and what a loop over the nodes counts.
+-- The places at which a node is a child: how many there can be, and what a loop over the nodes counts. Assumes nothing.
 use mathlib.Core.Path.{_≡_, refl, sym, _∙_}
 use mathlib.Core.Bool.{Bool, true, false, cond}
 use mathlib.Core.List.{List}
@@ -10,12 +10,11 @@ use lib.Dec.{eqb}
 use lib.ListN.{getD, length, set, replicate}
 use lib.Seq.{getD-set-same, getD-set-other}
 use borrow.Author.Tests.{eq-eqb, ne-eqb, ltb-true, lt-ltb}
+use Rattle.answer.proofs.Zeros.{zeros-at}
 use Rattle.formula.specs.declared.Operand.{Operand}
 use Rattle.formula.specs.declared.Operand.the-variants.{Unused, Proposition, Child}
-use Rattle.answer.specs.Result.{fine, lowest}
-use Rattle.formula.specs.Rule.{kindAt, leftAt, rightAt, leftOperand, rightOperand, childFits, isChild, nodeCheck, places}
-use Rattle.answer.proofs.Lowest.{lowest-each}
-use Rattle.formula.proofs.Checks.{Tested, tested}
+use Rattle.formula.specs.Limits.{maxNodes}
+use Rattle.formula.specs.Rule.{kindAt, leftAt, rightAt, leftOperand, rightOperand, childFits, ChildrenBelow, isChild, places}
 
 -- a byte is a child at one place at most
 is-child-most : (operand : Operand) (byte k : ℕ) → isChild operand byte k ≤ 1
@@ -58,39 +57,31 @@ module _ (operand : Operand) (child : operand ≡ Child) (byte : ℕ) where
 -- a loop over n nodes that stands at i: counts has the places of the first i nodes
 pub record Counting (rule : List ℕ) (n : ℕ) (counts : List ℕ) (i : ℕ) : Type 0 where
   pub within : i ≤ n
-  pub size : length counts ≡ 32
+  pub size : length counts ≡ maxNodes
   pub counted : (k : ℕ) → getD counts k 0 ≡ places rule i k
 
-getD-zeros : (n k : ℕ) → getD {A = ℕ} (replicate n 0) k 0 ≡ 0
-getD-zeros zero k = refl
-getD-zeros (suc n) zero = refl
-getD-zeros (suc n) (suc k) = getD-zeros n k
-
-pub count-begins : (rule : List ℕ) (n : ℕ) → Counting rule n (replicate 32 0) 0
+pub count-begins : (rule : List ℕ) (n : ℕ) → Counting rule n (replicate maxNodes 0) 0
 unfolding places
-count-begins rule n = record { within = omega arith; size = refl; counted = getD-zeros 32 }
+count-begins rule n = record { within = omega arith; size = refl; counted = zeros-at maxNodes }
 
 pub count-ends : (rule : List ℕ) (n : ℕ) (counts : List ℕ) (i : ℕ) → n ≤ i → Counting rule n counts i → (k : ℕ) → getD counts k 0 ≡ places rule n k
 count-ends rule n counts i le inv k =
     let e : n ≡ i = omega arith in
     rw e (inv .counted k)
 
--- one turn of that loop, at nodes that are fine, with what the code reads of node i
-module _ (rule : List ℕ) (n : ℕ) (few : n ≤ 32) (all : lowest (nodeCheck rule) n ≡ fine) (i : ℕ) (lt : i < n) {counts : List ℕ} (inv : Counting rule n counts i) {kind : ℕ} (ek : kind ≡ kindAt rule i) where
-  node : Tested rule i
-  node = tested rule i (lowest-each (nodeCheck rule) n all i lt)
-
+-- one turn of that loop, with what the code reads of node i
+module _ (rule : List ℕ) (n : ℕ) (few : n ≤ maxNodes) (below : ChildrenBelow rule n) (i : ℕ) (lt : i < n) {counts : List ℕ} (inv : Counting rule n counts i) {kind : ℕ} (ek : kind ≡ kindAt rule i) where
   -- what `count_child` requires of the left byte: it fits the counts, and no count overflows
   module _ {left : Operand} (eo : left ≡ leftOperand kind) {l : ℕ} (el : l ≡ leftAt rule i) where
     pub left-fits : (childFits left l (length counts) ≡ true) × ((k : ℕ) → getD counts k 0 < 255)
     left-fits =
-        (rw (inv .size, eo, el, ek) (child-widens (leftOperand (kindAt rule i)) (leftAt rule i) i 32 (omega arith) (node .left-below)), λ k. omega (arith, inv .counted k, places-most rule i k))
+        (rw (inv .size, eo, el, ek) (child-widens (leftOperand (kindAt rule i)) (leftAt rule i) i maxNodes (omega arith) (below .lefts i lt)), λ k. omega (arith, inv .counted k, places-most rule i k))
 
     -- and then of the right byte
     module _ (more : List ℕ) (same : length more ≡ length counts) (step : (k : ℕ) → getD more k 0 ≡ getD counts k 0 + isChild left l k) {right : Operand} (eq : right ≡ rightOperand kind) {r : ℕ} (er : r ≡ rightAt rule i) where
       pub right-fits : (childFits right r (length more) ≡ true) × ((k : ℕ) → getD more k 0 < 255)
       right-fits =
-          (rw (same, inv .size, eq, er, ek) (child-widens (rightOperand (kindAt rule i)) (rightAt rule i) i 32 (omega arith) (node .right-below)), λ k. omega (arith, step k, inv .counted k, places-most rule i k, is-child-most left l k))
+          (rw (same, inv .size, eq, er, ek) (child-widens (rightOperand (kindAt rule i)) (rightAt rule i) i maxNodes (omega arith) (below .rights i lt)), λ k. omega (arith, step k, inv .counted k, places-most rule i k, is-child-most left l k))
 
       pub count-steps : (last : List ℕ) → length last ≡ length more → ((k : ℕ) → getD last k 0 ≡ getD more k 0 + isChild right r k) → Counting rule n last (i + 1)
       unfolding places

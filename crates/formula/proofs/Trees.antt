@@ -1,4 +1,5 @@
--- The tree of a node by those of its children, and what holds of every tree of a rule that is accepted.
+-- The tree of a node by those of its children, and what holds of every tree of a rule that is accepted. Assumes nothing
+-- but that 4 and 5 let the nodes pass.
 use mathlib.Core.Path.{_≡_, refl, sym, ap, _∙_}
 use mathlib.Core.List.{List, [], _∷_, _++_}
 use Prim.Native.Nat.{ℕ, zero, suc, _+_, _*_, _≤_, _<_}
@@ -6,6 +7,7 @@ use native.Mathlib.Decide.{decLt}
 use native.Mathlib.Omega.{arith}
 use lib.ListN.{length, getD, take, length-append}
 use lib.Seq.{getD-take, take-append-le, take-take, take-all, getD-append-seam}
+use Rattle.formula.specs.Limits.{propositions}
 use Rattle.formula.specs.Rule.{nodeCount, kindAt, leftAt, rightAt}
 use Rattle.formula.specs.Formula.{Formula, bottom, proposition, build, trees, tree, InRange}
 use Rattle.formula.proofs.Accepted.{Node}
@@ -73,7 +75,7 @@ module _ (rule : List ℕ) (n : ℕ) (inside : n < nodeCount rule) (node : Node 
     pub pair-in : (l r : ℕ) → l ≡ leftAt rule n → r ≡ rightAt rule n → 3 < k → P (build k n l (tree rule l) (tree rule r)) → P (tree rule n)
     pair-in l r el er inner h = rw (of-parts, ← el, ← er, child l (left-below k ek inner l el), child r (right-below k ek inner r er), ← ek) h
 
-in-range-build : (k n l : ℕ) (f g : Formula) → (1 < k → k < 4 → l < 8) → (3 < k → InRange f) → (3 < k → InRange g) → InRange (build k n l f g)
+in-range-build : (k n l : ℕ) (f g : Formula) → (1 < k → k < 4 → l < propositions) → (3 < k → InRange f) → (3 < k → InRange g) → InRange (build k n l f g)
 unfolding InRange
 in-range-build zero n l f g p a b = tt
 in-range-build (suc zero) n l f g p a b = tt
@@ -102,6 +104,6 @@ in-range-to rule zero n lt inside nodes = absurd (omega arith)
 in-range-to rule (suc bound) n lt inside nodes =
     in-range-step rule n inside (nodes n (omega arith)) (λ k l. in-range-to rule bound k (omega arith) (omega arith) (λ j le. nodes j (omega arith)))
 
--- the tree of node n has propositions 0 to 7 alone, if 3 to 5 let all nodes up to n pass
+-- the tree of node n has no other propositions than there are, if 3 to 5 let all nodes up to n pass
 pub tree-in-range : (rule : List ℕ) (n : ℕ) → n < nodeCount rule → ((k : ℕ) → k ≤ n → Node rule k) → InRange (tree rule n)
 tree-in-range rule n inside nodes = in-range-to rule (suc n) n (omega arith) inside nodes

@@ -1,4 +1,4 @@
--- The untils of a rule: what a loop over the nodes counts, and the check of the count.
+-- The untils of a rule: what a loop over the nodes counts, and the check of the count. Assumes nothing.
 use mathlib.Core.Path.{_≡_, refl, _∙_}
 use mathlib.Core.Bool.{Bool, true, false, cond}
 use mathlib.Core.List.{List, [], _∷_}
@@ -9,6 +9,7 @@ use lib.Dec.{eqb}
 use lib.ListN.{length, length-append}
 use borrow.Author.Tests.{le-leb, lt-leb}
 use Rattle.answer.specs.Result.{fine, refused}
+use Rattle.formula.specs.Limits.{maxUntils}
 use Rattle.formula.specs.Rule.{nodeCount, kindAt, untils, untilCheck}
 
 -- a loop over n nodes that stands at i: count is the number of the untils among the first i nodes
@@ -50,10 +51,10 @@ module _ (rule : List ℕ) (n : ℕ) where
       rw e (inv .counted)
 
 module _ (rule : List ℕ) (count : ℕ) (counted : count ≡ length (untils rule (nodeCount rule))) where
-  pub too-many : 8 < count → refused 7 0 ≡ untilCheck rule
+  pub too-many : maxUntils < count → refused 7 0 ≡ untilCheck rule
   unfolding untilCheck
-  too-many lt = rw (lt-leb (length (untils rule (nodeCount rule))) 8 (omega arith))
+  too-many lt = rw (lt-leb (length (untils rule (nodeCount rule))) maxUntils (omega arith))
 
-  pub few-enough : count ≤ 8 → fine ≡ untilCheck rule
+  pub few-enough : count ≤ maxUntils → fine ≡ untilCheck rule
   unfolding untilCheck
-  few-enough le = rw (le-leb (length (untils rule (nodeCount rule))) 8 (omega arith))
+  few-enough le = rw (le-leb (length (untils rule (nodeCount rule))) maxUntils (omega arith))

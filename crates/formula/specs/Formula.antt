@@ -2,6 +2,7 @@
 use Prim.Native.Nat.{ℕ, zero, suc, _<_}
 use mathlib.Core.List.{List, [], _∷_, _++_}
 use lib.ListN.{getD, length}
+use Rattle.formula.specs.Limits.{propositions}
 use Rattle.formula.specs.Rule.{root}
 
 -- the kinds 0 to 8 of a node, in this order; a proposition is document 01's mark (01, Rules and when a plan keeps one,
@@ -44,12 +45,12 @@ tree rule n = getD (trees [] rule) n bottom
 unfoldable pub formula : List ℕ → Formula
 formula rule = tree rule (root rule)
 
--- every proposition of a formula is one of 0 to 7
+-- every proposition of a formula is one of those that there are
 unfoldable pub InRange : Formula → Type 0
 InRange bottom = Unit {0}
 InRange top = Unit {0}
-InRange (proposition n p) = p < 8
-InRange (negatedProposition n p) = p < 8
+InRange (proposition n p) = p < propositions
+InRange (negatedProposition n p) = p < propositions
 InRange (conjunction a b) = InRange a × InRange b
 InRange (disjunction a b) = InRange a × InRange b
 InRange (next n a) = InRange a

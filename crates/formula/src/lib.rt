@@ -7,8 +7,9 @@ ghost use mathlib.Core.List.{List, [], _∷_};
 ghost use lib.Dec.{eqb};
 ghost use Prim.Native.Nat.{ℕ, _+_, _*_, _<_, _≤_};
 ghost use lib.ListN.{length, getD};
-ghost use Rattle.answer.specs.Result.{fine, lowest, answer};
-ghost use Rattle.formula.specs.Rule.{nodeCount, kindAt, leftAt, rightAt, leftOperand, rightOperand, byteFits, childFits, isChild, nodeCheck, places, placeCheck, syntaxCheck, untils, untilCheck, checked};
+ghost use Rattle.answer.specs.Result.{lowest, answer};
+ghost use Rattle.formula.specs.Limits.{maxNodes};
+ghost use Rattle.formula.specs.Rule.{nodeCount, kindAt, leftAt, rightAt, leftOperand, rightOperand, byteFits, childFits, ChildrenBelow, isChild, nodeCheck, places, placeCheck, syntaxCheck, untils, untilCheck, checked};
 
 // The numbers of document 01 by which a rule is refused.
 pub const TOO_LONG: u8 = 1;
@@ -25,12 +26,15 @@ pub const BAD_PLACES: u8 = 6;
 
 pub const TOO_MANY_UNTILS: u8 = 7;
 
-// The most bytes of a rule, and so the most nodes, and the most untils among them.
-pub const MAX_BYTES: usize = 96;
-
+// The limits of a rule (specs/Limits.antt has where they come from): its nodes, their bytes, the untils among them; and
+// how many propositions there are.
 pub const MAX_NODES: usize = 32;
 
+pub const MAX_BYTES: usize = 3 * MAX_NODES;
+
 pub const MAX_UNTILS: usize = 8;
+
+pub const PROPOSITIONS: usize = 8;
 
 // The kinds of node that the code tells apart.
 pub const FALSE: u8 = 0;
@@ -109,7 +113,7 @@ fn byte_fits(operand: Operand, byte: usize) -> bool
 {
     match operand {
         Operand::Unused => byte == 0,
-        Operand::Proposition => byte <= 7,
+        Operand::Proposition => byte < PROPOSITIONS,
         Operand::Child => true,
     }
 }
@@ -125,15 +129,15 @@ fn child_fits(operand: Operand, byte: usize, parent: usize) -> bool
     }
 }
 
-// 3, 4 and 5 for node n.
-fn check_node(rule: &[u8], n: usize) -> Checked
+// 3, 4 and 5 for node n of a rule whose kinds go up to highest.
+fn check_node(highest: u8, rule: &[u8], n: usize) -> Checked
     requires { ⌜ n < nodeCount (now rule) ⌝ }
-    ensures { λ r. ⌜ answer r ≡ nodeCheck (now (rule .entry)) n ⌝ }
+    ensures { λ r. ⌜ answer r ≡ nodeCheck highest (now (rule .entry)) n ⌝ }
 {
     let kind = kind_of(rule, n);
     let left = left_of(rule, n);
     let right = right_of(rule, n);
-    if RELEASE < kind {
+    if highest < kind {
         return Checked::Refused(UNKNOWN_KIND, n);
     }
     if !byte_fits(left_operand(kind), left) {
@@ -152,13 +156,13 @@ fn check_node(rule: &[u8], n: usize) -> Checked
 }
 
 // 3, 4 and 5 for the first n nodes.
-fn check_nodes(rule: &[u8], n: usize) -> Checked
+fn check_nodes(highest: u8, rule: &[u8], n: usize) -> Checked
     requires { ⌜ n ≤ nodeCount (now rule) ⌝ }
-    ensures { λ r. ⌜ answer r ≡ lowest (nodeCheck (now (rule .entry))) n ⌝ }
+    ensures { λ r. ⌜ answer r ≡ lowest (nodeCheck highest (now (rule .entry))) n ⌝ }
 {
     let mut i = 0;
     while i < n {
-        let node = check_node(rule, i);
+        let node = check_node(highest, rule, i);
         if let Checked::Refused(number, place) = node {
             return Checked::Refused(number, place);
         }
@@ -178,11 +182,11 @@ fn count_child(counts: &mut [u8], operand: Operand, byte: usize)
 }
 
 // At how many places of the first n nodes each node is a child.
-fn count_places(rule: &[u8], n: usize) -> [u8; 32]
-    requires { ⌜ (n ≤ nodeCount (now rule)) × (n ≤ 32) × (lowest (nodeCheck (now rule)) n ≡ fine) ⌝ }
+fn count_places(rule: &[u8], n: usize) -> [u8; MAX_NODES]
+    requires { ⌜ (n ≤ nodeCount (now rule)) × (n ≤ maxNodes) × ChildrenBelow (now rule) n ⌝ }
     ensures { λ r. ⌜ ((k : ℕ) → getD r k 0 ≡ places (now (rule .entry)) n k) ⌝ }
 {
-    let mut counts = [0u8; 32];
+    let mut counts = [0u8; MAX_NODES];
     let mut i = 0;
     while i < n {
         let kind = kind_of(rule, i);
@@ -215,7 +219,7 @@ fn check_place(rule: &[u8], k: usize, count: u8) -> Checked
 
 // 6 for all n nodes.
 fn check_places(rule: &[u8], n: usize) -> Checked
-    requires { ⌜ (n ≡ nodeCount (now rule)) × (n ≤ 32) × (lowest (nodeCheck (now rule)) n ≡ fine) ⌝ }
+    requires { ⌜ (n ≡ nodeCount (now rule)) × (n ≤ maxNodes) × ChildrenBelow (now rule) n ⌝ }
     ensures { λ r. ⌜ answer r ≡ lowest (placeCheck (now (rule .entry))) n ⌝ }
 {
     let counts = count_places(rule, n);
@@ -230,9 +234,9 @@ fn check_places(rule: &[u8], n: usize) -> Checked
     Checked::Accepted
 }
 
-// Refusals 1 to 6 of any bytes.
-pub fn check_syntax(rule: &[u8]) -> Checked
-    ensures { λ r. ⌜ answer r ≡ syntaxCheck (now (rule .entry)) ⌝ }
+// Refusals 1 to 6 of any bytes, where kinds go up to highest.
+pub fn check_syntax(highest: u8, rule: &[u8]) -> Checked
+    ensures { λ r. ⌜ answer r ≡ syntaxCheck highest (now (rule .entry)) ⌝ }
 {
     if MAX_BYTES < rule.len() {
         return Checked::Refused(TOO_LONG, 0);
@@ -244,7 +248,7 @@ pub fn check_syntax(rule: &[u8]) -> Checked
         return Checked::Refused(BAD_LENGTH, 0);
     }
     let n = rule.len() / 3;
-    let nodes = check_nodes(rule, n);
+    let nodes = check_nodes(highest, rule, n);
     if let Checked::Refused(number, place) = nodes {
         return Checked::Refused(number, place);
     }
@@ -283,11 +287,11 @@ fn check_untils(rule: &[u8], n: usize) -> Checked
     Checked::Accepted
 }
 
-// Refusals 1 to 7 of any bytes.
+// Refusals 1 to 7 of any bytes, as a first-edition rule.
 pub fn check(rule: &[u8]) -> Checked
     ensures { λ r. ⌜ answer r ≡ checked (now (rule .entry)) ⌝ }
 {
-    let syntax = check_syntax(rule);
+    let syntax = check_syntax(RELEASE, rule);
     if let Checked::Refused(number, place) = syntax {
         return Checked::Refused(number, place);
     }

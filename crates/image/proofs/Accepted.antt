@@ -11,28 +11,28 @@ use Rattle.answer.proofs.Results.{require-fine}
 use Rattle.automaton.specs.Automaton.{Automaton}
 use Rattle.automaton.specs.Tables.{Counts}
 use Rattle.answer.specs.Bytes.{numberAt}
-use Rattle.image.specs.Reader.{countsAt, stateCheck, sumCheck, transitionCheck, initialCheck, recordsCheck}
+use Rattle.image.specs.Reader.{countsAt, stateCheck, sumCheck, transitionRecordCheck, initialCheck, recordsCheck}
 use Rattle.image.specs.Calls.{checks}
 use Rattle.image.proofs.Contents.{Read, read-of, contents-fine, checks-of}
 use Rattle.image.proofs.Tables.{sum-fine}
-use Rattle.image.specs.Lookup.{machine, Readable}
-use Rattle.image.proofs.Lookup.{machine-states, step-target, initial-state}
+use Rattle.image.specs.Lookup.{imageAutomaton, Readable}
+use Rattle.image.proofs.Lookup.{automaton-states, step-target, initial-state}
 use Rattle.automaton.proofs.InRange.{InRange}
 
 module _ (c : Counts) (s t i : List ℕ) (checked : recordsCheck c s t i ≡ fine) where
-  after-sum : andThen (lowest (transitionCheck (c .states) t) (c .transitions)) (λ _. lowest (initialCheck (c .states) i) (c .initial)) ≡ fine
+  after-sum : andThen (lowest (transitionRecordCheck (c .states) t) (c .transitions)) (λ _. lowest (initialCheck (c .states) i) (c .initial)) ≡ fine
   unfolding recordsCheck
   after-sum = fine-second (sumCheck c s) _ (fine-second (lowest (stateCheck s) (c .states)) _ checked)
 
   target-below : (k : ℕ) → k < c .transitions → numberAt t (4 * k + 2) < c .states
-  unfolding transitionCheck
+  unfolding transitionRecordCheck
   target-below k lt =
-      let each = lowest-each (transitionCheck (c .states) t) (c .transitions) (fine-first (lowest (transitionCheck (c .states) t) (c .transitions)) _ after-sum) k lt in
+      let each = lowest-each (transitionRecordCheck (c .states) t) (c .transitions) (fine-first (lowest (transitionRecordCheck (c .states) t) (c .transitions)) _ after-sum) k lt in
       ltb-true _ _ (and-eq-true-iff _ _ .0 (require-fine _ 12 k each) .0)
 
   initial-below : (k : ℕ) → k < c .initial → numberAt i (2 * k) < c .states
   unfolding initialCheck
-  initial-below k lt = go k (lowest-each (initialCheck (c .states) i) (c .initial) (fine-second (lowest (transitionCheck (c .states) t) (c .transitions)) _ after-sum) k lt)
+  initial-below k lt = go k (lowest-each (initialCheck (c .states) i) (c .initial) (fine-second (lowest (transitionRecordCheck (c .states) t) (c .transitions)) _ after-sum) k lt)
     where
       go : (k : ℕ) → initialCheck (c .states) i k ≡ fine → numberAt i (2 * k) < c .states
       go zero e = ltb-true _ _ (require-fine _ 13 0 e)
@@ -55,8 +55,8 @@ known image {c} e =
     readable (read-of image (found .automaton) (found .read))
 
 -- the automaton's targets and initial numbers are states
-pub readable-in-range : (image : List ℕ) → Readable image → InRange (machine image)
+pub readable-in-range : (image : List ℕ) → Readable image → InRange (imageAutomaton image)
 readable-in-range image fine = record {
-  targets = λ q x next h. omega (arith, machine-states image, step-target image fine q x next h);
-  initial = λ q h. omega (arith, machine-states image, initial-state image fine q h);
+  targets = λ q x next h. omega (arith, automaton-states image, step-target image fine q x next h);
+  initial = λ q h. omega (arith, automaton-states image, initial-state image fine q h);
 }

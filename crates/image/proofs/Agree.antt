@@ -1,4 +1,5 @@
--- What is read from tables hangs on their used bytes alone: tables that agree there are read alike.
+-- What is read from tables hangs on their used bytes alone: tables that agree there are read alike, byte by byte.
+-- Assumes nothing.
 use mathlib.Core.Path.{_≡_, refl, sym, _∙_}
 use mathlib.Core.List.{List, [], _∷_, _++_}
 use Prim.Native.Nat.{ℕ, zero, suc, _+_, _*_, _≤_, _<_}
@@ -6,10 +7,11 @@ use native.Mathlib.Omega.{arith}
 use lib.ListN.{length, getD, take, drop, replicate, length-append, length-replicate, List·getD-append}
 use lib.Seq.{getD-drop, getD-take, length-take-le}
 use Rattle.answer.specs.Result.{accepted, Check, lowest}
+use Rattle.answer.proofs.Zeros.{zeros-at}
 use Rattle.automaton.specs.Automaton.{Automaton}
 use Rattle.automaton.specs.Tables.{Counts}
 use Rattle.answer.specs.Bytes.{numberAt}
-use Rattle.image.specs.Reader.{stateCheck, countSum, transitionCheck, initialCheck, recordsCheck, transitionsFrom, statesFrom, numbersFrom, automatonFrom, readTables}
+use Rattle.image.specs.Reader.{stateCheck, countSum, transitionRecordCheck, initialCheck, recordsCheck, transitionsFrom, statesFrom, numbersFrom, automatonFrom, readTables}
 use Rattle.image.proofs.Before.{follows}
 use Rattle.image.proofs.Tables.{Bytes, sum-first, sum-fine}
 
@@ -18,11 +20,6 @@ pub record Agree (n : ℕ) (xs ys : List ℕ) : Type 0 where
   pub at : (k : ℕ) → k < n → getD xs k 0 ≡ getD ys k 0
 
 -- a table that was made longer by zeros says the same, and is as long as it is asked to be
-zeros-at : (n k : ℕ) → _≡_ {A = ℕ} (getD (replicate n 0) k 0) 0
-zeros-at zero k = refl
-zeros-at (suc n) zero = refl
-zeros-at (suc n) (suc k) = zeros-at n k
-
 longer-at : (n : ℕ) (xs : List ℕ) (k : ℕ) → getD (xs ++ replicate n 0) k 0 ≡ getD xs k 0
 longer-at n [] k = zeros-at n k
 longer-at n (x ∷ xs) zero = refl
@@ -65,9 +62,9 @@ module _ (n : ℕ) (xs ys : List ℕ) (same : Agree (4 * n) xs ys) where
   unfolding stateCheck
   states-checked = lowest-same (stateCheck xs) (stateCheck ys) n (λ k lt. rw (numbers-agree same (4 * k) (omega arith), same .at (4 * k + 2) (omega arith), same .at (4 * k + 3) (omega arith)))
 
-  transitions-checked : (m : ℕ) → lowest (transitionCheck m xs) n ≡ lowest (transitionCheck m ys) n
-  unfolding transitionCheck
-  transitions-checked m = lowest-same (transitionCheck m xs) (transitionCheck m ys) n (λ k lt. rw (numbers-agree same (4 * k + 2) (omega arith), same .at (4 * k) (omega arith), same .at (4 * k + 1) (omega arith)))
+  transitions-checked : (m : ℕ) → lowest (transitionRecordCheck m xs) n ≡ lowest (transitionRecordCheck m ys) n
+  unfolding transitionRecordCheck
+  transitions-checked m = lowest-same (transitionRecordCheck m xs) (transitionRecordCheck m ys) n (λ k lt. rw (numbers-agree same (4 * k + 2) (omega arith), same .at (4 * k) (omega arith), same .at (4 * k + 1) (omega arith)))
 
 sums-agree : (n : ℕ) (xs ys : List ℕ) → Agree (4 * n) xs ys → countSum xs n ≡ countSum ys n
 unfolding countSum

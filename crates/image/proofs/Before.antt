@@ -1,5 +1,5 @@
--- A check before an answer: where the whole is accepted the check is fine, where the whole is refused before a value
--- the refusal is the check's.
+-- A check before an answer: an accepted whole has a fine check, and one that is refused before a value has the check's
+-- refusal. Assumes nothing.
 use mathlib.Core.Path.{_≡_, refl, sym}
 use Prim.Native.Nat.{ℕ}
 use Rattle.answer.proofs.Results.{never-both}

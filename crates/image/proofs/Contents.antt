@@ -1,4 +1,4 @@
--- What a table of contents says that 10 does not refuse, and what then decides on the image.
+-- What a table of contents says that 10 does not refuse, and what then decides on the image. Assumes nothing.
 use mathlib.Core.Path.{_≡_, refl, sym, ap, _∙_}
 use mathlib.Core.Bool.{and-eq-true-iff}
 use mathlib.Core.List.{List}
@@ -14,11 +14,11 @@ use Rattle.automaton.specs.Automaton.{Automaton}
 use Rattle.automaton.specs.Tables.{Counts, counts}
 use Rattle.answer.specs.Bytes.{filled, numberAt}
 use Rattle.image.specs.Image.{transitionsAt, initialAt, imageLength, contentsBytes}
-use Rattle.image.specs.Reader.{countsAt, contentsCheck, recordsCheck, automatonFrom, readTables, readImage}
+use Rattle.image.specs.Reader.{countsAt, contentsCheck, recordsCheck, automatonFrom, readTables, readImage, bodiesCheck}
 use Rattle.image.specs.Calls.{checks}
-use Rattle.image.specs.Steps.{Loads}
+use Rattle.image.specs.Steps.{Loads, Small}
 use Rattle.image.proofs.Before.{follows, Passes, refuses}
-use Rattle.image.proofs.Tests.{Small, counts-small}
+use Rattle.image.proofs.Tests.{counts-small}
 use Rattle.image.proofs.Tables.{counts-back}
 
 -- an image that 10 does not refuse
@@ -67,10 +67,6 @@ pub parts-loaded : (image : List ℕ) (c : Counts) (s t i : List ℕ) {s₁ t₁
     → i₁ ≡ filled i (take (2 * c .initial) (take (length image - initialAt c) (drop (initialAt c) image))) → Loads image c s t i s₁ t₁ i₁
 parts-loaded image c s t i es et ei =
     record { states-are = rw (part-whole image contentsBytes) at es; transitions-are = rw (part-whole image (transitionsAt c)) at et; initial-are = rw (part-whole image (initialAt c)) at ei }
-
--- the bodies of an image, where its contents say that they are
-abbrev pub bodiesCheck : Counts → List ℕ → Check
-bodiesCheck c image = recordsCheck c (drop contentsBytes image) (drop (transitionsAt c) image) (drop (initialAt c) image)
 
 -- what the code knows of an image that 10 does not refuse
 pub record Sized (c : Counts) (image : List ℕ) : Type 0 where

@@ -19,7 +19,7 @@ use Rattle.automaton.specs.Records.{records, stateRecord, transitionRecord, sta
 use Rattle.answer.specs.Bytes.{twoBytes, numberAt}
 use Rattle.automaton.specs.Tables.{Counts, counts, transitionCount}
 use Rattle.image.specs.Image.{entry, transitionsAt, initialAt, imageLength, contents, imageBytes, contentsBytes}
-use Rattle.image.specs.Reader.{countsAt, countsFit, contentsCheck, stateCheck, sumCheck, transitionCheck, initialCheck, recordsCheck, automatonFrom, readTables, readImage}
+use Rattle.image.specs.Reader.{countsAt, countsFit, contentsCheck, stateCheck, sumCheck, transitionRecordCheck, initialCheck, recordsCheck, automatonFrom, readTables, readImage}
 use Rattle.sets.proofs.Members.{at-in, append-in}
 use Rattle.automaton.proofs.WellFormed.{WellFormed, few-together}
 use Rattle.automaton.proofs.Records.{records-append, number-length, state-length, transition-length}
@@ -177,8 +177,8 @@ module _ (a : Automaton) (formed : WellFormed a) where
     unfolding transitionRecord
     transition-not = rw (transitions-are a) (byte-at transitionRecord 4 transition-length none (together (a .states)) rest i 1 (4 * i + 1) within (omega arith) refl)
 
-    transition-fine : transitionCheck (length (a .states)) (transitionRecords a ++ rest) i ≡ fine
-    unfolding transitionCheck
+    transition-fine : transitionRecordCheck (length (a .states)) (transitionRecords a ++ rest) i ≡ fine
+    unfolding transitionRecordCheck
     transition-fine =
         let (s, m, n) = together-in transition (a .states) (at-in none (together (a .states)) i within) in
         rw (transition-target, transition-must, transition-not, lt-ltb (transition .target) (length (a .states)) (formed .each s m .targets transition n), eq-eqb (bitAnd (transition .must) (transition .mustNot)) 0 (formed .each s m .labels transition n .disjoint))
@@ -202,7 +202,7 @@ module _ (a : Automaton) (formed : WellFormed a) where
     records-fine : recordsCheck (counts a) (stateRecords a ++ s) (transitionRecords a ++ t) (initialRecords a ++ i) ≡ fine
     unfolding recordsCheck
     records-fine =
-        rw (each-fine (stateCheck (stateRecords a ++ s)) (length (a .states)) (state-fine s), sum-fine, each-fine (transitionCheck (length (a .states)) (transitionRecords a ++ t)) (transitionCount (a .states)) (transition-fine t))
+        rw (each-fine (stateCheck (stateRecords a ++ s)) (length (a .states)) (state-fine s), sum-fine, each-fine (transitionRecordCheck (length (a .states)) (transitionRecords a ++ t)) (transitionCount (a .states)) (transition-fine t))
         (each-fine (initialCheck (length (a .states)) (initialRecords a ++ i)) (length (a .initial)) (initial-fine i))
 
     pub tables-read : readTables (counts a) (stateRecords a ++ s) (transitionRecords a ++ t) (initialRecords a ++ i) ≡ accepted a

@@ -1,4 +1,5 @@
--- What is read from contents and used bytes that stand in a row, and what a whole image is made of.
+-- What is read from contents and used bytes that stand in a row, and what a whole image is made of. Assumes nothing
+-- but that bytes are bytes.
 use mathlib.Core.Path.{_≡_, refl, sym, ap, _∙_}
 use mathlib.Core.Bool.{true}
 use mathlib.Core.List.{List, [], _++_, append-nil, append-assoc}
@@ -93,7 +94,7 @@ module _ (image : List ℕ) (bytes : Bytes image) (fits : Contents image) where
   unfolding contents
   contents-front =
       let size = fits .size in
-      rw (nine-together 1 (c .states) contentsBytes 2 (c .transitions) (transitionsAt c) 3 (c .initial) (initialAt c) (drop contentsBytes image), number-front image 16 18 (initialAt c) bytes refl (omega arith) (sym (fits .offset₃)), number-front image 14 16 (c .initial) bytes refl (omega arith) refl, number-front image 12 14 3 bytes refl (omega arith) (sym (fits .kind₃)), number-front image 10 12 (transitionsAt c) bytes refl (omega arith) (sym (fits .offset₂)), number-front image 8 10 (c .transitions) bytes refl (omega arith) refl, number-front image 6 8 2 bytes refl (omega arith) (sym (fits .kind₂)), number-front image 4 6 contentsBytes bytes refl (omega arith) (sym (fits .offset₁)), number-front image 2 4 (c .states) bytes refl (omega arith) refl, number-front image 0 2 1 bytes refl (omega arith) (sym (fits .kind₁)))
+      rw (nine-together 1 (c .states) contentsBytes 2 (c .transitions) (transitionsAt c) 3 (c .initial) (initialAt c) (drop contentsBytes image), number-front image 16 contentsBytes (initialAt c) bytes refl (omega arith) (sym (fits .offset₃)), number-front image 14 16 (c .initial) bytes refl (omega arith) refl, number-front image 12 14 3 bytes refl (omega arith) (sym (fits .kind₃)), number-front image 10 12 (transitionsAt c) bytes refl (omega arith) (sym (fits .offset₂)), number-front image 8 10 (c .transitions) bytes refl (omega arith) refl, number-front image 6 8 2 bytes refl (omega arith) (sym (fits .kind₂)), number-front image 4 6 contentsBytes bytes refl (omega arith) (sym (fits .offset₁)), number-front image 2 4 (c .states) bytes refl (omega arith) refl, number-front image 0 2 1 bytes refl (omega arith) (sym (fits .kind₁)))
 
   pub whole-image : joined c (drop contentsBytes image) (drop (transitionsAt c) image) (drop (initialAt c) image) ≡ image
   whole-image =

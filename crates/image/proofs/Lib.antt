@@ -1,4 +1,4 @@
--- What the proofs of several functions, and of the crates above, cite.
+-- What the proofs of several functions, and of the crates above, cite. Assumes nothing.
 pub mod Before
 pub mod Tests
 pub mod Sums
@@ -7,7 +7,7 @@ pub mod Stores
 pub mod Contents
 pub mod Sizes
 pub mod Tables
-pub mod Answers
+pub mod Outcomes
 pub mod Agree
 pub mod Images
 pub mod RoundTrip

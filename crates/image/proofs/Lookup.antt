@@ -1,4 +1,5 @@
--- The records of an image, and the states, transitions and initial numbers that they stand for.
+-- The records of an image, and the states, transitions and initial numbers that they stand for, entry by entry. Assumes
+-- nothing.
 use Prim.Native.Nat.{ℕ, zero, suc, _+_, _*_, _<_, _≤_}
 use mathlib.Core.Path.{_≡_, refl, sym, _∙_, ap, subst}
 use mathlib.Core.List.{List, [], _∷_}
@@ -13,11 +14,11 @@ use lib.Dec.{eqb}
 use borrow.Author.Tests.{eqb-true, eq-eqb}
 use Rattle.automaton.specs.Automaton.{Transition, State, noState, reads, Step, Accepts}
 use Rattle.sets.specs.Sets.{In}
-use Rattle.image.specs.Image.{transitionsAt, initialAt, contentsBytes}
+use Rattle.image.specs.Image.{transitionsAt, initialAt, contentsBytes, acceptingAt}
 use Rattle.answer.specs.Bytes.{numberAt}
 use Rattle.image.specs.Reader.{countsAt, countSum, transitionsFrom, statesFrom, numbersFrom, automatonFrom}
 use Rattle.image.proofs.Tables.{sum-first, states-length}
-use Rattle.image.specs.Lookup.{machine, recordAt, recordsAt, Readable}
+use Rattle.image.specs.Lookup.{imageAutomaton, AcceptingByte, recordAt, recordsAt, Readable}
 
 pub number-drop : (d : ℕ) (bytes : List ℕ) (i : ℕ) → numberAt (drop d bytes) i ≡ numberAt bytes (d + i)
 number-drop d bytes i = simp (getD-drop, add-assoc)
@@ -106,18 +107,18 @@ state-at (suc n) states transitions (suc q) lt =
 
 module _ (image : List ℕ) where
   abbrev count : ℕ
-  count = numberAt image 2
+  count = countsAt image .states
 
-  machine-state : (q : ℕ) → q < count → getD (machine image .states) q noState ≡ stateOf (drop contentsBytes image) (drop (transitionsAt (countsAt image)) image) q
+  automaton-state : (q : ℕ) → q < count → getD (imageAutomaton image .states) q noState ≡ stateOf (drop contentsBytes image) (drop (transitionsAt (countsAt image)) image) q
   unfolding automatonFrom
-  machine-state q lt = state-at count (drop contentsBytes image) (drop (transitionsAt (countsAt image)) image) q lt
+  automaton-state q lt = state-at count (drop contentsBytes image) (drop (transitionsAt (countsAt image)) image) q lt
 
-  pub machine-states : length (machine image .states) ≡ count
+  pub automaton-states : length (imageAutomaton image .states) ≡ count
   unfolding automatonFrom
-  machine-states = states-length count (drop contentsBytes image) (drop (transitionsAt (countsAt image)) image)
+  automaton-states = states-length count (drop contentsBytes image) (drop (transitionsAt (countsAt image)) image)
 
-  machine-none : (q : ℕ) → count ≤ q → getD (machine image .states) q noState ≡ noState
-  machine-none q le = List·getD-eq-default (machine image .states) noState (omega (arith, machine-states))
+  automaton-none : (q : ℕ) → count ≤ q → getD (imageAutomaton image .states) q noState ≡ noState
+  automaton-none q le = List·getD-eq-default (imageAutomaton image .states) noState (omega (arith, automaton-states))
 
   -- a transition of state q that reads x and leads to t, as a record among those of q
   pub record Taken (q x t : ℕ) : Type 0 where
@@ -126,26 +127,26 @@ module _ (image : List ℕ) where
     pub takes : reads (recordAt image (recordsAt image q + 4 * index)) x ≡ true
     pub reaches : t ≡ numberAt image (recordsAt image q + 4 * index + 2)
 
-  record-place : (q i : ℕ) → recordAt (drop (4 * countSum (drop contentsBytes image) q) (drop (transitionsAt (countsAt image)) image)) (4 * i) ≡ recordAt image (recordsAt image q + 4 * i)
-  record-place q i =
+  record-offset : (q i : ℕ) → recordAt (drop (4 * countSum (drop contentsBytes image) q) (drop (transitionsAt (countsAt image)) image)) (4 * i) ≡ recordAt image (recordsAt image q + 4 * i)
+  record-offset q i =
       record-drop (4 * countSum (drop contentsBytes image) q) (drop (transitionsAt (countsAt image)) image) (4 * i)
       ∙ record-drop (transitionsAt (countsAt image)) image (4 * countSum (drop contentsBytes image) q + 4 * i)
       ∙ ap (recordAt image) (omega arith)
 
-  pub step-inside : (q x t : ℕ) → Step (machine image) q x t → q < count
+  pub step-inside : (q x t : ℕ) → Step (imageAutomaton image) q x t → q < count
   step-inside q x t (s, h, r, e) = go (decLt q count)
     where
       go : Dec (q < count) → q < count
       go (yes l) = l
-      go (no l) = absurd (subst (λ (st : State). In s (st .transitions)) (machine-none q (omega arith)) h)
+      go (no l) = absurd (subst (λ (st : State). In s (st .transitions)) (automaton-none q (omega arith)) h)
 
-  pub step-taken : (q x t : ℕ) → Step (machine image) q x t → Taken q x t
+  pub step-taken : (q x t : ℕ) → Step (imageAutomaton image) q x t → Taken q x t
   step-taken q x t step = go step (step-inside q x t step)
     where
       made : (s : Transition) → reads s x ≡ true → t ≡ s .target
           → (i : ℕ) × (i < numberAt (drop contentsBytes image) (4 * q)) × (s ≡ recordAt (drop (4 * countSum (drop contentsBytes image) q) (drop (transitionsAt (countsAt image)) image)) (4 * i)) → Taken q x t
       made s r e (i, lt, f) =
-          let g : s ≡ recordAt image (recordsAt image q + 4 * i) = f ∙ record-place q i in
+          let g : s ≡ recordAt image (recordsAt image q + 4 * i) = f ∙ record-offset q i in
           record {
             index = i;
             below = rw (number-drop contentsBytes image (4 * q)) at lt;
@@ -153,56 +154,56 @@ module _ (image : List ℕ) where
             reaches = e ∙ ap (λ (s : Transition). s .target) g;
           }
 
-      go : Step (machine image) q x t → q < count → Taken q x t
-      go (s, h, r, e) lt = made s r e (listed-entry every-record _ _ s (subst (λ (st : State). In s (st .transitions)) (machine-state q lt) h))
+      go : Step (imageAutomaton image) q x t → q < count → Taken q x t
+      go (s, h, r, e) lt = made s r e (listed-entry every-record _ _ s (subst (λ (st : State). In s (st .transitions)) (automaton-state q lt) h))
 
-  pub taken-step : (q x t : ℕ) → q < count → Taken q x t → Step (machine image) q x t
+  pub taken-step : (q x t : ℕ) → q < count → Taken q x t → Step (imageAutomaton image) q x t
   taken-step q x t lt h = (
     recordAt image (recordsAt image q + 4 * h .index),
-    subst (λ (st : State). In (recordAt image (recordsAt image q + 4 * h .index)) (st .transitions)) (sym (machine-state q lt))
-        (rw (record-place q (h .index)) at (entry-listed every-record (numberAt (drop contentsBytes image) (4 * q)) (drop (4 * countSum (drop contentsBytes image) q) (drop (transitionsAt (countsAt image)) image)) (h .index) (rw (number-drop contentsBytes image (4 * q)) (h .below)))),
+    subst (λ (st : State). In (recordAt image (recordsAt image q + 4 * h .index)) (st .transitions)) (sym (automaton-state q lt))
+        (rw (record-offset q (h .index)) at (entry-listed every-record (numberAt (drop contentsBytes image) (4 * q)) (drop (4 * countSum (drop contentsBytes image) q) (drop (transitionsAt (countsAt image)) image)) (h .index) (rw (number-drop contentsBytes image (4 * q)) (h .below)))),
     h .takes,
     h .reaches,
   )
 
   -- the accepting byte of state q
-  byte-place : (q : ℕ) → getD (drop contentsBytes image) (4 * q + 2) 0 ≡ getD image (20 + 4 * q) 0
-  byte-place q = getD-drop contentsBytes image (4 * q + 2) 0 ∙ ap (λ (i : ℕ). getD image i 0) (omega arith)
+  byte-offset : (q : ℕ) → getD (drop contentsBytes image) (4 * q + 2) 0 ≡ getD image (acceptingAt + 4 * q) 0
+  byte-offset q = getD-drop contentsBytes image (4 * q + 2) 0 ∙ ap (λ (i : ℕ). getD image i 0) (omega arith)
 
-  pub accepts-inside : (q : ℕ) → Accepts (machine image) q → q < count
+  pub accepts-inside : (q : ℕ) → Accepts (imageAutomaton image) q → q < count
   accepts-inside q h = go (decLt q count)
     where
       go : Dec (q < count) → q < count
       go (yes l) = l
       go (no l) =
-          let f : noState .accepting ≡ true = subst (λ (st : State). st .accepting ≡ true) (machine-none q (omega arith)) h in
+          let f : noState .accepting ≡ true = subst (λ (st : State). st .accepting ≡ true) (automaton-none q (omega arith)) h in
           let z : _≡_ {A = ℕ} 0 1 = cc in
           omega arith
 
-  pub accepts-byte : (q : ℕ) → Accepts (machine image) q → getD image (20 + 4 * q) 0 ≡ 1
+  pub accepts-byte : (q : ℕ) → Accepts (imageAutomaton image) q → AcceptingByte image q
   accepts-byte q h =
-      sym (byte-place q) ∙ eqb-true (getD (drop contentsBytes image) (4 * q + 2) 0) 1 (subst (λ (st : State). st .accepting ≡ true) (machine-state q (accepts-inside q h)) h)
+      sym (byte-offset q) ∙ eqb-true (getD (drop contentsBytes image) (4 * q + 2) 0) 1 (subst (λ (st : State). st .accepting ≡ true) (automaton-state q (accepts-inside q h)) h)
 
-  pub byte-accepts : (q : ℕ) → q < count → getD image (20 + 4 * q) 0 ≡ 1 → Accepts (machine image) q
+  pub byte-accepts : (q : ℕ) → q < count → AcceptingByte image q → Accepts (imageAutomaton image) q
   byte-accepts q lt e =
-      subst (λ (st : State). st .accepting ≡ true) (sym (machine-state q lt)) (eq-eqb (getD (drop contentsBytes image) (4 * q + 2) 0) 1 (byte-place q ∙ e))
+      subst (λ (st : State). st .accepting ≡ true) (sym (automaton-state q lt)) (eq-eqb (getD (drop contentsBytes image) (4 * q + 2) 0) 1 (byte-offset q ∙ e))
 
   -- the initial numbers
-  pub initial-number : (q : ℕ) → In q (machine image .initial) → (i : ℕ) × (i < numberAt image 14) × (q ≡ numberAt image (initialAt (countsAt image) + 2 * i))
+  pub initial-number : (q : ℕ) → In q (imageAutomaton image .initial) → (i : ℕ) × (i < countsAt image .initial) × (q ≡ numberAt image (initialAt (countsAt image) + 2 * i))
   unfolding automatonFrom
-  initial-number q h = go (listed-entry every-number (numberAt image 14) (drop (initialAt (countsAt image)) image) q h)
+  initial-number q h = go (listed-entry every-number (countsAt image .initial) (drop (initialAt (countsAt image)) image) q h)
     where
-      go : (i : ℕ) × (i < numberAt image 14) × (q ≡ numberAt (drop (initialAt (countsAt image)) image) (2 * i)) → (i : ℕ) × (i < numberAt image 14) × (q ≡ numberAt image (initialAt (countsAt image) + 2 * i))
+      go : (i : ℕ) × (i < countsAt image .initial) × (q ≡ numberAt (drop (initialAt (countsAt image)) image) (2 * i)) → (i : ℕ) × (i < countsAt image .initial) × (q ≡ numberAt image (initialAt (countsAt image) + 2 * i))
       go (i, lt, e) = (i, lt, e ∙ number-drop (initialAt (countsAt image)) image (2 * i))
 
-  pub number-initial : (i : ℕ) → i < numberAt image 14 → In (numberAt image (initialAt (countsAt image) + 2 * i)) (machine image .initial)
+  pub number-initial : (i : ℕ) → i < countsAt image .initial → In (numberAt image (initialAt (countsAt image) + 2 * i)) (imageAutomaton image .initial)
   unfolding automatonFrom
-  number-initial i lt = rw (number-drop (initialAt (countsAt image)) image (2 * i)) at (entry-listed every-number (numberAt image 14) (drop (initialAt (countsAt image)) image) i lt)
+  number-initial i lt = rw (number-drop (initialAt (countsAt image)) image (2 * i)) at (entry-listed every-number (countsAt image .initial) (drop (initialAt (countsAt image)) image) i lt)
 
-  -- what the checks say of these places
+  -- what the checks say of these bytes
   module _ (fine : Readable image) where
     -- a record of state q lies among all records, and its target is a state
-    pub record-inside : (q i : ℕ) → q < count → i < numberAt image (contentsBytes + 4 * q) → countSum (drop contentsBytes image) q + i < numberAt image 8
+    pub record-inside : (q i : ℕ) → q < count → i < numberAt image (contentsBytes + 4 * q) → countSum (drop contentsBytes image) q + i < countsAt image .transitions
     unfolding countSum
     record-inside q i lq li =
         omega (arith, count-up (drop contentsBytes image) (suc q) count lq, fine .sum, number-drop contentsBytes image (4 * q))
@@ -216,16 +217,16 @@ module _ (image : List ℕ) where
         let e : transitionsAt (countsAt image) + (4 * (countSum (drop contentsBytes image) q + i) + 2) ≡ recordsAt image q + 4 * i + 2 = omega arith in
         subst (λ (j : ℕ). numberAt image j < count) e (rw (number-drop (transitionsAt (countsAt image)) image (4 * (countSum (drop contentsBytes image) q + i) + 2)) at (fine .targets (countSum (drop contentsBytes image) q + i) (record-inside q i lq li)))
 
-    pub step-target : (q x t : ℕ) → Step (machine image) q x t → t < count
+    pub step-target : (q x t : ℕ) → Step (imageAutomaton image) q x t → t < count
     step-target q x t step =
         let h = step-taken q x t step in
         rw (h .reaches) (target-inside q (h .index) (step-inside q x t step) (h .below))
 
-    pub initial-inside : (i : ℕ) → i < numberAt image 14 → numberAt image (initialAt (countsAt image) + 2 * i) < count
+    pub initial-inside : (i : ℕ) → i < countsAt image .initial → numberAt image (initialAt (countsAt image) + 2 * i) < count
     initial-inside i lt = rw (number-drop (initialAt (countsAt image)) image (2 * i)) at (fine .starts i lt)
 
-    pub initial-state : (q : ℕ) → In q (machine image .initial) → q < count
+    pub initial-state : (q : ℕ) → In q (imageAutomaton image .initial) → q < count
     initial-state q h = go (initial-number q h)
       where
-        go : (i : ℕ) × (i < numberAt image 14) × (q ≡ numberAt image (initialAt (countsAt image) + 2 * i)) → q < count
+        go : (i : ℕ) × (i < countsAt image .initial) × (q ≡ numberAt image (initialAt (countsAt image) + 2 * i)) → q < count
         go (i, lt, e) = rw e (initial-inside i lt)

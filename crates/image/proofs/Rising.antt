@@ -1,4 +1,5 @@
--- The loop over the initial numbers: none before i is refused, and the next is to be one above the one before.
+-- The loop over the initial numbers: none before i is refused, and the next is to be one above the one before. Assumes
+-- nothing.
 use mathlib.Core.Path.{_≡_, refl, sym}
 use mathlib.Core.List.{List}
 use Prim.Native.Nat.{ℕ, _+_, _*_, _≤_, _<_}

@@ -13,13 +13,13 @@ use Rattle.automaton.specs.Tables.{Counts, counts, outcome, tableCheck}
 use Rattle.answer.specs.Bytes.{filled}
 use Rattle.image.specs.Image.{transitionsAt, initialAt, imageBytes, contentsBytes}
 use Rattle.image.specs.Reader.{countsAt, countsFit, contentsCheck, recordsCheck, automatonFrom, readTables, readImage}
-use Rattle.image.specs.Calls.{buffer, bufferCheck, writes, reads}
+use Rattle.image.specs.Calls.{buffer, bufferCheck, writes, readInto}
 use Rattle.image.proofs.Before.{follows, passes}
 use Rattle.image.proofs.Tests.{counts-small, small-fits}
 use Rattle.image.proofs.Contents.{read-of, contents-fine}
 use Rattle.image.proofs.Tables.{Bytes, Passed, counts-back, states-back, transitions-back, initial-back, image-back}
 use Rattle.image.proofs.Agree.{longer, longer-agrees, longer-bytes, longer-room, front-agrees, tables-agree}
-use Rattle.image.proofs.Answers.{writes-of, written-front, reads-of, filled-long, long-fine, fine-long, long-passed, body-passed}
+use Rattle.image.proofs.Outcomes.{writes-of, written-front, reads-of, filled-long, long-fine, fine-long, long-passed, body-passed}
 use Rattle.image.proofs.Images.{joined-read, whole-image}
 
 -- Demand 2, its second half: reading an image and writing what was read gives that image again, byte by byte. So no two
@@ -56,8 +56,8 @@ read-write c s t i a bs bt bi fit e =
 -- behind them.
 pub reading-back : (c : Counts) (s t i before after : List ℕ) (n : ℕ) → Bytes s → Bytes t → Bytes i → writes c s t i before ≡ buffer (accepted n) after
     → (s₁ t₁ i₁ : List ℕ) → tableCheck s₁ t₁ i₁ ≡ fine
-    → reads (take n after) s₁ t₁ i₁ ≡ outcome (accepted c) (filled s₁ (take (4 * c .states) s)) (filled t₁ (take (4 * c .transitions) t)) (filled i₁ (take (2 * c .initial) i))
-unfolding writes reads readTables
+    → readInto (take n after) s₁ t₁ i₁ ≡ outcome (accepted c) (filled s₁ (take (4 * c .states) s)) (filled t₁ (take (4 * c .transitions) t)) (filled i₁ (take (2 * c .initial) i))
+unfolding writes readInto readTables
 reading-back c s t i before after n bs bt bi e s₁ t₁ i₁ long =
     let done = writes-of _ n before after e in
     let a = done .automaton in
@@ -102,10 +102,10 @@ module _ (image s t i : List ℕ) (a : Automaton) (bytes : Bytes image) (e : rea
 
 -- The twin for the two calls: where read answers counts, writing the tables that it left into any buffer that is long
 -- enough answers the image's length, puts the image's own bytes first, and leaves what stood behind them.
-pub writing-back : (image s t i s₁ t₁ i₁ : List ℕ) (c : Counts) → Bytes image → reads image s t i ≡ outcome (accepted c) s₁ t₁ i₁
+pub writing-back : (image s t i s₁ t₁ i₁ : List ℕ) (c : Counts) → Bytes image → readInto image s t i ≡ outcome (accepted c) s₁ t₁ i₁
     → (before : List ℕ) → bufferCheck before ≡ fine
     → writes c s₁ t₁ i₁ before ≡ buffer (accepted (length image)) (image ++ drop (length image) before)
-unfolding reads
+unfolding readInto
 writing-back image s t i s₁ t₁ i₁ c bytes e before room =
     let done = reads-of _ c s t i s₁ t₁ i₁ e in
     let a = done .automaton in

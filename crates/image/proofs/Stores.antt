@@ -1,4 +1,4 @@
--- What stores leave in a slice: copies, zeros, and parts that were lent.
+-- What stores leave in a slice: copies, zeros, and parts that were lent. Assumes nothing.
 use mathlib.Core.Path.{_≡_, refl, _∙_}
 use mathlib.Core.List.{List, [], _∷_, _++_, append-nil, append-assoc}
 use Prim.Native.Nat.{ℕ, _+_, _-_, _*_, _/_, _%_, _≤_, _<_}
@@ -27,7 +27,7 @@ module _ (p rest xs : List ℕ) (a : ℕ) (size : length p ≡ a) (whole : xs �
   pub lent-part : midOf a (length xs - a) xs ≡ rest
   lent-part = rw (whole, drop-at p rest a size) (take-all (length (p ++ rest) - a) rest (rw (length-append p rest, size) (omega arith)))
 
-  -- and the whole, once ys came back in its place
+  -- and the whole, once ys came back instead
   pub lent-back : (ys : List ℕ) → putMid a (length xs - a) xs ys ≡ p ++ ys
   lent-back ys =
       rw (whole, take-at p rest a size, drop-at p rest a size, drop-of-length-le rest {i = length (p ++ rest) - a} (rw (length-append p rest, size) (omega arith)), append-nil)

@@ -1,4 +1,4 @@
--- The loop over the state records: none before i is refused, and the total is that of their counts.
+-- The loop over the state records: none before i is refused, and the total is that of their counts. Assumes nothing.
 use mathlib.Core.Path.{_≡_, refl}
 use mathlib.Core.Bool.{and-eq-true-iff}
 use mathlib.Core.List.{List}

@@ -1,4 +1,4 @@
--- The records of an automaton that was read from three tables are the tables' own bytes.
+-- The records of an automaton that was read from three tables are the tables' own bytes. Assumes that these are bytes.
 use mathlib.Core.Path.{_≡_, refl, sym, ap, _∙_}
 use mathlib.Core.Bool.{cond}
 use mathlib.Core.List.{List, [], _∷_}

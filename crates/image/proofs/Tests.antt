@@ -1,4 +1,4 @@
--- From the tests that the code makes to the checks of tables and images.
+-- From the tests that the code makes to the checks of tables and images, in their order. Assumes nothing.
 use mathlib.Core.Path.{_≡_, refl}
 use mathlib.Core.Bool.{Bool, true, false, not, _&&_, and-eq-true-iff}
 use mathlib.Core.List.{List}
@@ -11,9 +11,10 @@ use borrow.Author.Tests.{leb-true, lt-ltb, le-ltb, le-leb, lt-leb, eq-eqb, ne-eq
 use Rattle.answer.specs.Result.{Result, accepted, refused, andThen, Check, fine, lowest}
 use Rattle.automaton.specs.Limits.{maxStates, maxOfState, maxTransitions, maxInitial}
 use Rattle.automaton.specs.Tables.{Counts, countsOf}
+use Rattle.image.specs.Steps.{Small}
 use Rattle.image.specs.Image.{transitionsAt, initialAt, imageLength, contentsBytes}
 use Rattle.answer.specs.Bytes.{numberAt}
-use Rattle.image.specs.Reader.{countsAt, countsFit, contentsCheck, stateCheck, sumCheck, transitionCheck, initialCheck, recordsCheck}
+use Rattle.image.specs.Reader.{countsAt, countsFit, contentsCheck, stateCheck, sumCheck, transitionRecordCheck, initialCheck, recordsCheck}
 
 -- two orders and a test in a row: the first that fails, or the last
 module _ (a x b y : ℕ) (r : Bool) where
@@ -37,12 +38,6 @@ module _ (x a y b z d : ℕ) where
 
     pub third-agrees : {y₁ z₁ : ℕ} → y₁ ≡ y → y₁ ≡ b → z₁ ≡ z → eqb z₁ d ≡ (eqb x a && (eqb y b && eqb z d))
     third-agrees f second g = rw (← e, ← f, ← g, eq-eqb x₁ a first, eq-eqb _ b second)
-
--- what it says of counts that they fit
-pub record Small (c : Counts) : Type 0 where
-  pub states : c .states ≤ maxStates
-  pub transitions : c .transitions ≤ maxTransitions
-  pub initial : c .initial ≤ maxInitial
 
 pub counts-small : (c : Counts) → countsFit c ≡ true → Small c
 unfolding countsFit
@@ -117,17 +112,17 @@ module _ (s : List ℕ) (i : ℕ) where
 
 -- transition record i, in an automaton of n states
 module _ (n : ℕ) (t : List ℕ) (i : ℕ) where
-  pub target-wrong : n ≤ numberAt t (4 * i + 2) → refused 12 i ≡ transitionCheck n t i
-  unfolding transitionCheck
+  pub target-wrong : n ≤ numberAt t (4 * i + 2) → refused 12 i ≡ transitionRecordCheck n t i
+  unfolding transitionRecordCheck
   target-wrong le = rw (le-ltb (numberAt t (4 * i + 2)) n le)
 
   module _ (target : numberAt t (4 * i + 2) < n) where
-    pub shared-mark : (bitAnd (getD t (4 * i) 0) (getD t (4 * i + 1) 0) ≡ 0 → ⊥) → refused 12 i ≡ transitionCheck n t i
-    unfolding transitionCheck
-    shared-mark ne = rw (lt-ltb (numberAt t (4 * i + 2)) n target, ne-eqb (bitAnd (getD t (4 * i) 0) (getD t (4 * i + 1) 0)) 0 ne)
+    pub shared-proposition : (bitAnd (getD t (4 * i) 0) (getD t (4 * i + 1) 0) ≡ 0 → ⊥) → refused 12 i ≡ transitionRecordCheck n t i
+    unfolding transitionRecordCheck
+    shared-proposition ne = rw (lt-ltb (numberAt t (4 * i + 2)) n target, ne-eqb (bitAnd (getD t (4 * i) 0) (getD t (4 * i + 1) 0)) 0 ne)
 
-    pub transition-fits : bitAnd (getD t (4 * i) 0) (getD t (4 * i + 1) 0) ≡ 0 → fine ≡ transitionCheck n t i
-    unfolding transitionCheck
+    pub transition-fits : bitAnd (getD t (4 * i) 0) (getD t (4 * i + 1) 0) ≡ 0 → fine ≡ transitionRecordCheck n t i
+    unfolding transitionRecordCheck
     transition-fits e = rw (lt-ltb (numberAt t (4 * i + 2)) n target, eq-eqb (bitAnd (getD t (4 * i) 0) (getD t (4 * i + 1) 0)) 0 e)
 
 -- what initial number i is to be at least
@@ -157,9 +152,9 @@ module _ (c : Counts) (s t i : List ℕ) where
   abbrev stateAnswers : Check
   stateAnswers = andThen (lowest (stateCheck s) (c .states)) (λ _. sumCheck c s)
 
-  regroup : recordsCheck c s t i ≡ andThen stateAnswers (λ _. andThen (lowest (transitionCheck (c .states) t) (c .transitions)) (λ _. lowest (initialCheck (c .states) i) (c .initial)))
+  regroup : recordsCheck c s t i ≡ andThen stateAnswers (λ _. andThen (lowest (transitionRecordCheck (c .states) t) (c .transitions)) (λ _. lowest (initialCheck (c .states) i) (c .initial)))
   unfolding recordsCheck
-  regroup = go (lowest (stateCheck s) (c .states)) (sumCheck c s) (andThen (lowest (transitionCheck (c .states) t) (c .transitions)) (λ _. lowest (initialCheck (c .states) i) (c .initial)))
+  regroup = go (lowest (stateCheck s) (c .states)) (sumCheck c s) (andThen (lowest (transitionRecordCheck (c .states) t) (c .transitions)) (λ _. lowest (initialCheck (c .states) i) (c .initial)))
     where
       go : (first second rest : Check) → andThen first (λ _. andThen second (λ _. rest)) ≡ andThen (andThen first (λ _. second)) (λ _. rest)
       go (accepted u) second rest = refl
@@ -169,8 +164,8 @@ module _ (c : Counts) (s t i : List ℕ) where
   states-refused e = rw (regroup, ← e)
 
   module _ (fine-states : stateAnswers ≡ fine) where
-    pub transitions-refused : {number place : ℕ} → refused number place ≡ lowest (transitionCheck (c .states) t) (c .transitions) → refused number place ≡ recordsCheck c s t i
+    pub transitions-refused : {number place : ℕ} → refused number place ≡ lowest (transitionRecordCheck (c .states) t) (c .transitions) → refused number place ≡ recordsCheck c s t i
     transitions-refused e = rw (regroup, fine-states, ← e)
 
-    pub initial-left : lowest (transitionCheck (c .states) t) (c .transitions) ≡ fine → lowest (initialCheck (c .states) i) (c .initial) ≡ recordsCheck c s t i
+    pub initial-left : lowest (transitionRecordCheck (c .states) t) (c .transitions) ≡ fine → lowest (initialCheck (c .states) i) (c .initial) ≡ recordsCheck c s t i
     initial-left e = rw (regroup, fine-states, e)

@@ -8,15 +8,15 @@ use Rattle.automaton.specs.Automaton.{Automaton}
 use Rattle.automaton.specs.Records.{stateRecords, transitionRecords, initialRecords}
 use Rattle.automaton.specs.Tables.{countsOf, Counts, counts, Outcome, outcome, tableCheck}
 use Rattle.answer.specs.Bytes.{filled}
-use Rattle.image.specs.declared.Written.{Written}
-use Rattle.image.specs.declared.Written.the-variants.{Length, Refused}
+use Rattle.image.specs.declared.WrittenImage.{WrittenImage}
+use Rattle.image.specs.declared.WrittenImage.the-variants.{Length, Refused}
 use Rattle.image.specs.declared.Loaded.{Loaded}
-use Rattle.image.specs.declared.Loaded.the-variants.{Counted, Rejected}
+use Rattle.image.specs.declared.Loaded.the-variants.{Counted, Refused as NotLoaded}
 use Rattle.image.specs.Image.{imageBytes, largestImage}
 use Rattle.image.specs.Reader.{countsFit, readTables, readImage}
 
 -- what the answer of write says in document 01's numbers and values
-abbrev pub writeAnswer : Written → Result ℕ
+abbrev pub writeAnswer : WrittenImage → Result ℕ
 writeAnswer (Length n) = accepted n
 writeAnswer (Refused number place) = refused number place
 
@@ -35,29 +35,35 @@ bufferCheck image = require (leb largestImage (length image)) 25 0
 -- the buffer with the image at its start, and behind it what was there before; a refusal changes no byte (01, Numbers
 -- that come from the state, last paragraph, sentence 4)
 abbrev pub written : Result Automaton → (image : List ℕ) → Buffer
-written (accepted a) image = buffer (accepted (length (imageBytes a))) (imageBytes a ++ drop (length (imageBytes a)) image)
+written (accepted a) image =
+    buffer (accepted (length (imageBytes a))) (imageBytes a ++ drop (length (imageBytes a)) image)
 written (refused number place) image = buffer (refused number place) image
+
+-- 10 of the counts, then 11 to 13 of the tables
+abbrev pub readCounted : Counts → (states transitions initial : List ℕ) → Result Automaton
+readCounted c s t i = andThen (require (countsFit c) 10 0) (λ _. readTables c s t i)
 
 -- 25 of the tables and the buffer, then 10 of the counts, then 11 to 13 of the tables (01, Numbers that come from the
 -- input, the sentence on the writer)
 unfoldable pub writes : Counts → (states transitions initial image : List ℕ) → Buffer
 writes c s t i image =
-    written (andThen (tableCheck s t i) (λ _. andThen (bufferCheck image) (λ _. andThen (require (countsFit c) 10 0) (λ _. readTables c s t i)))) image
+    written (andThen (tableCheck s t i) (λ _. andThen (bufferCheck image) (λ _. readCounted c s t i))) image
 
 -- what the answer of read says in document 01's numbers and values
 abbrev pub readAnswer : Loaded → Result Counts
 readAnswer (Counted states transitions initial) = accepted (countsOf states transitions initial)
-readAnswer (Rejected number place) = refused number place
+readAnswer (NotLoaded number place) = refused number place
 
--- the counts, the records, and zero in all unused places; a refusal leaves all as it was
+-- the counts, the records, and zero in all unused bytes; a refusal leaves all as it was
 abbrev pub loaded : Result Automaton → (states transitions initial : List ℕ) → Outcome
 loaded (accepted a) s t i =
-    outcome (accepted (counts a)) (filled s (stateRecords a)) (filled t (transitionRecords a)) (filled i (initialRecords a))
+    outcome (accepted (counts a))
+    (filled s (stateRecords a)) (filled t (transitionRecords a)) (filled i (initialRecords a))
 loaded (refused number place) s t i = outcome (refused number place) s t i
 
 -- 25, then 10 to 13
-unfoldable pub reads : (image states transitions initial : List ℕ) → Outcome
-reads image s t i = loaded (andThen (tableCheck s t i) (λ _. readImage image)) s t i
+unfoldable pub readInto : (image states transitions initial : List ℕ) → Outcome
+readInto image s t i = loaded (andThen (tableCheck s t i) (λ _. readImage image)) s t i
 
 -- what the call check says of an image: its counts, or its refusal by 10 to 13
 unfoldable pub checks : List ℕ → Result Counts

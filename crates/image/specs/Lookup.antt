@@ -2,30 +2,40 @@
 use Prim.Native.Nat.{ℕ, _+_, _*_, _<_, _≤_}
 use mathlib.Core.Path.{_≡_}
 use mathlib.Core.List.{List}
-use lib.ListN.{getD, length, drop}
+use lib.ListN.{getD, length}
 use Rattle.answer.specs.Bytes.{numberAt}
 use Rattle.automaton.specs.Automaton.{Transition, Automaton}
 use Rattle.automaton.specs.Limits.{maxStates}
-use Rattle.image.specs.Image.{transitionsAt, initialAt, imageLength, contentsBytes}
+use Rattle.image.specs.Image.{transitionsAt, imageLength, contentsBytes, acceptingAt, statesBody, transitionsBody, initialBody}
 use Rattle.image.specs.Reader.{countsAt, countSum, automatonFrom}
 
 -- the automaton of the image
-abbrev pub machine : List ℕ → Automaton
-machine image =
-    automatonFrom (countsAt image) (drop contentsBytes image) (drop (transitionsAt (countsAt image)) image) (drop (initialAt (countsAt image)) image)
+abbrev pub imageAutomaton : List ℕ → Automaton
+imageAutomaton image =
+    automatonFrom (countsAt image) (statesBody image) (transitionsBody (countsAt image) image) (initialBody (countsAt image) image)
 
 -- the transition record at a byte of the image
 abbrev pub recordAt : List ℕ → ℕ → Transition
 recordAt image at = record { must = getD image at 0; mustNot = getD image (at + 1) 0; target = numberAt image (at + 2) }
 
+-- the accepting byte of state q is 1
+abbrev pub AcceptingByte : List ℕ → ℕ → Type 0
+AcceptingByte image q = getD image (acceptingAt + 4 * q) 0 ≡ 1
+
+-- how many transitions state q has
+abbrev pub transitionCountOf : List ℕ → ℕ → ℕ
+transitionCountOf image q = numberAt image (contentsBytes + 4 * q)
+
 -- where the transition records of state q begin
 abbrev pub recordsAt : List ℕ → ℕ → ℕ
-recordsAt image q = transitionsAt (countsAt image) + 4 * countSum (drop contentsBytes image) q
+recordsAt image q = transitionsAt (countsAt image) + 4 * countSum (statesBody image) q
 
 -- what is known of an image that is not refused by 10 to 13
 pub record Readable (image : List ℕ) : Type 0 where
-  pub few : numberAt image 2 ≤ maxStates
+  pub few : countsAt image .states ≤ maxStates
   pub size : length image ≡ imageLength (countsAt image)
-  pub sum : countSum (drop contentsBytes image) (numberAt image 2) ≡ numberAt image 8
-  pub targets : (i : ℕ) → i < numberAt image 8 → numberAt (drop (transitionsAt (countsAt image)) image) (4 * i + 2) < numberAt image 2
-  pub starts : (i : ℕ) → i < numberAt image 14 → numberAt (drop (initialAt (countsAt image)) image) (2 * i) < numberAt image 2
+  pub sum : countSum (statesBody image) (countsAt image .states) ≡ countsAt image .transitions
+  pub targets : (i : ℕ) → i < countsAt image .transitions
+      → numberAt (transitionsBody (countsAt image) image) (4 * i + 2) < countsAt image .states
+  pub starts : (i : ℕ) → i < countsAt image .initial
+      → numberAt (initialBody (countsAt image) image) (2 * i) < countsAt image .states

@@ -10,29 +10,56 @@ use Rattle.answer.specs.Result.{Result, accepted, andThen, Check, require, lowe
 use Rattle.automaton.specs.Automaton.{Transition, State, Automaton}
 use Rattle.automaton.specs.Limits.{maxStates, maxOfState, maxTransitions, maxInitial}
 use Rattle.automaton.specs.Tables.{Counts}
-use Rattle.image.specs.Image.{transitionsAt, initialAt, imageLength, contentsBytes}
+use Rattle.image.specs.Image.{entryBytes, contentsBytes, stateCountAt, transitionCountAt, initialCountAt}
+use Rattle.image.specs.Image.{transitionsAt, initialAt, imageLength, statesBody, transitionsBody, initialBody}
 
 -- the counts that an image's contents give
 abbrev pub countsAt : List ℕ → Counts
-countsAt image = record { states = numberAt image 2; transitions = numberAt image 8; initial = numberAt image 14 }
+countsAt image = record {
+  states = numberAt image stateCountAt;
+  transitions = numberAt image transitionCountAt;
+  initial = numberAt image initialCountAt;
+}
 
 -- whether 10 lets counts pass: those of the states, the transitions and the initial numbers are within their limits
 -- (01, Numbers that come from the input, 10)
 unfoldable pub countsFit : Counts → Bool
 countsFit c = leb (c .states) maxStates && (leb (c .transitions) maxTransitions && leb (c .initial) maxInitial)
 
+-- whether 10 lets the kinds of the three entries pass
+abbrev pub kindsFit : List ℕ → Bool
+kindsFit image =
+    eqb (numberAt image 0) 1 && (eqb (numberAt image entryBytes) 2 && eqb (numberAt image (2 * entryBytes)) 3)
+
+-- and their offsets, where the second and the third body are to begin there
+abbrev pub offsetsFit : List ℕ → (transitions initial : ℕ) → Bool
+offsetsFit image transitions initial =
+    eqb (numberAt image 4) contentsBytes
+    && (eqb (numberAt image (entryBytes + 4)) transitions && eqb (numberAt image (2 * entryBytes + 4)) initial)
+
+-- and where the bodies begin and end
+abbrev pub bodiesFit : List ℕ → Bool
+bodiesFit image =
+    offsetsFit image (transitionsAt (countsAt image)) (initialAt (countsAt image))
+    && eqb (length image) (imageLength (countsAt image))
+
 -- 10, at place 0: an image too short for its table of contents, one whose contents have other kinds than 1, 2, 3,
 -- counts that do not fit or offsets that are not where the bodies begin, or one that does not end with its last body
 -- (01, Numbers that come from the input, 10)
 unfoldable pub contentsCheck : List ℕ → Check
 contentsCheck image =
-    require (leb contentsBytes (length image) && ((eqb (numberAt image 0) 1 && (eqb (numberAt image 6) 2 && eqb (numberAt image 12) 3)) && (countsFit (countsAt image) && ((eqb (numberAt image 4) contentsBytes && (eqb (numberAt image 10) (transitionsAt (countsAt image)) && eqb (numberAt image 16) (initialAt (countsAt image)))) && eqb (length image) (imageLength (countsAt image)))))) 10 0
+    require (leb contentsBytes (length image) && (kindsFit image && (countsFit (countsAt image) && bodiesFit image))) 10 0
 
--- 11, at place i: state record i counts more transitions than a state may have, has neither 0 nor 1 as its accepting
--- byte, or does not end in 0 (01, Numbers that come from the input, 11)
+-- whether 11 lets state record i pass: it counts no more transitions than a state may have, has 0 or 1 as its accepting
+-- byte, and ends in 0 (01, Numbers that come from the input, 11)
+abbrev pub stateFits : List ℕ → ℕ → Bool
+stateFits states i =
+    leb (numberAt states (4 * i)) maxOfState
+    && (leb (getD states (4 * i + 2) 0) 1 && eqb (getD states (4 * i + 3) 0) 0)
+
+-- 11, at place i: state record i does not fit
 unfoldable pub stateCheck : List ℕ → ℕ → Check
-stateCheck states i =
-    require (leb (numberAt states (4 * i)) maxOfState && (leb (getD states (4 * i + 2) 0) 1 && eqb (getD states (4 * i + 3) 0) 0)) 11 i
+stateCheck states i = require (stateFits states i) 11 i
 
 -- the transition counts of the first n state records, added up
 unfoldable pub countSum : List ℕ → ℕ → ℕ
@@ -44,38 +71,48 @@ countSum states (suc n) = countSum states n + numberAt states (4 * n)
 abbrev pub sumCheck : Counts → List ℕ → Check
 sumCheck c states = require (eqb (countSum states (c .states)) (c .transitions)) 11 (c .states)
 
--- 12, at place i: transition record i leads to no state, or asks for a proposition that it forbids (01, Numbers that
--- come from the input, 12)
-unfoldable pub transitionCheck : (stateCount : ℕ) → List ℕ → ℕ → Check
-transitionCheck stateCount transitions i =
-    require (ltb (numberAt transitions (4 * i + 2)) stateCount && eqb (bitAnd (getD transitions (4 * i) 0) (getD transitions (4 * i + 1) 0)) 0) 12 i
+-- whether 12 lets transition record i pass: it leads to a state, and asks for no proposition that it forbids (01,
+-- Numbers that come from the input, 12)
+abbrev pub transitionFits : (stateCount : ℕ) → List ℕ → ℕ → Bool
+transitionFits stateCount transitions i =
+    ltb (numberAt transitions (4 * i + 2)) stateCount
+    && eqb (bitAnd (getD transitions (4 * i) 0) (getD transitions (4 * i + 1) 0)) 0
+
+-- 12, at place i: transition record i does not fit
+unfoldable pub transitionRecordCheck : (stateCount : ℕ) → List ℕ → ℕ → Check
+transitionRecordCheck stateCount transitions i = require (transitionFits stateCount transitions i) 12 i
 
 -- 13, at place i: initial number i is no state's, or the one before it is as high or higher (01, Numbers that come
 -- from the input, 13)
 unfoldable pub initialCheck : (stateCount : ℕ) → List ℕ → ℕ → Check
 initialCheck stateCount initial zero = require (ltb (numberAt initial 0) stateCount) 13 0
 initialCheck stateCount initial (suc i) =
-    require (ltb (numberAt initial (2 * suc i)) stateCount && ltb (numberAt initial (2 * i)) (numberAt initial (2 * suc i))) 13 (suc i)
+    require
+    (ltb (numberAt initial (2 * suc i)) stateCount && ltb (numberAt initial (2 * i)) (numberAt initial (2 * suc i)))
+    13 (suc i)
 
 -- 11 to 13 of three tables: one number after another, each at the lowest record that it refuses
 unfoldable pub recordsCheck : Counts → (states transitions initial : List ℕ) → Check
 recordsCheck c states transitions initial =
     andThen (lowest (stateCheck states) (c .states))
     (λ _. andThen (sumCheck c states)
-    (λ _. andThen (lowest (transitionCheck (c .states) transitions) (c .transitions)) (λ _. lowest (initialCheck (c .states) initial) (c .initial))))
+    (λ _. andThen (lowest (transitionRecordCheck (c .states) transitions) (c .transitions))
+    (λ _. lowest (initialCheck (c .states) initial) (c .initial))))
 
 -- the first n transition records
 unfoldable pub transitionsFrom : ℕ → List ℕ → List Transition
 transitionsFrom zero bytes = []
 transitionsFrom (suc n) bytes =
-    record { must = getD bytes 0 0; mustNot = getD bytes 1 0; target = numberAt bytes 2 } ∷ transitionsFrom n (drop 4 bytes)
+    record { must = getD bytes 0 0; mustNot = getD bytes 1 0; target = numberAt bytes 2 }
+    ∷ transitionsFrom n (drop 4 bytes)
 
 -- the first n state records, each with its transitions, which lie behind those of the states before it (01, The
 -- image, sentence 6)
 unfoldable pub statesFrom : ℕ → (states transitions : List ℕ) → List State
 statesFrom zero states transitions = []
 statesFrom (suc n) states transitions =
-    record { accepting = eqb (getD states 2 0) 1; transitions = transitionsFrom (numberAt states 0) transitions } ∷ statesFrom n (drop 4 states) (drop (4 * numberAt states 0) transitions)
+    record { accepting = eqb (getD states 2 0) 1; transitions = transitionsFrom (numberAt states 0) transitions }
+    ∷ statesFrom n (drop 4 states) (drop (4 * numberAt states 0) transitions)
 
 unfoldable pub numbersFrom : ℕ → List ℕ → List ℕ
 numbersFrom zero bytes = []
@@ -90,7 +127,13 @@ unfoldable pub readTables : Counts → (states transitions initial : List ℕ) �
 readTables c states transitions initial =
     andThen (recordsCheck c states transitions initial) (λ _. accepted (automatonFrom c states transitions initial))
 
+-- the same of the three bodies of an image with these counts
+abbrev pub bodiesCheck : Counts → List ℕ → Check
+bodiesCheck c image = recordsCheck c (statesBody image) (transitionsBody c image) (initialBody c image)
+
+abbrev pub readBodies : Counts → List ℕ → Result Automaton
+readBodies c image = readTables c (statesBody image) (transitionsBody c image) (initialBody c image)
+
 -- the automaton of an image, or its refusal by 10 to 13
 unfoldable pub readImage : List ℕ → Result Automaton
-readImage image =
-    andThen (contentsCheck image) (λ _. readTables (countsAt image) (drop contentsBytes image) (drop (transitionsAt (countsAt image)) image) (drop (initialAt (countsAt image)) image))
+readImage image = andThen (contentsCheck image) (λ _. readBodies (countsAt image) image)

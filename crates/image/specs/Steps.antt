@@ -1,14 +1,15 @@
 -- What the functions under the calls write and read say.
-use Prim.Native.Nat.{ℕ, _*_}
+use Prim.Native.Nat.{ℕ, _*_, _≤_}
 use mathlib.Core.Path.{_≡_}
 use mathlib.Core.List.{List, _++_}
-use lib.ListN.{take, drop}
+use lib.ListN.{length, take, drop}
 use Rattle.answer.specs.Result.{Result, accepted, refused}
+use Rattle.automaton.specs.Limits.{maxStates, maxTransitions, maxInitial, statesBytes, transitionsBytes, initialBytes}
 use Rattle.automaton.specs.Tables.{Counts}
 use Rattle.answer.specs.Bytes.{filled}
 use Rattle.image.specs.declared.StateCount.{StateCount}
-use Rattle.image.specs.declared.StateCount.the-variants.{Count, Wrong}
-use Rattle.image.specs.Image.{transitionsAt, initialAt, imageLength, contents, contentsBytes}
+use Rattle.image.specs.declared.StateCount.the-variants.{Count, Refused}
+use Rattle.image.specs.Image.{imageLength, contents, statesBody, transitionsBody, initialBody}
 use Rattle.image.specs.Calls.{Buffer, buffer}
 
 -- the bytes of a written image: the contents, then the used bytes of three tables
@@ -19,13 +20,30 @@ joined c s t i = contents c ++ (take (4 * c .states) s ++ (take (4 * c .transiti
 abbrev pub joinedOver : Counts → (states transitions initial image : List ℕ) → Buffer
 joinedOver c s t i image = buffer (accepted (imageLength c)) (joined c s t i ++ drop (imageLength c) image)
 
+-- tables that have as many records as are counted, and no more states than there may be
+abbrev pub HasRecords : Counts → (states transitions initial : List ℕ) → Type 0
+HasRecords c s t i =
+    (c .states ≤ maxStates) × (4 * c .states ≤ length s) × (4 * c .transitions ≤ length t) × (2 * c .initial ≤ length i)
+
+-- counts that 10 lets pass
+pub record Small (c : Counts) : Type 0 where
+  pub states : c .states ≤ maxStates
+  pub transitions : c .transitions ≤ maxTransitions
+  pub initial : c .initial ≤ maxInitial
+
+-- tables of the lengths that 25 asks for
+pub record Long (s t i : List ℕ) : Type 0 where
+  pub states : statesBytes ≤ length s
+  pub transitions : transitionsBytes ≤ length t
+  pub initial : initialBytes ≤ length i
+
 -- three tables before and after an image's bodies are stored in them
-pub record Loads (image : List ℕ) (c : Counts) (before-states before-transitions before-initial states transitions initial : List ℕ) : Type 0 where
-  pub states-are : states ≡ filled before-states (take (4 * c .states) (drop contentsBytes image))
-  pub transitions-are : transitions ≡ filled before-transitions (take (4 * c .transitions) (drop (transitionsAt c) image))
-  pub initial-are : initial ≡ filled before-initial (take (2 * c .initial) (drop (initialAt c) image))
+pub record Loads (image : List ℕ) (c : Counts) (s t i states transitions initial : List ℕ) : Type 0 where
+  pub states-are : states ≡ filled s (take (4 * c .states) (statesBody image))
+  pub transitions-are : transitions ≡ filled t (take (4 * c .transitions) (transitionsBody c image))
+  pub initial-are : initial ≡ filled i (take (2 * c .initial) (initialBody c image))
 
 -- what the check of state record i comes to: its transition count, or 11
 abbrev pub stateAnswer : ℕ → StateCount → Result ℕ
 stateAnswer i (Count n) = accepted n
-stateAnswer i Wrong = refused 11 i
+stateAnswer i Refused = refused 11 i

@@ -1,5 +1,6 @@
 // The image of an automaton: the calls write and read, and check, which looks at an image and stores nothing.
 use answer::Checked;
+use answer::TABLE_TOO_SHORT;
 use answer::copy;
 use answer::number_at;
 use answer::zero;
@@ -9,22 +10,20 @@ use automaton::MAX_OF_STATE;
 use automaton::MAX_STATES;
 use automaton::MAX_TRANSITIONS;
 use automaton::STATES_BYTES;
-use automaton::TABLE_TOO_SHORT;
 use automaton::TRANSITIONS_BYTES;
 ghost use mathlib.Core.Path.{_≡_};
-ghost use mathlib.Core.Bool.{_&&_};
 ghost use mathlib.Core.List.{_++_};
 ghost use Prim.Native.Nat.{_+_, _*_, _<_, _≤_};
-ghost use lib.Dec.{eqb, leb};
+ghost use lib.Dec.{eqb};
 ghost use lib.ListN.{length, take, drop};
 ghost use Rattle.answer.specs.Result.{accepted, andThen, require, lowest, answer};
-ghost use Rattle.automaton.specs.Limits.{maxStates, maxTransitions, maxInitial, statesBytes, transitionsBytes, initialBytes};
-ghost use Rattle.automaton.specs.Tables.{outcome, countsOf};
+ghost use Rattle.automaton.specs.Limits.{maxStates};
+ghost use Rattle.automaton.specs.Tables.{outcome, countsOf, lengthsFit};
 ghost use Rattle.answer.specs.Bytes.{filled, numberAt};
-ghost use Rattle.image.specs.Image.{entry, transitionsAt, initialAt, imageLength, contents, contentsBytes, largestImage};
-ghost use Rattle.image.specs.Reader.{countsAt, countsFit, contentsCheck, stateCheck, countSum, transitionCheck, initialCheck, recordsCheck};
-ghost use Rattle.image.specs.Calls.{writeAnswer, buffer, writes, readAnswer, reads, checks};
-ghost use Rattle.image.specs.Steps.{stateAnswer, joinedOver, Loads};
+ghost use Rattle.image.specs.Image.{entry, entryBytes, imageLength, contents, contentsBytes, largestImage};
+ghost use Rattle.image.specs.Reader.{countsAt, countsFit, kindsFit, offsetsFit, contentsCheck, stateCheck, countSum, transitionRecordCheck, initialCheck, recordsCheck, bodiesCheck};
+ghost use Rattle.image.specs.Calls.{writeAnswer, buffer, writes, readAnswer, readInto, checks};
+ghost use Rattle.image.specs.Steps.{stateAnswer, joinedOver, HasRecords, Small, Long, Loads};
 
 // The numbers of document 01 by which an image or tables are refused.
 pub const BAD_CONTENTS: u8 = 10;
@@ -35,13 +34,34 @@ pub const BAD_TRANSITION: u8 = 12;
 
 pub const BAD_INITIAL: u8 = 13;
 
-// What the table of contents takes, and the largest image.
-pub const CONTENTS_BYTES: usize = 18;
+// What an entry of the table of contents takes, where the second and the third begin, and where the bodies do
+// (specs/Image.antt).
+const ENTRY_BYTES: usize = 6;
 
+const TRANSITIONS_ENTRY: usize = ENTRY_BYTES;
+
+const INITIAL_ENTRY: usize = 2 * ENTRY_BYTES;
+
+pub const CONTENTS_BYTES: usize = 3 * ENTRY_BYTES;
+
+// Where the count and the offset of each entry stand.
+pub const STATE_COUNT_AT: usize = 2;
+
+pub const TRANSITION_COUNT_AT: usize = TRANSITIONS_ENTRY + 2;
+
+pub const INITIAL_COUNT_AT: usize = INITIAL_ENTRY + 2;
+
+const STATES_OFFSET_AT: usize = 4;
+
+const TRANSITIONS_OFFSET_AT: usize = TRANSITIONS_ENTRY + 4;
+
+const INITIAL_OFFSET_AT: usize = INITIAL_ENTRY + 4;
+
+// The largest image.
 pub const IMAGE_BYTES: usize = CONTENTS_BYTES + STATES_BYTES + TRANSITIONS_BYTES + INITIAL_BYTES;
 
 // The answer of write: the image's length, or a refusal's number and place.
-pub enum Written {
+pub enum WrittenImage {
     Length(usize),
     Refused(u8, usize),
 }
@@ -49,18 +69,18 @@ pub enum Written {
 // The answer of read: how many states, transitions and initial states, or a refusal's number and place.
 pub enum Loaded {
     Counted(usize, usize, usize),
-    Rejected(u8, usize),
+    Refused(u8, usize),
 }
 
 // The transition count of a state record, or that the record is refused.
 enum StateCount {
     Count(usize),
-    Wrong,
+    Refused,
 }
 
 // The lengths of three lent tables against 25.
 fn tables_fit(states: usize, transitions: usize, initial: usize) -> bool
-    ensures { λ r. ⌜ r ≡ (leb statesBytes states && (leb transitionsBytes transitions && leb initialBytes initial)) ⌝ }
+    ensures { λ r. ⌜ r ≡ lengthsFit states transitions initial ⌝ }
 {
     if states < STATES_BYTES {
         return false;
@@ -91,13 +111,13 @@ fn check_state(states: &[u8], i: usize) -> StateCount
 {
     let count = number_at(states, 4 * i);
     if MAX_OF_STATE < count {
-        return StateCount::Wrong;
+        return StateCount::Refused;
     }
     if 1 < states[4 * i + 2] {
-        return StateCount::Wrong;
+        return StateCount::Refused;
     }
     if states[4 * i + 3] != 0 {
-        return StateCount::Wrong;
+        return StateCount::Refused;
     }
     StateCount::Count(count)
 }
@@ -126,7 +146,7 @@ fn check_states(states: &[u8], n: usize, transition_count: usize) -> Checked
 // 12 for transition record i.
 fn check_transition(transitions: &[u8], i: usize, state_count: usize) -> Checked
     requires { ⌜ 4 * i + 3 < length (now transitions) ⌝ }
-    ensures { λ r. ⌜ answer r ≡ transitionCheck «state_count» (now (transitions .entry)) i ⌝ }
+    ensures { λ r. ⌜ answer r ≡ transitionRecordCheck «state_count» (now (transitions .entry)) i ⌝ }
 {
     if state_count <= number_at(transitions, 4 * i + 2) {
         return Checked::Refused(BAD_TRANSITION, i);
@@ -142,7 +162,7 @@ fn check_transition(transitions: &[u8], i: usize, state_count: usize) -> Checked
 // 12 for the first n transition records.
 fn check_transitions(transitions: &[u8], n: usize, state_count: usize) -> Checked
     requires { ⌜ 4 * n ≤ length (now transitions) ⌝ }
-    ensures { λ r. ⌜ answer r ≡ lowest (transitionCheck «state_count» (now (transitions .entry))) n ⌝ }
+    ensures { λ r. ⌜ answer r ≡ lowest (transitionRecordCheck «state_count» (now (transitions .entry))) n ⌝ }
 {
     let mut i = 0;
     while i < n {
@@ -185,7 +205,7 @@ fn check_records(
     initial: &[u8],
     initial_count: usize,
 ) -> Checked
-    requires { ⌜ («state_count» ≤ maxStates) × (4 * «state_count» ≤ length (now states)) × (4 * «transition_count» ≤ length (now transitions)) × (2 * «initial_count» ≤ length (now initial)) ⌝ }
+    requires { ⌜ HasRecords (countsOf «state_count» «transition_count» «initial_count») (now states) (now transitions) (now initial) ⌝ }
     ensures { λ r. ⌜ answer r ≡ recordsCheck (countsOf «state_count» «transition_count» «initial_count») (now (states .entry)) (now (transitions .entry)) (now (initial .entry)) ⌝ }
 {
     let first = check_states(states, state_count, transition_count);
@@ -202,29 +222,29 @@ fn check_records(
 // The kinds of the three entries against 10.
 fn kinds_fit(image: &[u8]) -> bool
     requires { ⌜ contentsBytes ≤ length (now image) ⌝ }
-    ensures { λ r. ⌜ r ≡ (eqb (numberAt (now (image .entry)) 0) 1 && (eqb (numberAt (now (image .entry)) 6) 2 && eqb (numberAt (now (image .entry)) 12) 3)) ⌝ }
+    ensures { λ r. ⌜ r ≡ kindsFit (now (image .entry)) ⌝ }
 {
     if number_at(image, 0) != 1 {
         return false;
     }
-    if number_at(image, 6) != 2 {
+    if number_at(image, TRANSITIONS_ENTRY) != 2 {
         return false;
     }
-    number_at(image, 12) == 3
+    number_at(image, INITIAL_ENTRY) == 3
 }
 
 // The offsets of the three entries against 10: each body begins where the one before ends.
 fn offsets_fit(image: &[u8], transitions_at: usize, initial_at: usize) -> bool
     requires { ⌜ contentsBytes ≤ length (now image) ⌝ }
-    ensures { λ r. ⌜ r ≡ (eqb (numberAt (now (image .entry)) 4) contentsBytes && (eqb (numberAt (now (image .entry)) 10) «transitions_at» && eqb (numberAt (now (image .entry)) 16) «initial_at»)) ⌝ }
+    ensures { λ r. ⌜ r ≡ offsetsFit (now (image .entry)) «transitions_at» «initial_at» ⌝ }
 {
-    if number_at(image, 4) != CONTENTS_BYTES {
+    if number_at(image, STATES_OFFSET_AT) != CONTENTS_BYTES {
         return false;
     }
-    if number_at(image, 10) != transitions_at {
+    if number_at(image, TRANSITIONS_OFFSET_AT) != transitions_at {
         return false;
     }
-    number_at(image, 16) == initial_at
+    number_at(image, INITIAL_OFFSET_AT) == initial_at
 }
 
 // The counts of an image, unless 10 refuses it.
@@ -232,32 +252,32 @@ fn check_contents(image: &[u8]) -> Loaded
     ensures { λ r. ⌜ readAnswer r ≡ andThen (contentsCheck (now (image .entry))) (λ _. accepted (countsAt (now (image .entry)))) ⌝ }
 {
     if image.len() < CONTENTS_BYTES {
-        return Loaded::Rejected(BAD_CONTENTS, 0);
+        return Loaded::Refused(BAD_CONTENTS, 0);
     }
     if !kinds_fit(image) {
-        return Loaded::Rejected(BAD_CONTENTS, 0);
+        return Loaded::Refused(BAD_CONTENTS, 0);
     }
-    let states = number_at(image, 2);
-    let transitions = number_at(image, 8);
-    let initial = number_at(image, 14);
+    let states = number_at(image, STATE_COUNT_AT);
+    let transitions = number_at(image, TRANSITION_COUNT_AT);
+    let initial = number_at(image, INITIAL_COUNT_AT);
     if !counts_fit(states, transitions, initial) {
-        return Loaded::Rejected(BAD_CONTENTS, 0);
+        return Loaded::Refused(BAD_CONTENTS, 0);
     }
     let transitions_at = CONTENTS_BYTES + 4 * states;
     let initial_at = transitions_at + 4 * transitions;
     if !offsets_fit(image, transitions_at, initial_at) {
-        return Loaded::Rejected(BAD_CONTENTS, 0);
+        return Loaded::Refused(BAD_CONTENTS, 0);
     }
     if image.len() != initial_at + 2 * initial {
-        return Loaded::Rejected(BAD_CONTENTS, 0);
+        return Loaded::Refused(BAD_CONTENTS, 0);
     }
     Loaded::Counted(states, transitions, initial)
 }
 
 // 11 to 13 of an image that has its contents and its length.
 fn check_bodies(image: &[u8], states: usize, transitions: usize, initial: usize) -> Checked
-    requires { ⌜ (states ≤ maxStates) × (transitions ≤ maxTransitions) × (initial ≤ maxInitial) × (length (now image) ≡ imageLength (countsOf states transitions initial)) ⌝ }
-    ensures { λ r. ⌜ answer r ≡ recordsCheck (countsOf states transitions initial) (drop contentsBytes (now (image .entry))) (drop (transitionsAt (countsOf states transitions initial)) (now (image .entry))) (drop (initialAt (countsOf states transitions initial)) (now (image .entry))) ⌝ }
+    requires { ⌜ Small (countsOf states transitions initial) × (length (now image) ≡ imageLength (countsOf states transitions initial)) ⌝ }
+    ensures { λ r. ⌜ answer r ≡ bodiesCheck (countsOf states transitions initial) (now (image .entry)) ⌝ }
 {
     let transitions_at = CONTENTS_BYTES + 4 * states;
     let initial_at = transitions_at + 4 * transitions;
@@ -281,7 +301,7 @@ pub fn check(image: &[u8]) -> Loaded
     };
     let bodies = check_bodies(image, states, transitions, initial);
     if let Checked::Refused(number, place) = bodies {
-        return Loaded::Rejected(number, place);
+        return Loaded::Refused(number, place);
     }
     Loaded::Counted(states, transitions, initial)
 }
@@ -305,7 +325,7 @@ fn load_bodies(
     transitions: &mut [u8],
     initial: &mut [u8],
 )
-    requires { ⌜ («state_count» ≤ maxStates) × («transition_count» ≤ maxTransitions) × («initial_count» ≤ maxInitial) × (length (now image) ≡ imageLength (countsOf «state_count» «transition_count» «initial_count»)) × (statesBytes ≤ length (now states)) × (transitionsBytes ≤ length (now transitions)) × (initialBytes ≤ length (now initial)) ⌝ }
+    requires { ⌜ Small (countsOf «state_count» «transition_count» «initial_count») × (length (now image) ≡ imageLength (countsOf «state_count» «transition_count» «initial_count»)) × Long (now states) (now transitions) (now initial) ⌝ }
     ensures { λ _. ⌜ Loads (now (image .entry)) (countsOf «state_count» «transition_count» «initial_count») (now (states .entry)) (now (transitions .entry)) (now (initial .entry)) (now (states .exit)) (now (transitions .exit)) (now (initial .exit)) ⌝ }
 {
     let transitions_at = CONTENTS_BYTES + 4 * state_count;
@@ -317,10 +337,10 @@ fn load_bodies(
 
 // 25, then 10 to 13; the whole image is looked at before anything is stored.
 pub fn read(image: &[u8], states: &mut [u8], transitions: &mut [u8], initial: &mut [u8]) -> Loaded
-    ensures { λ r. ⌜ outcome (readAnswer r) (now (states .exit)) (now (transitions .exit)) (now (initial .exit)) ≡ reads (now (image .entry)) (now (states .entry)) (now (transitions .entry)) (now (initial .entry)) ⌝ }
+    ensures { λ r. ⌜ outcome (readAnswer r) (now (states .exit)) (now (transitions .exit)) (now (initial .exit)) ≡ readInto (now (image .entry)) (now (states .entry)) (now (transitions .entry)) (now (initial .entry)) ⌝ }
 {
     if !tables_fit(states.len(), transitions.len(), initial.len()) {
-        return Loaded::Rejected(TABLE_TOO_SHORT, 0);
+        return Loaded::Refused(TABLE_TOO_SHORT, 0);
     }
     let found = check(image);
     let Loaded::Counted(state_count, transition_count, initial_count) = found else {
@@ -338,10 +358,10 @@ pub fn read(image: &[u8], states: &mut [u8], transitions: &mut [u8], initial: &m
     Loaded::Counted(state_count, transition_count, initial_count)
 }
 
-// An entry of the table of contents in the first six places.
+// An entry of the table of contents in the first six bytes.
 fn write_entry(bytes: &mut [u8], kind: u8, count: usize, offset: usize)
-    requires { ⌜ (6 ≤ length (now bytes)) × (count < 65536) × (offset < 65536) ⌝ }
-    ensures { λ _. ⌜ now (bytes .exit) ≡ entry kind count offset ++ drop 6 (now (bytes .entry)) ⌝ }
+    requires { ⌜ (entryBytes ≤ length (now bytes)) × (count < 65536) × (offset < 65536) ⌝ }
+    ensures { λ _. ⌜ now (bytes .exit) ≡ entry kind count offset ++ drop entryBytes (now (bytes .entry)) ⌝ }
 {
     bytes[0] = kind;
     bytes[1] = 0;
@@ -353,14 +373,19 @@ fn write_entry(bytes: &mut [u8], kind: u8, count: usize, offset: usize)
 
 // The table of contents at the start.
 fn write_contents(image: &mut [u8], states: usize, transitions: usize, initial: usize)
-    requires { ⌜ (contentsBytes ≤ length (now image)) × (states ≤ maxStates) × (transitions ≤ maxTransitions) × (initial ≤ maxInitial) ⌝ }
+    requires { ⌜ (contentsBytes ≤ length (now image)) × Small (countsOf states transitions initial) ⌝ }
     ensures { λ _. ⌜ now (image .exit) ≡ contents (countsOf states transitions initial) ++ drop contentsBytes (now (image .entry)) ⌝ }
 {
     let transitions_at = CONTENTS_BYTES + 4 * states;
     let initial_at = transitions_at + 4 * transitions;
     write_entry(image, 1, states, CONTENTS_BYTES);
-    write_entry(&mut image[6..], 2, transitions, transitions_at);
-    write_entry(&mut image[12..], 3, initial, initial_at);
+    write_entry(
+        &mut image[TRANSITIONS_ENTRY..],
+        2,
+        transitions,
+        transitions_at,
+    );
+    write_entry(&mut image[INITIAL_ENTRY..], 3, initial, initial_at);
 }
 
 // The contents, then each body, for which the buffer is lent from the body's offset on; the image's length.
@@ -373,7 +398,7 @@ fn write_image(
     initial_count: usize,
     image: &mut [u8],
 ) -> usize
-    requires { ⌜ («state_count» ≤ maxStates) × («transition_count» ≤ maxTransitions) × («initial_count» ≤ maxInitial) × (statesBytes ≤ length (now states)) × (transitionsBytes ≤ length (now transitions)) × (initialBytes ≤ length (now initial)) × (largestImage ≤ length (now image)) ⌝ }
+    requires { ⌜ Small (countsOf «state_count» «transition_count» «initial_count») × Long (now states) (now transitions) (now initial) × (largestImage ≤ length (now image)) ⌝ }
     ensures { λ r. ⌜ buffer (accepted r) (now (image .exit)) ≡ joinedOver (countsOf «state_count» «transition_count» «initial_count») (now (states .entry)) (now (transitions .entry)) (now (initial .entry)) (now (image .entry)) ⌝ }
 {
     let transitions_at = CONTENTS_BYTES + 4 * state_count;
@@ -398,17 +423,17 @@ pub fn write(
     initial: &[u8],
     initial_count: usize,
     image: &mut [u8],
-) -> Written
+) -> WrittenImage
     ensures { λ r. ⌜ buffer (writeAnswer r) (now (image .exit)) ≡ writes (countsOf «state_count» «transition_count» «initial_count») (now (states .entry)) (now (transitions .entry)) (now (initial .entry)) (now (image .entry)) ⌝ }
 {
     if !tables_fit(states.len(), transitions.len(), initial.len()) {
-        return Written::Refused(TABLE_TOO_SHORT, 0);
+        return WrittenImage::Refused(TABLE_TOO_SHORT, 0);
     }
     if image.len() < IMAGE_BYTES {
-        return Written::Refused(TABLE_TOO_SHORT, 0);
+        return WrittenImage::Refused(TABLE_TOO_SHORT, 0);
     }
     if !counts_fit(state_count, transition_count, initial_count) {
-        return Written::Refused(BAD_CONTENTS, 0);
+        return WrittenImage::Refused(BAD_CONTENTS, 0);
     }
     let records = check_records(
         states,
@@ -419,7 +444,7 @@ pub fn write(
         initial_count,
     );
     if let Checked::Refused(number, place) = records {
-        return Written::Refused(number, place);
+        return WrittenImage::Refused(number, place);
     }
     let n = write_image(
         states,
@@ -430,5 +455,5 @@ pub fn write(
         initial_count,
         image,
     );
-    Written::Length(n)
+    WrittenImage::Length(n)
 }

@@ -1,4 +1,4 @@
--- Runs put together through one state after another: after the last state they are closed.
+-- Runs put together through one state after another: after the last state they are closed. Assumes nothing.
 use Prim.Native.Nat.{ℕ, _+_, _<_, _≤_}
 use mathlib.Core.Path.{_≡_, refl, sym, _∙_, subst}
 use mathlib.Core.List.{List}
@@ -6,24 +6,22 @@ use mathlib.Core.Logic.{_⊎_, inl, inr}
 use native.Mathlib.Omega.{arith}
 use native.Mathlib.Decide.{ℕ-discrete}
 use lib.ListN.{length, replicate}
-use Rattle.judge.specs.Marks.{Token, Lifted, Is, Adds, Joined, both, met, round, Linked, one, join, joinMet}
+use Rattle.judge.specs.RunBits.{Token, Lifted, Is, Adds, Joined, both, met, round, Linked, one, join, joinMet, Via}
+use Rattle.judge.specs.Limits.{metBit}
+use Rattle.automaton.specs.Limits.{maxStates}
 use Rattle.judge.proofs.Gathers.{Gathering}
-use Rattle.judge.proofs.Rows.{none-set}
-
--- what is joined to row q when its bits m and 128 + m are looked at
-abbrev pub Via : (rows via : List ℕ) (m q k : ℕ) → Type 0
-Via rows via m q k = (Token rows q m × Token via 0 k) ⊎ (Token rows q (128 + m) × Lifted (Token via) 0 k)
+use Rattle.judge.proofs.RunBits.{none-set}
 
 -- the upper half is joined first, which leaves bit m of row q as it was
-pub both-joined : {x y z via : List ℕ} (q m : ℕ) → m < 96 → Adds x y (λ p k. Token x q (128 + m) × ((p ≡ q) × Lifted (Token via) 0 k))
+pub both-joined : {x y z via : List ℕ} (q m : ℕ) → m < maxStates → Adds x y (λ p k. Token x q (metBit + m) × ((p ≡ q) × Lifted (Token via) 0 k))
     → Adds y z (λ p k. Token y q m × ((p ≡ q) × Token via 0 k)) → Adds x z (λ p k. (p ≡ q) × Via x via m q k)
 both-joined {x} {y} {z} {via} q m lt first second = record { only = λ p k h. only p k (second .only p k h); all = all }
   where
-    same : Token x q m ⊎ (Token x q (128 + m) × ((q ≡ q) × Lifted (Token via) 0 m)) → Token x q m
+    same : Token x q m ⊎ (Token x q (metBit + m) × ((q ≡ q) × Lifted (Token via) 0 m)) → Token x q m
     same (inl h) = h
     same (inr (t, (e, l))) = absurd (omega (arith, l .high))
 
-    old : (p k : ℕ) → Token x p k ⊎ (Token x q (128 + m) × ((p ≡ q) × Lifted (Token via) 0 k)) → Token x p k ⊎ ((p ≡ q) × Via x via m q k)
+    old : (p k : ℕ) → Token x p k ⊎ (Token x q (metBit + m) × ((p ≡ q) × Lifted (Token via) 0 k)) → Token x p k ⊎ ((p ≡ q) × Via x via m q k)
     old p k (inl h) = inl h
     old p k (inr (t, (e, l))) = inr (e, inr (t, l))
 
@@ -38,24 +36,24 @@ both-joined {x} {y} {z} {via} q m lt first second = record { only = λ p k h. on
 
 -- the row by which runs go through m: row m, and its lower half lifted if m comes back to itself
 pub record Through (rows via : List ℕ) (m : ℕ) : Type 0 where
-  pub only : (k : ℕ) → Token via 0 k → Token rows m k ⊎ (Token rows m (128 + m) × Lifted (Token rows) m k)
+  pub only : (k : ℕ) → Token via 0 k → Token rows m k ⊎ (Token rows m (metBit + m) × Lifted (Token rows) m k)
   pub row : (k : ℕ) → Token rows m k → Token via 0 k
-  pub again : (k : ℕ) → Token rows m (128 + m) → Lifted (Token rows) m k → Token via 0 k
+  pub again : (k : ℕ) → Token rows m (metBit + m) → Lifted (Token rows) m k → Token via 0 k
 
-pub through : {rows u via : List ℕ} (m : ℕ) → Adds (replicate 4 0) u (λ p k. (p ≡ 0) × Token rows m k) → Adds u via (λ p k. Token u 0 (128 + m) × ((p ≡ 0) × Lifted (Token rows) m k)) → Through rows via m
+pub through : {rows u via : List ℕ} (m : ℕ) → Adds (replicate 4 0) u (λ p k. (p ≡ 0) × Token rows m k) → Adds u via (λ p k. Token u 0 (metBit + m) × ((p ≡ 0) × Lifted (Token rows) m k)) → Through rows via m
 through {rows} {u} {via} m first second = record {
   only = λ k h. split k (second .only 0 k h);
   row = λ k h. second .all 0 k (inl (first .all 0 k (inr (refl, h))));
-  again = λ k h l. second .all 0 k (inr (first .all 0 (128 + m) (inr (refl, h)), (refl, l)));
+  again = λ k h l. second .all 0 k (inr (first .all 0 (metBit + m) (inr (refl, h)), (refl, l)));
 }
   where
     back : (k : ℕ) → Token (replicate 4 0) 0 k ⊎ ((_≡_ {A = ℕ} 0 0) × Token rows m k) → Token rows m k
     back k (inl h) = absurd (none-set 4 0 k h)
     back k (inr (e, h)) = h
 
-    split : (k : ℕ) → Token u 0 k ⊎ (Token u 0 (128 + m) × ((_≡_ {A = ℕ} 0 0) × Lifted (Token rows) m k)) → Token rows m k ⊎ (Token rows m (128 + m) × Lifted (Token rows) m k)
+    split : (k : ℕ) → Token u 0 k ⊎ (Token u 0 (metBit + m) × ((_≡_ {A = ℕ} 0 0) × Lifted (Token rows) m k)) → Token rows m k ⊎ (Token rows m (metBit + m) × Lifted (Token rows) m k)
     split k (inl h) = inl (back k (first .only 0 k h))
-    split k (inr (t, (e, l))) = inr (back (128 + m) (first .only 0 (128 + m) t), l)
+    split k (inr (t, (e, l))) = inr (back (metBit + m) (first .only 0 (metBit + m) t), l)
 
 module _ {x via : List ℕ} (m n : ℕ) (t : Through x via m) where
   -- a turn of the loop over the rows: row i is still as it was
@@ -75,22 +73,22 @@ module _ {x via : List ℕ} (m n : ℕ) (t : Through x via m) where
       only : (p k : ℕ) → Token y p k ⊎ ((p ≡ i) × Via y via m i k) → Token y p k ⊎ ((p ≡ i) × Via x via m i k)
       only p k (inl h) = inl h
       only p k (inr (e, inl (b, h))) = inr (e, inl (was m b, h))
-      only p k (inr (e, inr (b, h))) = inr (e, inr (was (128 + m) b, h))
+      only p k (inr (e, inr (b, h))) = inr (e, inr (was (metBit + m) b, h))
 
       all : (p k : ℕ) → Token y p k ⊎ ((p ≡ i) × Via x via m i k) → Token y p k ⊎ ((p ≡ i) × Via y via m i k)
       all p k (inl h) = inl h
       all p k (inr (e, inl (b, h))) = inr (e, inl (is m b, h))
-      all p k (inr (e, inr (b, h))) = inr (e, inr (is (128 + m) b, h))
+      all p k (inr (e, inr (b, h))) = inr (e, inr (is (metBit + m) b, h))
 
   pub all-through : {y : List ℕ} → Adds x y (λ q k. (p : ℕ) × (p < n) × ((q ≡ p) × Via x via m p k)) → Adds x y (λ q k. (q < n) × Joined (Token x) m q k)
   all-through {y} adds = record { only = λ q k h. only q k (adds .only q k h); all = λ q k h. adds .all q k (all q k h) }
     where
       -- a bit of the lower half was not lifted
-      low : (k : ℕ) → k < 128 → Token x m k ⊎ (Token x m (128 + m) × Lifted (Token x) m k) → Token x m k
+      low : (k : ℕ) → k < metBit → Token x m k ⊎ (Token x m (metBit + m) × Lifted (Token x) m k) → Token x m k
       low k lt (inl h) = h
       low k lt (inr (b, l)) = absurd (omega (arith, l .high))
 
-      by : (q k : ℕ) → Token x q m → Token x m k ⊎ (Token x m (128 + m) × Lifted (Token x) m k) → Joined (Token x) m q k
+      by : (q k : ℕ) → Token x q m → Token x m k ⊎ (Token x m (metBit + m) × Lifted (Token x) m k) → Joined (Token x) m q k
       by q k b (inl h) = both b h
       by q k b (inr (c, l)) = round b c l
 
@@ -116,7 +114,7 @@ module _ {x via : List ℕ} (m n : ℕ) (t : Through x via m) where
 -- runs that pass through state p are put together already
 pub record Closed (n : ℕ) (R : (q k : ℕ) → Type 0) (p : ℕ) : Type 0 where
   pub runs : (q k : ℕ) → q < n → R q p → R p k → R q k
-  pub mets : (q k : ℕ) → q < n → R q (128 + p) → Lifted R p k → R q k
+  pub mets : (q k : ℕ) → q < n → R q (metBit + p) → Lifted R p k → R q k
 
 -- a loop over the states that stands at m
 pub record Closing (n : ℕ) (before after : List ℕ) (m : ℕ) : Type 0 where
@@ -126,7 +124,7 @@ pub record Closing (n : ℕ) (before after : List ℕ) (m : ℕ) : Type 0 where
   pub kept : (q k : ℕ) → Token before q k → Token after q k
   pub closed : (p : ℕ) → p < m → Closed n (Token after) p
 
-module _ (n m : ℕ) (few : n ≤ 96) (lm : m < n) {y z : List ℕ} (adds : Adds y z (λ q k. (q < n) × Joined (Token y) m q k)) where
+module _ (n m : ℕ) (few : n ≤ maxStates) (lm : m < n) {y z : List ℕ} (adds : Adds y z (λ q k. (q < n) × Joined (Token y) m q k)) where
   old : {q k : ℕ} → Token y q k → Token z q k
   old {q} {k} h = adds .all q k (inl h)
 
@@ -134,7 +132,7 @@ module _ (n m : ℕ) (few : n ≤ 96) (lm : m < n) {y z : List ℕ} (adds : Adds
   new {q} {k} lt j = adds .all q k (inr (lt, j))
 
   -- a bit of the lower half
-  low : (q k : ℕ) → k < 128 → Token z q k → Token y q k ⊎ (Token y q m × Token y m k)
+  low : (q k : ℕ) → k < metBit → Token z q k → Token y q k ⊎ (Token y q m × Token y m k)
   low q k lt h = go (adds .only q k h)
     where
       go : Token y q k ⊎ ((q < n) × Joined (Token y) m q k) → Token y q k ⊎ (Token y q m × Token y m k)
@@ -145,7 +143,7 @@ module _ (n m : ℕ) (few : n ≤ 96) (lm : m < n) {y z : List ℕ} (adds : Adds
 
   -- the state that was gone through now
   closed-here : Closed n (Token z) m
-  closed-here = record { runs = λ q k lq b h. run q k lq (to q (low q m (omega arith) b)) (adds .only m k h); mets = λ q k lq b l. go-met q k lq (adds .only q (128 + m) b) l (from (l .low) (low m (l .low) (l .half) (l .held))) }
+  closed-here = record { runs = λ q k lq b h. run q k lq (to q (low q m (omega arith) b)) (adds .only m k h); mets = λ q k lq b l. go-met q k lq (adds .only q (metBit + m) b) l (from (l .low) (low m (l .low) (l .half) (l .held))) }
     where
       to : (q : ℕ) → Token y q m ⊎ (Token y q m × Token y m m) → Token y q m
       to q (inl h) = h
@@ -161,13 +159,13 @@ module _ (n m : ℕ) (few : n ≤ 96) (lm : m < n) {y z : List ℕ} (adds : Adds
       run q k lq b (inr (l, met c h)) = new lq (round b c h)
       run q k lq b (inr (l, round c d h)) = new lq (round b d h)
 
-      go-met : (q k : ℕ) → q < n → Token y q (128 + m) ⊎ ((q < n) × Joined (Token y) m q (128 + m)) → (l : Lifted (Token z) m k) → Token y m (l .low) → Token z q k
+      go-met : (q k : ℕ) → q < n → Token y q (metBit + m) ⊎ ((q < n) × Joined (Token y) m q (metBit + m)) → (l : Lifted (Token z) m k) → Token y m (l .low) → Token z q k
       go-met q k lq d l h = pick d
         where
           lift : Lifted (Token y) m k
           lift = record { low = l .low; half = l .half; high = l .high; held = h }
 
-          pick : Token y q (128 + m) ⊎ ((q < n) × Joined (Token y) m q (128 + m)) → Token z q k
+          pick : Token y q (metBit + m) ⊎ ((q < n) × Joined (Token y) m q (metBit + m)) → Token z q k
           pick (inl b) = new lq (met b lift)
           pick (inr (x, both b c)) = new lq (round b c lift)
           pick (inr (x, met b c)) = new lq (met b lift)
@@ -179,24 +177,24 @@ module _ (n m : ℕ) (few : n ≤ 96) (lm : m < n) {y z : List ℕ} (adds : Adds
     run-before q k lq (inl a) (inl h) = old (c .runs q k lq a h)
     run-before q k lq (inl a) (inr (l, both b h)) = new lq (both (c .runs q m lq a b) h)
     run-before q k lq (inl a) (inr (l, round b d h)) = new lq (round (c .runs q m lq a b) d h)
-    run-before q k lq (inl a) (inr (l, met b h)) = new lq (met (c .runs q (128 + m) lq a b) h)
+    run-before q k lq (inl a) (inr (l, met b h)) = new lq (met (c .runs q (metBit + m) lq a b) h)
     run-before q k lq (inr (a, g)) (inl h) = new lq (both a (c .runs m k lm g h))
     run-before q k lq (inr (a, g)) (inr (l, both b h)) = new lq (both a h)
     run-before q k lq (inr (a, g)) (inr (l, round b d h)) = new lq (round a d h)
-    run-before q k lq (inr (a, g)) (inr (l, met b h)) = new lq (round a (c .runs m (128 + m) lm g b) h)
+    run-before q k lq (inr (a, g)) (inr (l, met b h)) = new lq (round a (c .runs m (metBit + m) lm g b) h)
 
-    met-before : (q k j : ℕ) → q < n → j < 128 → k ≡ 128 + j → Token y q (128 + p) ⊎ ((q < n) × Joined (Token y) m q (128 + p)) → Token y p j ⊎ (Token y p m × Token y m j) → Token z q k
+    met-before : (q k j : ℕ) → q < n → j < metBit → k ≡ metBit + j → Token y q (metBit + p) ⊎ ((q < n) × Joined (Token y) m q (metBit + p)) → Token y p j ⊎ (Token y p m × Token y m j) → Token z q k
     met-before q k j lq lj ek s (inl a) = here s
       where
         lift : Lifted (Token y) p k
         lift = record { low = j; half = lj; high = ek; held = a }
 
-        on : Lifted (Token y) m (128 + p) → Lifted (Token y) m k
+        on : Lifted (Token y) m (metBit + p) → Lifted (Token y) m k
         on l =
             let e : l .low ≡ p = omega (arith, l .high) in
             record { low = j; half = lj; high = ek; held = c .runs m j lm (rw e at (l .held)) a }
 
-        here : Token y q (128 + p) ⊎ ((q < n) × Joined (Token y) m q (128 + p)) → Token z q k
+        here : Token y q (metBit + p) ⊎ ((q < n) × Joined (Token y) m q (metBit + p)) → Token z q k
         here (inl b) = old (c .mets q k lq b lift)
         here (inr (x, both b d)) = new lq (both b (c .mets m k lm d lift))
         here (inr (x, round b d l)) = new lq (round b d (on l))
@@ -206,19 +204,19 @@ module _ (n m : ℕ) (few : n ≤ 96) (lm : m < n) {y z : List ℕ} (adds : Adds
         lift : Lifted (Token y) m k
         lift = record { low = j; half = lj; high = ek; held = a }
 
-        back : Lifted (Token y) p (128 + m)
+        back : Lifted (Token y) p (metBit + m)
         back = record { low = m; half = omega arith; high = refl; held = g }
 
-        here : Token y q (128 + p) ⊎ ((q < n) × Joined (Token y) m q (128 + p)) → Token z q k
-        here (inl b) = new lq (met (c .mets q (128 + m) lq b back) lift)
-        here (inr (x, both b d)) = new lq (round b (c .mets m (128 + m) lm d back) lift)
+        here : Token y q (metBit + p) ⊎ ((q < n) × Joined (Token y) m q (metBit + p)) → Token z q k
+        here (inl b) = new lq (met (c .mets q (metBit + m) lq b back) lift)
+        here (inr (x, both b d)) = new lq (round b (c .mets m (metBit + m) lm d back) lift)
         here (inr (x, round b d l)) = new lq (round b d lift)
         here (inr (x, met b l)) = new lq (met b lift)
 
     closed-before : Closed n (Token z) p
     closed-before = record {
       runs = λ q k lq b h. run-before q k lq (low q p (omega arith) b) (adds .only p k h);
-      mets = λ q k lq b l. met-before q k (l .low) lq (l .half) (l .high) (adds .only q (128 + p) b) (low p (l .low) (l .half) (l .held));
+      mets = λ q k lq b l. met-before q k (l .low) lq (l .half) (l .high) (adds .only q (metBit + p) b) (low p (l .low) (l .half) (l .held));
     }
 
   pub closing-steps : {x : List ℕ} → Closing n x y m → length z ≡ length y → Closing n x z (m + 1)
@@ -237,14 +235,14 @@ module _ (n m : ℕ) (few : n ≤ 96) (lm : m < n) {y z : List ℕ} (adds : Adds
       s : {q k : ℕ} → Token y q k → Linked n (Token x) q k
       s {q} {k} h = inv .sound q k h
 
-      at : {q k : ℕ} (l : Lifted (Token y) m k) → Linked n (Token x) q (128 + l .low) → Linked n (Token x) q k
+      at : {q k : ℕ} (l : Lifted (Token y) m k) → Linked n (Token x) q (metBit + l .low) → Linked n (Token x) q k
       at {q} l h = subst (λ (j : ℕ). Linked n (Token x) q j) (sym (l .high)) h
 
       link : (q k : ℕ) → Token y q k ⊎ ((q < n) × Joined (Token y) m q k) → Linked n (Token x) q k
       link q k (inl h) = s h
       link q k (inr (lq, both b h)) = join m q k lm lq (s b) (s h)
       link q k (inr (lq, met b l)) = at l (joinMet m q (l .low) lm lq (l .half) (s b) (s (l .held)))
-      link q k (inr (lq, round b c l)) = at l (join m q (128 + l .low) lm lq (s b) (joinMet m m (l .low) lm lm (l .half) (s c) (s (l .held))))
+      link q k (inr (lq, round b c l)) = at l (join m q (metBit + l .low) lm lq (s b) (joinMet m m (l .low) lm lm (l .half) (s c) (s (l .held))))
 
 pub closing-begins : (n : ℕ) (x : List ℕ) → Closing n x x 0
 closing-begins n x = record { within = omega arith; size = refl; sound = λ q k h. one q k h; kept = λ q k h. h; closed = λ p lt. absurd (omega arith) }
@@ -255,4 +253,4 @@ closing-ends n m {x} {y} le inv = record { only = inv .sound; all = λ q k h. al
     all : {q k : ℕ} → Linked n (Token x) q k → Token y q k
     all (one q k h) = inv .kept q k h
     all (join p q k lp lq b h) = inv .closed p (omega arith) .runs q k lq (all b) (all h)
-    all (joinMet p q k lp lq lk b h) = inv .closed p (omega arith) .mets q (128 + k) lq (all b) (record { low = k; half = lk; high = refl; held = all h })
+    all (joinMet p q k lp lq lk b h) = inv .closed p (omega arith) .mets q (metBit + k) lq (all b) (record { low = k; half = lk; high = refl; held = all h })

@@ -1,11 +1,11 @@
--- Tests that tell whether something holds, alone, two in a row, and over the states in turn.
+-- Tests that tell whether something holds, alone, two in a row, and over the states in turn. Assumes nothing.
 use Prim.Native.Nat.{ℕ, _+_, _<_, _≤_}
 use mathlib.Core.Path.{_≡_}
 use mathlib.Core.Bool.{Bool, true, false, not}
 use native.Mathlib.Omega.{arith}
 use borrow.Author.Tests.{not-true, not-false}
 use borrow.Author.Count.{below-more}
-use Rattle.judge.specs.Marks.{Decides}
+use Rattle.judge.specs.RunBits.{Tells}
 
 pub true-false : {A : Type 0} → _≡_ {A = Bool} true false → A
 true-false e = let z : _≡_ {A = ℕ} 0 1 = cc in absurd (omega arith)
@@ -13,24 +13,21 @@ true-false e = let z : _≡_ {A = ℕ} 0 1 = cc in absurd (omega arith)
 pub false-true : {A : Type 0} → _≡_ {A = Bool} false true → A
 false-true e = let z : _≡_ {A = ℕ} 0 1 = cc in absurd (omega arith)
 
-module _ {r : Bool} {P : Type 0} (d : Decides r P) where
+module _ {r : Bool} {P : Type 0} (d : Tells r P) where
   pub decided-not : not r ≡ true → P → ⊥
   decided-not e = d .no (not-true r e)
 
   pub decided-so : not r ≡ false → P
   decided-so e = d .yes (not-false r e)
 
-pub holds-not : {P : Type 0} → (P → ⊥) → Decides false P
+pub holds-not : {P : Type 0} → (P → ⊥) → Tells false P
 holds-not np = record { yes = λ e. false-true e; no = λ e h. np h }
 
-pub holds-so : {P : Type 0} → P → Decides true P
+pub holds-so : {P : Type 0} → P → Tells true P
 holds-so p = record { yes = λ e. p; no = λ e h. true-false e }
 
 -- the second test is made only if the first holds
-pub both-not : {P Q : Type 0} → (P → ⊥) → Decides false (P × Q)
-both-not np = holds-not (λ h. np (h .0))
-
-pub both-so : {s : Bool} {P Q : Type 0} → P → Decides s Q → Decides s (P × Q)
+pub both-so : {s : Bool} {P Q : Type 0} → P → Tells s Q → Tells s (P × Q)
 both-so p d = record { yes = λ e. (p, d .yes e); no = λ e h. d .no e (h .1) }
 
 -- a loop over the numbers below n that has found none before i
@@ -42,11 +39,11 @@ module _ (n : ℕ) (P : ℕ → Type 0) where
   pub miss-begins : Missing n P 0
   miss-begins = record { within = omega arith; none = λ q lt h. omega arith }
 
-  pub miss-steps : {r : Bool} (i : ℕ) → i < n → Missing n P i → Decides r (P i) → r ≡ false → Missing n P (i + 1)
+  pub miss-steps : {r : Bool} (i : ℕ) → i < n → Missing n P i → Tells r (P i) → r ≡ false → Missing n P (i + 1)
   miss-steps i lt inv d e = record { within = omega arith; none = below-more _ i (inv .none) (d .no e) }
 
-  pub miss-finds : {r : Bool} (i : ℕ) → i < n → Decides r (P i) → r ≡ true → Decides true ((q : ℕ) × (q < n) × P q)
+  pub miss-finds : {r : Bool} (i : ℕ) → i < n → Tells r (P i) → r ≡ true → Tells true ((q : ℕ) × (q < n) × P q)
   miss-finds i lt d e = holds-so (i, lt, d .yes e)
 
-  pub miss-ends : (i : ℕ) → n ≤ i → Missing n P i → Decides false ((q : ℕ) × (q < n) × P q)
+  pub miss-ends : (i : ℕ) → n ≤ i → Missing n P i → Tells false ((q : ℕ) × (q < n) × P q)
   miss-ends i le inv = holds-not (λ h. inv .none (h .0) (omega (arith, h .1)) (h .2))

@@ -1,4 +1,4 @@
--- A loop that adds bits turn by turn: what it has added is what each turn adds.
+-- A loop that adds bits turn by turn: what it has added is what each turn adds. Assumes nothing.
 use Prim.Native.Nat.{ℕ, _+_, _<_, _≤_}
 use mathlib.Core.Path.{_≡_, refl, _∙_}
 use mathlib.Core.List.{List}
@@ -6,7 +6,7 @@ use mathlib.Core.Logic.{_⊎_, inl, inr}
 use native.Mathlib.Omega.{arith}
 use native.Mathlib.Decide.{ℕ-discrete}
 use lib.ListN.{length}
-use Rattle.judge.specs.Marks.{Token, Adds}
+use Rattle.judge.specs.RunBits.{Token, Adds}
 
 -- nothing is added
 pub adds-none : {x : List ℕ} {New : (q k : ℕ) → Type 0} → ((q k : ℕ) → New q k → ⊥) → Adds x x New

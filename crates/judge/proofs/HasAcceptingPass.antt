@@ -128,13 +128,13 @@ module _ (a : Automaton) (range : InRange a) (stem cycle : List ℕ) (pos : 0 < 
 
     -- positions after the run to x
     on-from : (i : ℕ) → onto stem cycle 0 (d + i) ≡ onto stem cycle (x .position) i
-    on-from i = onto-more stem cycle 0 d i ∙ ap (λ (p : ℕ). onto stem cycle p i) (r .walk .place)
+    on-from i = onto-more stem cycle 0 d i ∙ ap (λ (p : ℕ). onto stem cycle p i) (r .walk .ends)
 
     on-round : (i : ℕ) → d ≤ i → onto stem cycle 0 (i + e) ≡ onto stem cycle 0 i
     on-round i l =
         let z : i + e ≡ d + (e + (i - d)) = omega arith in
         let y : d + (i - d) ≡ i = omega arith in
-        ap (onto stem cycle 0) z ∙ on-from (e + (i - d)) ∙ onto-more stem cycle (x .position) e (i - d) ∙ ap (λ (p : ℕ). onto stem cycle p (i - d)) (b .walk .place)
+        ap (onto stem cycle 0) z ∙ on-from (e + (i - d)) ∙ onto-more stem cycle (x .position) e (i - d) ∙ ap (λ (p : ℕ). onto stem cycle p (i - d)) (b .walk .ends)
         ∙ sym (on-from (i - d)) ∙ ap (onto stem cycle 0) y
 
     same-letters : (i : ℕ) → i < e → wordFrom a stem cycle (x .position) i ≡ wordFrom a stem cycle 0 (d + i)

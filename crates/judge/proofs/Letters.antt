@@ -1,4 +1,5 @@
--- The bits of all rows after a letter, and after the letters of a word.
+-- The bits of all rows after a letter, and after the letters of a word. Assumes of the automaton only that its targets
+-- are states.
 use Prim.Native.Nat.{ℕ, zero, suc, _+_, _<_, _≤_}
 use mathlib.Core.Path.{_≡_, refl, sym, _∙_, subst}
 use mathlib.Core.List.{List}
@@ -9,8 +10,9 @@ use native.Mathlib.Numerals.{add-one}
 use native.Mathlib.Decide.{ℕ-discrete}
 use lib.ListN.{length, getD, replicate}
 use Rattle.automaton.specs.Automaton.{Automaton, Step, Accepts}
-use Rattle.judge.specs.Marks.{Token, Lifted, Is, Adds, Confined, Moved, moved, lifted, After, Ran}
-use Rattle.judge.proofs.Rows.{none-set}
+use Rattle.judge.specs.RunBits.{Token, Lifted, Is, Adds, Confined, Moved, moved, lifted, After, Ran}
+use Rattle.judge.specs.Limits.{startBit, metBit, rowsWords}
+use Rattle.judge.proofs.RunBits.{none-set}
 use Rattle.judge.proofs.Decisions.{true-false, false-true}
 
 module _ (a : Automaton) (x : ℕ) where
@@ -35,7 +37,7 @@ module _ (a : Automaton) (x : ℕ) where
 
       all : {q k : ℕ} → Moved a x (Token rows) q k → Token after q k
       all (moved p q k h s) = lift .all q k (inl (copy .all q k (step .all q k (inr (p, inside p q s, (s, h))))))
-      all (lifted p q j lt h s acc) = lift .all q (128 + j) (inr (acc, record { low = j; half = lt; high = refl; held = step .all q j (inr (p, inside p q s, (s, h))) }))
+      all (lifted p q j lt h s acc) = lift .all q (metBit + j) (inr (acc, record { low = j; half = lt; high = refl; held = step .all q j (inr (p, inside p q s, (s, h))) }))
 
   -- no run stands behind the n states
   pub taken-confined : (n : ℕ) {empty next rows : List ℕ} → ((p q : ℕ) → Step a p x q → q < n) → ((q k : ℕ) → Token empty q k → ⊥)
@@ -50,7 +52,7 @@ module _ (a : Automaton) (x : ℕ) where
   moved-inside target (moved p q k h s) = target p q s
   moved-inside target (lifted p q j lt h s acc) = target p q s
 
-  moved-low : {Held : (q k : ℕ) → Type 0} {q k : ℕ} → k < 128 → Moved a x Held q k → (p : ℕ) × Held p k
+  moved-low : {Held : (q k : ℕ) → Type 0} {q k : ℕ} → k < metBit → Moved a x Held q k → (p : ℕ) × Held p k
   moved-low lt (moved p q k h s) = (p, h)
   moved-low lt (lifted p q j lj h s acc) = absurd (omega arith)
 
@@ -64,63 +66,63 @@ after-inside a w target held zero q k h = held q k h
 after-inside a w target held (suc i) q k h = moved-inside a (w i) (λ p t s. target p (w i) t s) h
 
 -- where no run from an initial state is left, none will be
-lost-later : (a : Automaton) (w : ℕ → ℕ) (Held : (q k : ℕ) → Type 0) (i : ℕ) → ((q : ℕ) → After a w Held i q 96 → ⊥) → (d : ℕ) → i ≤ d → (q : ℕ) → After a w Held d q 96 → ⊥
+lost-later : (a : Automaton) (w : ℕ → ℕ) (Held : (q k : ℕ) → Type 0) (i : ℕ) → ((q : ℕ) → After a w Held i q startBit → ⊥) → (d : ℕ) → i ≤ d → (q : ℕ) → After a w Held d q startBit → ⊥
 lost-later a w Held i lost zero le q h =
     let e : i ≡ 0 = omega arith in
     lost q (rw e h)
 lost-later a w Held i lost (suc d) le q h = go (ℕ-discrete i (suc d)) (λ l. lost-later a w Held i lost d l)
   where
-    go : Dec (i ≡ suc d) → (i ≤ d → (q : ℕ) → After a w Held d q 96 → ⊥) → ⊥
+    go : Dec (i ≡ suc d) → (i ≤ d → (q : ℕ) → After a w Held d q startBit → ⊥) → ⊥
     go (yes e) before = lost q (rw e h)
     go (no e) before =
-        let m : (p : ℕ) × After a w Held d p 96 = moved-low a (w d) (omega arith) h in
+        let m : (p : ℕ) × After a w Held d p startBit = moved-low a (w d) (omega arith) h in
         before (omega arith) (m .0) (m .1)
 
 -- a loop that has taken the first i letters of a word; `next` is what the last one left there
 pub record Running (a : Automaton) (n : ℕ) (word before after next : List ℕ) (i : ℕ) : Type 0 where
   pub within : i ≤ length word
   pub size : length after ≡ length before
-  pub marks : Is after (After a (λ j. getD word j 0) (Token before) i)
-  pub room : length next ≡ 384
+  pub bits : Is after (After a (λ j. getD word j 0) (Token before) i)
+  pub room : length next ≡ rowsWords
   pub confined : Confined n next
 
 module _ (a : Automaton) (n : ℕ) (word before : List ℕ) where
-  pub run-begins : Running a n word before before (replicate 384 0) 0
+  pub run-begins : Running a n word before before (replicate rowsWords 0) 0
   run-begins = record {
     within = omega arith;
     size = refl;
-    marks = record { only = λ q k h. h; all = λ q k h. h };
+    bits = record { only = λ q k h. h; all = λ q k h. h };
     room = refl;
-    confined = λ q k h. absurd (none-set 384 q k h);
+    confined = λ q k h. absurd (none-set rowsWords q k h);
   }
 
   pub run-confined : ((p x q : ℕ) → Step a p x q → q < n) → Confined n before → {y next : List ℕ} (i : ℕ) → Running a n word before y next i → Confined n y
-  run-confined target held i inv q k h = after-inside a (λ j. getD word j 0) target held i q k (inv .marks .only q k h)
+  run-confined target held i inv q k h = after-inside a (λ j. getD word j 0) target held i q k (inv .bits .only q k h)
 
   pub run-steps : (y z : List ℕ) {next after : List ℕ} (i : ℕ) → i < length word → Running a n word before y next i → length z ≡ length y → Is z (Moved a (getD word i 0) (Token y))
-      → length after ≡ 384 → Confined n after → Running a n word before z after (i + 1)
+      → length after ≡ rowsWords → Confined n after → Running a n word before z after (i + 1)
   run-steps y z i lt inv size is room confined = record {
     within = omega arith;
     size = size ∙ inv .size;
     room = room;
     confined = confined;
-    marks = rw add-one (record {
-      only = λ q k h. moved-map a (getD word i 0) (inv .marks .only) (is .only q k h);
-      all = λ q k h. is .all q k (moved-map a (getD word i 0) (inv .marks .all) h);
+    bits = rw add-one (record {
+      only = λ q k h. moved-map a (getD word i 0) (inv .bits .only) (is .only q k h);
+      all = λ q k h. is .all q k (moved-map a (getD word i 0) (inv .bits .all) h);
     });
   }
 
   pub run-ends : (y : List ℕ) {next : List ℕ} (i : ℕ) → length word ≤ i → Running a n word before y next i → Ran true y (After a (λ j. getD word j 0) (Token before) (length word))
   run-ends y i le inv =
       let e : i ≡ length word = omega (arith, inv .within) in
-      record { on = λ t. rw e at (inv .marks); lost = λ t. true-false t }
+      record { on = λ t. rw e at (inv .bits); lost = λ t. true-false t }
 
-  pub run-stops : ((p x q : ℕ) → Step a p x q → q < n) → Confined n before → (y : List ℕ) {next : List ℕ} (i : ℕ) → Running a n word before y next i → ((q : ℕ) × (q < n) × Token y q 96 → ⊥)
+  pub run-stops : ((p x q : ℕ) → Step a p x q → q < n) → Confined n before → (y : List ℕ) {next : List ℕ} (i : ℕ) → Running a n word before y next i → ((q : ℕ) × (q < n) × Token y q startBit → ⊥)
       → Ran false y (After a (λ j. getD word j 0) (Token before) (length word))
   run-stops target held y i inv none = record {
     on = λ t. false-true t;
-    lost = λ t. lost-later a (λ j. getD word j 0) (Token before) i (λ q h. left q (inv .marks .all q 96 h)) (length word) (inv .within);
+    lost = λ t. lost-later a (λ j. getD word j 0) (Token before) i (λ q h. left q (inv .bits .all q startBit h)) (length word) (inv .within);
   }
     where
-      left : (q : ℕ) → Token y q 96 → ⊥
-      left q h = none (q, run-confined target held i inv q 96 h, h)
+      left : (q : ℕ) → Token y q startBit → ⊥
+      left q h = none (q, run-confined target held i inv q startBit h, h)

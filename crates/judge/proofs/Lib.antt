@@ -1,17 +1,17 @@
--- What the proofs of several functions cite, and why the search is right.
-pub mod Rows
+-- What the proofs of several functions cite, and why the search is right. Assumes nothing.
+pub mod RunBits
 pub mod Decisions
 pub mod Gathers
 pub mod Turns
 pub mod Letters
 pub mod Closure
 pub mod Runs
-pub mod Marking
+pub mod Arrivals
 pub mod Passes
 pub mod Verdict
 pub mod Queue
 pub mod Points
 pub mod Reached
 pub mod HasAcceptingPass
-pub mod Answers
+pub mod Judgements
 pub mod VerdictIff

@@ -1,5 +1,5 @@
--- The marks of a pass, put together, are exactly the runs over one or more passes: a state that is reached when a pass
--- begins and comes back to itself through an accepting state is an accepting pass, and every accepting pass shows so.
+-- The bits of a pass, put together, are exactly the runs over one or more passes, so a state that is reached and comes
+-- back through an accepting state is an accepting pass. Assumes that the automaton's numbers are states.
 use Prim.Native.Nat.{ℕ, zero, suc, _+_, _-_, _*_, _%_, _<_, _≤_}
 use mathlib.Core.Path.{_≡_, refl, sym, _∙_, ap, subst}
 use mathlib.Core.List.{List}
@@ -10,11 +10,13 @@ use native.Mathlib.Decide.{ℕ-discrete, decLt}
 use lib.ListN.{length, getD}
 use borrow.Author.Tests.{lt-ltb, le-ltb}
 use Rattle.lasso.specs.Lasso.{letter}
-use Rattle.automaton.specs.Automaton.{Automaton, Step, Accepts, AcceptingPass}
+use Rattle.automaton.specs.Automaton.{Automaton, Step, Accepts, AcceptingPass, passBegin}
 use Rattle.sets.specs.Sets.{In}
-use Rattle.judge.specs.Marks.{Lifted, After, Linked, one, join, joinMet}
+use Rattle.judge.specs.RunBits.{Lifted, After, Linked, one, join, joinMet}
+use Rattle.judge.specs.Limits.{startBit, metBit}
+use Rattle.automaton.specs.Limits.{maxStates}
 use Rattle.judge.proofs.Runs.{Leads, Meets, leads-as, meets-as, leads-on, on-early, on-late}
-use Rattle.judge.proofs.Marking.{Marked, MarkedMet, low-runs, high-runs, run-marks, met-marks}
+use Rattle.judge.proofs.Arrivals.{Arrived, ArrivedMet, low-runs, high-runs, run-bits, met-bits}
 
 -- ---- the letters of a lasso
 
@@ -50,13 +52,13 @@ module _ (a : Automaton) (n : ℕ) (stem cycle : List ℕ) where
   inCycle i = getD cycle i 0
 
   abbrev pub Initial : (q k : ℕ) → Type 0
-  Initial q k = In q (a .initial) × (k ≡ 96)
+  Initial q k = In q (a .initial) × (k ≡ startBit)
 
   -- after the stem
   abbrev pub Stemmed : (q k : ℕ) → Type 0
   Stemmed q k = After a inStem Initial (length stem) q k
 
-  -- each state marked with its own number, and the accepting ones lifted
+  -- each state bit-is-set with its own number, and the accepting ones lifted
   abbrev pub Placed : (q k : ℕ) → Type 0
   Placed q k = Stemmed q k ⊎ ((q < n) × (k ≡ q))
 
@@ -79,67 +81,67 @@ module _ (a : Automaton) (n : ℕ) (stem cycle : List ℕ) where
     pub initial : In start (a .initial)
     pub run : Leads a word (length stem + d) start q
 
-  module _ (few : n ≤ 96) where
-    -- ---- the marks of one pass are runs
+  module _ (few : n ≤ maxStates) where
+    -- ---- the bits of one pass are runs
 
-    stemmed-low : (q k : ℕ) → k < 96 → Stemmed q k → ⊥
+    stemmed-low : (q k : ℕ) → k < maxStates → Stemmed q k → ⊥
     stemmed-low q k lt h =
-        let m : Marked a inStem Initial (length stem) q k = low-runs a inStem Initial (length stem) (omega arith) h in
+        let m : Arrived a inStem Initial (length stem) q k = low-runs a inStem Initial (length stem) (omega arith) h in
         omega (arith, m .held .1)
 
-    stemmed-high : (q k p : ℕ) → p < 96 → k ≡ 128 + p → Stemmed q k → ⊥
+    stemmed-high : (q k p : ℕ) → p < maxStates → k ≡ metBit + p → Stemmed q k → ⊥
     stemmed-high q k p lt e h = go (high-runs a inStem Initial (length stem) p (omega arith) e h)
       where
-        go : Marked a inStem Initial (length stem) q (128 + p) ⊎ MarkedMet a inStem Initial (length stem) q p → ⊥
+        go : Arrived a inStem Initial (length stem) q (metBit + p) ⊎ ArrivedMet a inStem Initial (length stem) q p → ⊥
         go (inl m) = omega (arith, m .held .1)
         go (inr m) = omega (arith, m .held .1)
 
-    placed-low : (q p : ℕ) → p < 96 → Placed q p → q ≡ p
+    placed-low : (q p : ℕ) → p < maxStates → Placed q p → q ≡ p
     placed-low q p lt (inl h) = absurd (stemmed-low q p lt h)
     placed-low q p lt (inr (l, e)) = sym e
 
-    begun-low : (q p : ℕ) → p < 96 → Begun q p → q ≡ p
+    begun-low : (q p : ℕ) → p < maxStates → Begun q p → q ≡ p
     begun-low q p lt (inl h) = placed-low q p lt h
     begun-low q p lt (inr (acc, l)) = absurd (omega (arith, l .high))
 
-    begun-high : (q p : ℕ) → p < 96 → Begun q (128 + p) → (q ≡ p) × Accepts a q
-    begun-high q p lt (inl (inl h)) = absurd (stemmed-high q (128 + p) p lt refl h)
+    begun-high : (q p : ℕ) → p < maxStates → Begun q (metBit + p) → (q ≡ p) × Accepts a q
+    begun-high q p lt (inl (inl h)) = absurd (stemmed-high q (metBit + p) p lt refl h)
     begun-high q p lt (inl (inr (l, e))) = absurd (omega arith)
     begun-high q p lt (inr (acc, l)) =
         let e : l .low ≡ p = omega (arith, l .high) in
         (placed-low q (l .low) (omega arith) (l .held) ∙ e, acc)
 
-    passed-low : {q p : ℕ} → p < 96 → Passed q p → Leads a inCycle (length cycle) p q
+    passed-low : {q p : ℕ} → p < maxStates → Passed q p → Leads a inCycle (length cycle) p q
     passed-low {q} {p} lt h =
-        let m : Marked a inCycle Begun (length cycle) q p = low-runs a inCycle Begun (length cycle) (omega arith) h in
+        let m : Arrived a inCycle Begun (length cycle) q p = low-runs a inCycle Begun (length cycle) (omega arith) h in
         subst (λ (s : ℕ). Leads a inCycle (length cycle) s q) (begun-low (m .start) p lt (m .held)) (m .run)
 
-    passed-high : {q : ℕ} (p : ℕ) → p < 96 → Passed q (128 + p) → Meets a inCycle 0 (length cycle) p q
+    passed-high : {q : ℕ} (p : ℕ) → p < maxStates → Passed q (metBit + p) → Meets a inCycle 0 (length cycle) p q
     passed-high {q} p lt h = go (high-runs a inCycle Begun (length cycle) p (omega arith) refl h)
       where
         from : {s : ℕ} → s ≡ p → Meets a inCycle 0 (length cycle) s q → Meets a inCycle 0 (length cycle) p q
         from e m = subst (λ (s : ℕ). Meets a inCycle 0 (length cycle) s q) e m
 
-        go : Marked a inCycle Begun (length cycle) q (128 + p) ⊎ MarkedMet a inCycle Begun (length cycle) q p → Meets a inCycle 0 (length cycle) p q
+        go : Arrived a inCycle Begun (length cycle) q (metBit + p) ⊎ ArrivedMet a inCycle Begun (length cycle) q p → Meets a inCycle 0 (length cycle) p q
         go (inl m) =
             let b = begun-high (m .start) p lt (m .held) in
-            from (b .0) (record { run = m .run; place = 0; after = omega arith; before = omega arith; accepts = rw (m .run .from) (b .1) })
-        go (inr m) = from (begun-low (m .start) p lt (m .held)) (record { run = m .run .run; place = m .run .place; after = omega arith; before = m .run .before; accepts = m .run .accepts })
+            from (b .0) (record { run = m .run; index = 0; after = omega arith; before = omega arith; accepts = rw (m .run .from) (b .1) })
+        go (inr m) = from (begun-low (m .start) p lt (m .held)) (record { run = m .run .run; index = m .run .index; after = omega arith; before = m .run .before; accepts = m .run .accepts })
 
-    passed-start : {q : ℕ} → Passed q 96 → FromStart (length cycle) q
+    passed-start : {q : ℕ} → Passed q startBit → FromStart (length cycle) q
     passed-start {q} h = go (m .held)
       where
-        m : Marked a inCycle Begun (length cycle) q 96
+        m : Arrived a inCycle Begun (length cycle) q startBit
         m = low-runs a inCycle Begun (length cycle) (omega arith) h
 
-        made : Marked a inStem Initial (length stem) (m .start) 96 → FromStart (length cycle) q
+        made : Arrived a inStem Initial (length stem) (m .start) startBit → FromStart (length cycle) q
         made b = record {
           start = b .start;
           initial = b .held .0;
           run = leads-on a (λ i lt. sym (letter-round stem cycle i ∙ round-first stem cycle i lt)) (leads-as a (λ i lt. sym (letter-stem stem cycle i lt)) (b .run)) (m .run);
         }
 
-        go : Begun (m .start) 96 → FromStart (length cycle) q
+        go : Begun (m .start) startBit → FromStart (length cycle) q
         go (inl (inl b)) = made (low-runs a inStem Initial (length stem) (omega arith) b)
         go (inl (inr (l, e))) = absurd (omega arith)
         go (inr (acc, l)) = absurd (omega (arith, l .high))
@@ -148,9 +150,9 @@ module _ (a : Automaton) (n : ℕ) (stem cycle : List ℕ) where
 
     -- what bit k of row q says once passes are put together
     record Means (q k : ℕ) : Type 0 where
-      pub runs : k < 96 → (e : ℕ) × Leads a turn (suc e * length cycle) k q
-      pub starts : k ≡ 96 → (e : ℕ) × FromStart (suc e * length cycle) q
-      pub mets : (p : ℕ) → p < 96 → k ≡ 128 + p → (e : ℕ) × Meets a turn 0 (suc e * length cycle) p q
+      pub runs : k < maxStates → (e : ℕ) × Leads a turn (suc e * length cycle) k q
+      pub starts : k ≡ startBit → (e : ℕ) × FromStart (suc e * length cycle) q
+      pub mets : (p : ℕ) → p < maxStates → k ≡ metBit + p → (e : ℕ) × Meets a turn 0 (suc e * length cycle) p q
 
     once : (P : ℕ → Type 0) → P (length cycle) → (e : ℕ) × P (suc e * length cycle)
     once P h =
@@ -196,19 +198,19 @@ module _ (a : Automaton) (n : ℕ) (stem cycle : List ℕ) where
     met-on : {p m q : ℕ} → (d : ℕ) × Meets a turn 0 (suc d * length cycle) p m → (e : ℕ) × Leads a turn (suc e * length cycle) m q → (e : ℕ) × Meets a turn 0 (suc e * length cycle) p q
     met-on {p} {m} {q} (d, f) (e, g) = more (λ c. Meets a turn 0 c p q) d e (record {
       run = leads-on a (λ i lt. later d i) (f .run) g;
-      place = f .place;
+      index = f .index;
       after = omega arith;
       before = omega (arith, f .before);
-      accepts = rw (on-early a (λ i lt. later d i) (f .run) g (f .place) (f .before)) (f .accepts);
+      accepts = rw (on-early a (λ i lt. later d i) (f .run) g (f .index) (f .before)) (f .accepts);
     })
 
     on-met : {p m q : ℕ} → (d : ℕ) × Leads a turn (suc d * length cycle) p m → (e : ℕ) × Meets a turn 0 (suc e * length cycle) m q → (e : ℕ) × Meets a turn 0 (suc e * length cycle) p q
     on-met {p} {m} {q} (d, f) (e, g) = more (λ c. Meets a turn 0 c p q) d e (record {
       run = leads-on a (λ i lt. later d i) f (g .run);
-      place = suc d * length cycle + g .place;
+      index = suc d * length cycle + g .index;
       after = omega arith;
       before = omega (arith, g .before);
-      accepts = rw (on-late a (λ i lt. later d i) f (g .run) (g .place)) (g .accepts);
+      accepts = rw (on-late a (λ i lt. later d i) f (g .run) (g .index)) (g .accepts);
     })
 
     means : {q k : ℕ} → Linked n Passed q k → Means q k
@@ -225,7 +227,7 @@ module _ (a : Automaton) (n : ℕ) (stem cycle : List ℕ) where
             }
     means (joinMet m q k lm lq lk b h) = put (means b) (means h)
       where
-        put : Means q (128 + m) → Means m k → Means q (128 + k)
+        put : Means q (metBit + m) → Means m k → Means q (metBit + k)
         put f g = record {
           runs = λ lt. absurd (omega arith);
           starts = λ e. absurd (omega arith);
@@ -234,7 +236,7 @@ module _ (a : Automaton) (n : ℕ) (stem cycle : List ℕ) where
               on-met (subst (λ (j : ℕ). (e : ℕ) × Leads a turn (suc e * length cycle) j m) z (g .runs (omega arith))) (f .mets m (omega arith) refl);
         }
 
-    pub found-pass : (q : ℕ) → q < n → Linked n Passed q 96 → Linked n Passed q (128 + q) → AcceptingPass a stem cycle
+    pub found-pass : (q : ℕ) → q < n → Linked n Passed q startBit → Linked n Passed q (metBit + q) → AcceptingPass a stem cycle
     found-pass q lt b h = made (means b .starts refl) (means h .mets q (omega arith) refl)
       where
         made : (d : ℕ) × FromStart (suc d * length cycle) q → (e : ℕ) × Meets a turn 0 (suc e * length cycle) q q → AcceptingPass a stem cycle
@@ -247,10 +249,10 @@ module _ (a : Automaton) (n : ℕ) (stem cycle : List ℕ) where
           steps = λ i lt. whole .steps i (omega arith);
           same = on-early a (λ i lt. later-word d i) (f .run) (g .run) (length stem + suc d * length cycle) (omega arith) ∙ f .run .to ∙ sym (ap (whole .at) z ∙ whole .to);
           accepts = (
-            length stem + suc d * length cycle + g .place,
+            length stem + suc d * length cycle + g .index,
             omega arith,
             omega (arith, g .before),
-            rw (on-late a (λ i lt. later-word d i) (f .run) (g .run) (g .place)) (g .accepts),
+            rw (on-late a (λ i lt. later-word d i) (f .run) (g .run) (g .index)) (g .accepts),
           );
         }
           where
@@ -260,44 +262,44 @@ module _ (a : Automaton) (n : ℕ) (stem cycle : List ℕ) where
             whole : Leads a word (length stem + suc d * length cycle + suc e * length cycle) (f .start) q
             whole = leads-on a (λ i lt. later-word d i) (f .run) (g .run)
 
-    -- ---- runs are marks
+    -- ---- runs are bits
 
     run-passed : {q : ℕ} (p : ℕ) → p < n → Leads a inCycle (length cycle) p q → Passed q p
-    run-passed p lt r = run-marks a inCycle Begun (length cycle) (inl (inr (lt, refl))) r
+    run-passed p lt r = run-bits a inCycle Begun (length cycle) (inl (inr (lt, refl))) r
 
-    met-passed : {q : ℕ} (p : ℕ) → p < n → Meets a inCycle 0 (length cycle) p q → Passed q (128 + p)
-    met-passed {q} p lt m = go (ℕ-discrete (m .place) 0)
+    met-passed : {q : ℕ} (p : ℕ) → p < n → Meets a inCycle 0 (length cycle) p q → Passed q (metBit + p)
+    met-passed {q} p lt m = go (ℕ-discrete (m .index) 0)
       where
-        go : Dec (m .place ≡ 0) → Passed q (128 + p)
+        go : Dec (m .index ≡ 0) → Passed q (metBit + p)
         go (yes e) =
             let acc : Accepts a p = subst (λ (t : ℕ). Accepts a t) (ap (m .run .at) e ∙ m .run .from) (m .accepts) in
-            run-marks a inCycle Begun (length cycle) {p = p} (inr (acc, record { low = p; half = omega arith; high = refl; held = inr (lt, refl) })) (m .run)
+            run-bits a inCycle Begun (length cycle) {p = p} (inr (acc, record { low = p; half = omega arith; high = refl; held = inr (lt, refl) })) (m .run)
         go (no e) =
-            met-marks a inCycle Begun (length cycle) {p = p} (omega arith) (inl (inr (lt, refl))) (record { run = m .run; place = m .place; after = omega arith; before = m .before; accepts = m .accepts })
+            met-bits a inCycle Begun (length cycle) {p = p} (omega arith) (inl (inr (lt, refl))) (record { run = m .run; index = m .index; after = omega arith; before = m .before; accepts = m .accepts })
 
-    start-passed : {m q : ℕ} (p : ℕ) → In p (a .initial) → Leads a inStem (length stem) p m → Leads a inCycle (length cycle) m q → Passed q 96
+    start-passed : {m q : ℕ} (p : ℕ) → In p (a .initial) → Leads a inStem (length stem) p m → Leads a inCycle (length cycle) m q → Passed q startBit
     start-passed p h r t =
-        run-marks a inCycle Begun (length cycle) (inl (inl (run-marks a inStem Initial (length stem) (h, refl) r))) t
+        run-bits a inCycle Begun (length cycle) (inl (inl (run-bits a inStem Initial (length stem) (h, refl) r))) t
 
-    -- ---- an accepting pass shows in the marks
+    -- ---- an accepting pass shows in the bits
 
     module _ (inside : (q x t : ℕ) → Step a q x t → t < n) (initial : (q : ℕ) → In q (a .initial) → q < n) (pass : AcceptingPass a stem cycle) where
       -- where pass e begins, and the state there
-      abbrev place : ℕ → ℕ
-      place e = length stem + e * length cycle
+      abbrev passAt : ℕ → ℕ
+      passAt = passBegin stem cycle
 
       abbrev state : ℕ → ℕ
-      state e = pass .at (place e)
+      state e = pass .at (passAt e)
 
-      next : (e : ℕ) → e < pass .second → place (suc e) ≤ place (pass .second)
+      next : (e : ℕ) → e < pass .second → passAt (suc e) ≤ passAt (pass .second)
       next e lt = omega (arith, mul-le-mul-right (length cycle) lt)
 
-      at-inside : (i : ℕ) → i ≤ place (pass .second) → pass .at i < n
+      at-inside : (i : ℕ) → i ≤ passAt (pass .second) → pass .at i < n
       at-inside zero le = initial (pass .at 0) (pass .begins)
       at-inside (suc i) le = inside _ _ _ (pass .steps i le)
 
       state-inside : (e : ℕ) → e ≤ pass .second → state e < n
-      state-inside e le = at-inside (place e) (omega (arith, mul-le-mul-right (length cycle) le))
+      state-inside e le = at-inside (passAt e) (omega (arith, mul-le-mul-right (length cycle) le))
 
       stem-run : Leads a inStem (length stem) (pass .at 0) (state 0)
       stem-run = record {
@@ -307,27 +309,27 @@ module _ (a : Automaton) (n : ℕ) (stem cycle : List ℕ) where
         steps = λ i lt. subst (λ (x : ℕ). Step a (pass .at i) x (pass .at (suc i))) (letter-stem stem cycle i lt) (pass .steps i (omega arith));
       }
 
-      pass-letter : (e i : ℕ) → i < length cycle → word (place e + i) ≡ getD cycle i 0
+      pass-letter : (e i : ℕ) → i < length cycle → word (passAt e + i) ≡ getD cycle i 0
       pass-letter e i lt =
-          let z : place e + i ≡ length stem + (e * length cycle + i) = omega arith in
+          let z : passAt e + i ≡ length stem + (e * length cycle + i) = omega arith in
           ap word z ∙ letter-round stem cycle (e * length cycle + i) ∙ round-later stem cycle e i ∙ round-first stem cycle i lt
 
       pass-run : (e : ℕ) → e < pass .second → Leads a inCycle (length cycle) (state e) (state (suc e))
       pass-run e lt = record {
-        at = λ i. pass .at (place e + i);
+        at = λ i. pass .at (passAt e + i);
         from = ap (pass .at) (omega arith);
         to = ap (pass .at) (omega arith);
         steps = λ i l.
-            let z : suc (place e + i) ≡ place e + suc i = omega arith in
-            subst (λ (t : ℕ). Step a (pass .at (place e + i)) (getD cycle i 0) t) (ap (pass .at) z)
-            (subst (λ (x : ℕ). Step a (pass .at (place e + i)) x (pass .at (suc (place e + i)))) (pass-letter e i l) (pass .steps (place e + i) (omega (arith, next e lt))));
+            let z : suc (passAt e + i) ≡ passAt e + suc i = omega arith in
+            subst (λ (t : ℕ). Step a (pass .at (passAt e + i)) (getD cycle i 0) t) (ap (pass .at) z)
+            (subst (λ (x : ℕ). Step a (pass .at (passAt e + i)) x (pass .at (suc (passAt e + i)))) (pass-letter e i l) (pass .steps (passAt e + i) (omega (arith, next e lt))));
       }
 
-      pass-met : (e i : ℕ) → e < pass .second → place e ≤ i → i ≤ place (suc e) → Accepts a (pass .at i) → Meets a inCycle 0 (length cycle) (state e) (state (suc e))
+      pass-met : (e i : ℕ) → e < pass .second → passAt e ≤ i → i ≤ passAt (suc e) → Accepts a (pass .at i) → Meets a inCycle 0 (length cycle) (state e) (state (suc e))
       unfolding pass-run
       pass-met e i lt lo hi acc =
-          let z : i ≡ place e + (i - place e) = omega arith in
-          record { run = pass-run e lt; place = i - place e; after = omega arith; before = omega arith; accepts = subst (λ (j : ℕ). Accepts a (pass .at j)) z acc }
+          let z : i ≡ passAt e + (i - passAt e) = omega arith in
+          record { run = pass-run e lt; index = i - passAt e; after = omega arith; before = omega arith; accepts = subst (λ (j : ℕ). Accepts a (pass .at j)) z acc }
 
       link : (e : ℕ) → e < pass .second → Linked n Passed (state (suc e)) (state e)
       link e lt = one _ _ (run-passed (state e) (state-inside e (omega arith)) (pass-run e lt))
@@ -335,9 +337,9 @@ module _ (a : Automaton) (n : ℕ) (stem cycle : List ℕ) where
       through : (e k : ℕ) → e < pass .second → Linked n Passed (state e) k → Linked n Passed (state (suc e)) k
       through e k lt h = join (state e) (state (suc e)) k (state-inside e (omega arith)) (state-inside (suc e) lt) (link e lt) h
 
-      reached : (e : ℕ) → e < pass .second → Linked n Passed (state (suc e)) 96
+      reached : (e : ℕ) → e < pass .second → Linked n Passed (state (suc e)) startBit
       reached zero lt = one _ _ (start-passed (pass .at 0) (pass .begins) stem-run (pass-run 0 lt))
-      reached (suc e) lt = through (suc e) 96 lt (reached e (omega arith))
+      reached (suc e) lt = through (suc e) startBit lt (reached e (omega arith))
 
       back : (d : ℕ) → pass .first + d < pass .second → Linked n Passed (state (suc (pass .first + d))) (state (pass .first))
       back zero lt =
@@ -347,44 +349,44 @@ module _ (a : Automaton) (n : ℕ) (stem cycle : List ℕ) where
           let z : suc (pass .first + d) ≡ pass .first + suc d = omega arith in
           subst (λ (e : ℕ). Linked n Passed (state (suc e)) (state (pass .first))) z (through (suc (pass .first + d)) (state (pass .first)) (omega arith) (back d (omega arith)))
 
-      met : (d i : ℕ) → pass .first + d < pass .second → place (pass .first) ≤ i → i ≤ place (suc (pass .first + d)) → Accepts a (pass .at i)
-          → Linked n Passed (state (suc (pass .first + d))) (128 + state (pass .first))
+      met : (d i : ℕ) → pass .first + d < pass .second → passAt (pass .first) ≤ i → i ≤ passAt (suc (pass .first + d)) → Accepts a (pass .at i)
+          → Linked n Passed (state (suc (pass .first + d))) (metBit + state (pass .first))
       met zero i lt lo hi acc =
           let z : pass .first ≡ pass .first + 0 = omega arith in
-          subst (λ (e : ℕ). Linked n Passed (state (suc e)) (128 + state (pass .first))) z
-          (one _ _ (met-passed (state (pass .first)) (state-inside (pass .first) (omega arith)) (pass-met (pass .first) i (omega arith) lo (subst (λ (e : ℕ). i ≤ place (suc e)) (sym z) hi) acc)))
-      met (suc d) i lt lo hi acc = go (decLt (place (suc (pass .first + d))) i) (λ le. met d i (omega arith) lo le acc)
+          subst (λ (e : ℕ). Linked n Passed (state (suc e)) (metBit + state (pass .first))) z
+          (one _ _ (met-passed (state (pass .first)) (state-inside (pass .first) (omega arith)) (pass-met (pass .first) i (omega arith) lo (subst (λ (e : ℕ). i ≤ passAt (suc e)) (sym z) hi) acc)))
+      met (suc d) i lt lo hi acc = go (decLt (passAt (suc (pass .first + d))) i) (λ le. met d i (omega arith) lo le acc)
         where
           z : suc (pass .first + d) ≡ pass .first + suc d
           z = omega arith
 
-          go : Dec (place (suc (pass .first + d)) < i) → (i ≤ place (suc (pass .first + d)) → Linked n Passed (state (suc (pass .first + d))) (128 + state (pass .first)))
-              → Linked n Passed (state (suc (pass .first + suc d))) (128 + state (pass .first))
-          go (yes l) below = subst (λ (e : ℕ). Linked n Passed (state (suc e)) (128 + state (pass .first))) z
+          go : Dec (passAt (suc (pass .first + d)) < i) → (i ≤ passAt (suc (pass .first + d)) → Linked n Passed (state (suc (pass .first + d))) (metBit + state (pass .first)))
+              → Linked n Passed (state (suc (pass .first + suc d))) (metBit + state (pass .first))
+          go (yes l) below = subst (λ (e : ℕ). Linked n Passed (state (suc e)) (metBit + state (pass .first))) z
               (joinMet (state (suc (pass .first + d))) (state (suc (suc (pass .first + d)))) (state (pass .first)) (state-inside (suc (pass .first + d)) (omega arith)) (state-inside (suc (suc (pass .first + d))) (omega arith)) (omega (arith, state-inside (pass .first) (omega arith)))
-              (one _ _ (met-passed (state (suc (pass .first + d))) (state-inside (suc (pass .first + d)) (omega arith)) (pass-met (suc (pass .first + d)) i (omega arith) (omega arith) (subst (λ (e : ℕ). i ≤ place (suc e)) (sym z) hi) acc))) (back d (omega arith)))
-          go (no l) below = subst (λ (e : ℕ). Linked n Passed (state (suc e)) (128 + state (pass .first))) z (through (suc (pass .first + d)) (128 + state (pass .first)) (omega arith) (below (omega arith)))
+              (one _ _ (met-passed (state (suc (pass .first + d))) (state-inside (suc (pass .first + d)) (omega arith)) (pass-met (suc (pass .first + d)) i (omega arith) (omega arith) (subst (λ (e : ℕ). i ≤ passAt (suc e)) (sym z) hi) acc))) (back d (omega arith)))
+          go (no l) below = subst (λ (e : ℕ). Linked n Passed (state (suc e)) (metBit + state (pass .first))) z (through (suc (pass .first + d)) (metBit + state (pass .first)) (omega arith) (below (omega arith)))
 
       -- its run shows after the stem, and after the first pass
-      pub pass-stemmed : (q : ℕ) × Stemmed q 96
-      pass-stemmed = (state 0, run-marks a inStem Initial (length stem) (pass .begins, refl) stem-run)
+      pub pass-stemmed : (q : ℕ) × Stemmed q startBit
+      pass-stemmed = (state 0, run-bits a inStem Initial (length stem) (pass .begins, refl) stem-run)
 
-      pub pass-passed : (q : ℕ) × Passed q 96
+      pub pass-passed : (q : ℕ) × Passed q startBit
       pass-passed = (state 1, start-passed (pass .at 0) (pass .begins) stem-run (pass-run 0 (omega (arith, pass .later))))
 
-      pub pass-found : (q : ℕ) × (q < n) × (Linked n Passed q 96 × Linked n Passed q (128 + q))
+      pub pass-found : (q : ℕ) × (q < n) × (Linked n Passed q startBit × Linked n Passed q (metBit + q))
       pass-found = made (pass .accepts)
         where
           z : suc (pass .first + (pass .second - suc (pass .first))) ≡ pass .second
           z = omega (arith, pass .later)
 
-          made : (i : ℕ) × (place (pass .first) ≤ i) × (i ≤ place (pass .second)) × Accepts a (pass .at i) → (q : ℕ) × (q < n) × (Linked n Passed q 96 × Linked n Passed q (128 + q))
+          made : (i : ℕ) × (passAt (pass .first) ≤ i) × (i ≤ passAt (pass .second)) × Accepts a (pass .at i) → (q : ℕ) × (q < n) × (Linked n Passed q startBit × Linked n Passed q (metBit + q))
           made (i, lo, hi, acc) = (
             state (pass .second),
             state-inside (pass .second) (omega arith),
             (
-              subst (λ (e : ℕ). Linked n Passed (state e) 96) z (reached (pass .first + (pass .second - suc (pass .first))) (omega (arith, pass .later))),
-              subst (λ (q : ℕ). Linked n Passed (state (pass .second)) (128 + q)) (pass .same)
-                  (subst (λ (e : ℕ). Linked n Passed (state e) (128 + state (pass .first))) z (met (pass .second - suc (pass .first)) i (omega (arith, pass .later)) lo (subst (λ (e : ℕ). i ≤ place e) (sym z) hi) acc)),
+              subst (λ (e : ℕ). Linked n Passed (state e) startBit) z (reached (pass .first + (pass .second - suc (pass .first))) (omega (arith, pass .later))),
+              subst (λ (q : ℕ). Linked n Passed (state (pass .second)) (metBit + q)) (pass .same)
+                  (subst (λ (e : ℕ). Linked n Passed (state e) (metBit + state (pass .first))) z (met (pass .second - suc (pass .first)) i (omega (arith, pass .later)) lo (subst (λ (e : ℕ). i ≤ passAt e) (sym z) hi) acc)),
             ),
           )

@@ -146,20 +146,20 @@ module _ (a : Automaton) (stem cycle : List ℕ) where
 
   -- a run over d letters from one point to another
   pub record Walk (d : ℕ) (x y : Point) : Type 0 where
-    pub place : onto stem cycle (x .position) d ≡ y .position
+    pub ends : onto stem cycle (x .position) d ≡ y .position
     pub run : Leads a (wordFrom (x .position)) d (x .state) (y .state)
 
   pub walk-none : (x : Point) → Walk 0 x x
   unfolding onto
-  walk-none x = record { place = refl; run = leads-none a (wordFrom (x .position)) (x .state) }
+  walk-none x = record { ends = refl; run = leads-none a (wordFrom (x .position)) (x .state) }
 
   pub walk-on : {d : ℕ} {x y : Point} → Walk d x y → (z : Point) → In z (onward a stem cycle y) → Walk (suc d) x z
   unfolding onto
   walk-on {d} {x} {y} w z h =
       let (p, st) = onward-step y z h in
       record {
-        place = ap (after stem cycle) (w .place) ∙ sym p;
-        run = leads-snoc a (w .run) (subst (λ (k : ℕ). Step a (y .state) (letter stem cycle k) (z .state)) (sym (w .place)) st);
+        ends = ap (after stem cycle) (w .ends) ∙ sym p;
+        run = leads-snoc a (w .run) (subst (λ (k : ℕ). Step a (y .state) (letter stem cycle k) (z .state)) (sym (w .ends)) st);
       }
 
 -- what follows from a point is within bounds

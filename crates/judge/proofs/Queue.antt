@@ -1,4 +1,4 @@
--- What a list of points holds when further points are met: all of them, none twice, what it held before at its places.
+-- What a list of points holds when further points are met: all of them, none twice, what it held before at its indices.
 -- A list of points within bounds has at most as many as there are. Assumes nothing.
 use Prim.Native.Nat.{ℕ, suc, _+_, _*_, _%_, _<_, _≤_}
 use mathlib.Core.Path.{_≡_, refl, sym, _∙_, ap, subst}
@@ -44,11 +44,11 @@ member-iff x ys = (there, back)
 
 -- ---- no point twice
 
--- the point at a place
+-- the point at an index
 abbrev pub at : List Point → ℕ → Point
 at xs i = getD xs i (point 0 0)
 
--- no two places hold the same point
+-- no two indices hold the same point
 pub record Unique (xs : List Point) : Type 0 where
   pub apart : (i j : ℕ) → i < j → j < length xs → at xs i ≡ at xs j → ⊥
 

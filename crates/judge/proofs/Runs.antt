@@ -1,4 +1,5 @@
 -- Runs over the first letters of a word, from one state to another: put together, taken apart, carried to another word.
+-- Assumes nothing.
 use Prim.Native.Nat.{ℕ, suc, _+_, _-_, _<_, _≤_}
 use mathlib.Core.Path.{_≡_, refl, sym, _∙_, ap, subst}
 use mathlib.Core.Bool.{cond}
@@ -16,13 +17,13 @@ pub record Leads (a : Automaton) (w : ℕ → ℕ) (d p q : ℕ) : Type 0 where
   pub to : at d ≡ q
   pub steps : (i : ℕ) → i < d → Step a (at i) (w i) (at (suc i))
 
--- one that stands in an accepting state somewhere from its place `low` on
+-- one that stands in an accepting state somewhere from its index `low` on
 pub record Meets (a : Automaton) (w : ℕ → ℕ) (low d p q : ℕ) : Type 0 where
   pub run : Leads a w d p q
-  pub place : ℕ
-  pub after : low ≤ place
-  pub before : place ≤ d
-  pub accepts : Accepts a (run .at place)
+  pub index : ℕ
+  pub after : low ≤ index
+  pub before : index ≤ d
+  pub accepts : Accepts a (run .at index)
 
 module _ (a : Automaton) where
   pub leads-none : (w : ℕ → ℕ) (p : ℕ) → Leads a w 0 p p
@@ -38,7 +39,7 @@ module _ (a : Automaton) where
   }
 
   pub meets-as : {w w' : ℕ → ℕ} {low d p q : ℕ} → ((i : ℕ) → i < d → w i ≡ w' i) → Meets a w low d p q → Meets a w' low d p q
-  meets-as same m = record { run = leads-as same (m .run); place = m .place; after = m .after; before = m .before; accepts = m .accepts }
+  meets-as same m = record { run = leads-as same (m .run); index = m .index; after = m .after; before = m .before; accepts = m .accepts }
 
   -- all letters but the last, and the last
   abbrev pub leads-init : {w : ℕ → ℕ} {d p q : ℕ} (r : Leads a w (suc d) p q) → Leads a w d p (r .at d)
@@ -104,14 +105,14 @@ module _ (a : Automaton) where
     leads-snoc = subst (λ (i : ℕ). Leads a w i p t) (add-one d) (leads-on (λ i lt. refl) r last)
 
     -- what was met stays met, and the state reached counts
-    pub meets-snoc : (low place : ℕ) → low ≤ place → place ≤ d → Accepts a (r .at place) → Meets a w low (suc d) p t
-    meets-snoc low place lo hi acc = subst (λ (i : ℕ). Meets a w low i p t) (add-one d) (record {
+    pub meets-snoc : (low index : ℕ) → low ≤ index → index ≤ d → Accepts a (r .at index) → Meets a w low (suc d) p t
+    meets-snoc low index lo hi acc = subst (λ (i : ℕ). Meets a w low i p t) (add-one d) (record {
       run = leads-on (λ i lt. refl) r last;
-      place = place;
+      index = index;
       after = lo;
       before = omega arith;
-      accepts = rw (on-early (λ i lt. refl) r last place hi) acc;
+      accepts = rw (on-early (λ i lt. refl) r last index hi) acc;
     })
 
     pub meets-here : (low : ℕ) → low ≤ suc d → Accepts a t → Meets a w low (suc d) p t
-    meets-here low le acc = record { run = leads-snoc; place = suc d; after = le; before = omega arith; accepts = rw (leads-snoc .to) acc }
+    meets-here low le acc = record { run = leads-snoc; index = suc d; after = le; before = omega arith; accepts = rw (leads-snoc .to) acc }

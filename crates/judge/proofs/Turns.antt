@@ -1,19 +1,21 @@
--- What each turn of the loops over records and states adds, and what the loops add together.
+-- What each turn of the loops over records and states adds, and what the loops add together. Assumes of the image only
+-- that it is not refused.
 use Prim.Native.Nat.{ℕ, _+_, _*_, _<_, _≤_}
 use mathlib.Core.Path.{_≡_, refl, sym, _∙_}
 use mathlib.Core.List.{List}
 use mathlib.Core.Bool.{Bool, true, false, not}
 use native.Mathlib.Omega.{arith}
 use native.Mathlib.Numerals.{add-one}
-use lib.ListN.{length, getD, drop}
+use lib.ListN.{length, drop}
 use borrow.Author.Tests.{not-true, not-false}
 use Rattle.sets.specs.Sets.{In}
-use Rattle.automaton.specs.Automaton.{reads, Step, Accepts}
-use Rattle.image.specs.Image.{initialAt}
+use Rattle.automaton.specs.Automaton.{Step, Accepts}
+use Rattle.image.specs.Image.{initialAt, contentsBytes}
 use Rattle.answer.specs.Bytes.{numberAt}
 use Rattle.image.specs.Reader.{countsAt, countSum}
-use Rattle.judge.specs.Marks.{Token, Lifted, Adds}
-use Rattle.image.specs.Lookup.{machine, recordAt, recordsAt, Readable}
+use Rattle.judge.specs.RunBits.{Token, Lifted, Adds, ByRecord}
+use Rattle.image.specs.Lookup.{imageAutomaton, recordsAt, Readable, AcceptingByte, transitionCountOf}
+use Rattle.judge.specs.Limits.{startBit, rowsWords}
 use Rattle.judge.proofs.Decisions.{false-true}
 use Rattle.judge.proofs.Gathers.{adds-none, adds-as, Gathering}
 use Rattle.image.proofs.Lookup.{step-taken, taken-step, accepts-inside, accepts-byte, byte-accepts, initial-number, number-initial, number-drop, records-end, target-inside, initial-inside}
@@ -36,79 +38,79 @@ reads-so {r} e f = sym e ∙ not-false r f
 -- ---- all records of a state
 
 module _ (image : List ℕ) (rows : List ℕ) (q x : ℕ) where
-  abbrev pub ByRecord : (at i t k : ℕ) → Type 0
-  ByRecord at i t k = (reads (recordAt image (at + 4 * i)) x ≡ true) × ((t ≡ numberAt image (at + 4 * i + 2)) × Token rows q k)
+  abbrev pub ByRecords : (at i t k : ℕ) → Type 0
+  ByRecords at i t k = ByRecord image (at + 4 * i) x (Token rows) q t k
 
-  pub all-records : (before after : List ℕ) (at n : ℕ) → q < numberAt image 2 → at ≡ recordsAt image q → n ≡ numberAt image (18 + 4 * q)
-      → Adds before after (λ t k. (i : ℕ) × (i < n) × ByRecord at i t k) → Adds before after (λ t k. Step (machine image) q x t × Token rows q k)
+  pub all-records : (before after : List ℕ) (at n : ℕ) → q < countsAt image .states → at ≡ recordsAt image q → n ≡ transitionCountOf image q
+      → Adds before after (λ t k. (i : ℕ) × (i < n) × ByRecords at i t k) → Adds before after (λ t k. Step (imageAutomaton image) q x t × Token rows q k)
   all-records before after at n lq ea en adds = adds-as adds to from
     where
-      to : (t k : ℕ) → ((i : ℕ) × (i < n) × ByRecord at i t k) → Step (machine image) q x t × Token rows q k
+      to : (t k : ℕ) → ((i : ℕ) × (i < n) × ByRecords at i t k) → Step (imageAutomaton image) q x t × Token rows q k
       to t k (i, lt, (r, (e, h))) = (
         taken-step image q x t lq (record { index = i; below = rw en at lt; takes = rw ea at r; reaches = rw ea at e }),
         h,
       )
 
-      from : (t k : ℕ) → Step (machine image) q x t × Token rows q k → (i : ℕ) × (i < n) × ByRecord at i t k
+      from : (t k : ℕ) → Step (imageAutomaton image) q x t × Token rows q k → (i : ℕ) × (i < n) × ByRecords at i t k
       from t k (s, h) =
           let d = step-taken image q x t s in
           (d .index, rw en (d .below), (rw ea (d .takes), (rw ea (d .reaches), h)))
 
-  pub records-next : (at n : ℕ) → at ≡ recordsAt image q → n ≡ numberAt image (18 + 4 * q) → at + 4 * n ≡ recordsAt image (q + 1)
+  pub records-next : (at n : ℕ) → at ≡ recordsAt image q → n ≡ transitionCountOf image q → at + 4 * n ≡ recordsAt image (q + 1)
   unfolding countSum
   records-next at n ea en =
-      let e : n ≡ numberAt (drop 18 image) (4 * q) = en ∙ sym (number-drop 18 image (4 * q)) in
+      let e : n ≡ numberAt (drop contentsBytes image) (4 * q) = en ∙ sym (number-drop contentsBytes image (4 * q)) in
       rw (add-one q) (omega arith)
 
   -- where record i of state q lies, and where it leads
-  pub transition-fits : Readable image → (at n i : ℕ) → q < numberAt image 2 → at ≡ recordsAt image q → n ≡ numberAt image (18 + 4 * q) → i < n
-      → (at + 4 * i + 3 < length image) × (4 * numberAt image (at + 4 * i + 2) + 4 ≤ 384)
+  pub transition-fits : Readable image → (at n i : ℕ) → q < countsAt image .states → at ≡ recordsAt image q → n ≡ transitionCountOf image q → i < n
+      → (at + 4 * i + 3 < length image) × (4 * numberAt image (at + 4 * i + 2) + 4 ≤ rowsWords)
   transition-fits fine at n i lq ea en lt =
       let e = records-end image fine q lq in
       let t = target-inside image fine q i lq (rw en at lt) in
       (omega arith, rw ea (omega (arith, fine .few)))
 
-  pub records-fit : Readable image → (at n : ℕ) → q < numberAt image 2 → at ≡ recordsAt image q → n ≡ numberAt image (18 + 4 * q) → at + 4 * n ≤ length image
+  pub records-fit : Readable image → (at n : ℕ) → q < countsAt image .states → at ≡ recordsAt image q → n ≡ transitionCountOf image q → at + 4 * n ≤ length image
   records-fit fine at n lq ea en = rw (ea, en) (records-end image fine q lq)
 
 -- ---- all states
 
 -- the loop over the states that stands at q, with the records of state q at byte `at`
 pub record Stepping (image rows : List ℕ) (n x : ℕ) (before after : List ℕ) (at q : ℕ) : Type 0 where
-  pub place : at ≡ recordsAt image q
-  pub turns : Gathering before (λ p t k. Step (machine image) p x t × Token rows p k) n after q
+  pub offset : at ≡ recordsAt image q
+  pub turns : Gathering before (λ p t k. Step (imageAutomaton image) p x t × Token rows p k) n after q
 
-pub records-begin : (image : List ℕ) (n : ℕ) → n ≡ numberAt image 2 → 18 + 4 * n ≡ recordsAt image 0
+pub records-begin : (image : List ℕ) (n : ℕ) → n ≡ countsAt image .states → contentsBytes + 4 * n ≡ recordsAt image 0
 unfolding countSum
 records-begin image n e = omega arith
 
-pub all-lifted : (image : List ℕ) {before after held : List ℕ} (n : ℕ) → n ≡ numberAt image 2
-    → Adds before after (λ q k. (p : ℕ) × (p < n) × ((getD image (20 + 4 * p) 0 ≡ 1) × ((q ≡ p) × Lifted (Token held) p k))) → Adds before after (λ q k. Accepts (machine image) q × Lifted (Token held) q k)
+pub all-lifted : (image : List ℕ) {before after held : List ℕ} (n : ℕ) → n ≡ countsAt image .states
+    → Adds before after (λ q k. (p : ℕ) × (p < n) × ((AcceptingByte image p) × ((q ≡ p) × Lifted (Token held) p k))) → Adds before after (λ q k. Accepts (imageAutomaton image) q × Lifted (Token held) q k)
 all-lifted image {before} {after} {held} n en adds = adds-as adds to from
   where
-    to : (q k : ℕ) → ((p : ℕ) × (p < n) × ((getD image (20 + 4 * p) 0 ≡ 1) × ((q ≡ p) × Lifted (Token held) p k))) → Accepts (machine image) q × Lifted (Token held) q k
+    to : (q k : ℕ) → ((p : ℕ) × (p < n) × ((AcceptingByte image p) × ((q ≡ p) × Lifted (Token held) p k))) → Accepts (imageAutomaton image) q × Lifted (Token held) q k
     to q k (p, lt, (b, (e, l))) = rw e (byte-accepts image p (rw en at lt) b, l)
 
-    from : (q k : ℕ) → Accepts (machine image) q × Lifted (Token held) q k → (p : ℕ) × (p < n) × ((getD image (20 + 4 * p) 0 ≡ 1) × ((q ≡ p) × Lifted (Token held) p k))
+    from : (q k : ℕ) → Accepts (imageAutomaton image) q × Lifted (Token held) q k → (p : ℕ) × (p < n) × ((AcceptingByte image p) × ((q ≡ p) × Lifted (Token held) p k))
     from q k (a, l) = (q, rw en (accepts-inside image q a), (accepts-byte image q a, (refl, l)))
 
-pub initial-place : (image : List ℕ) {a b : ℕ} → a ≡ numberAt image 2 → b ≡ numberAt image 8 → 18 + 4 * a + 4 * b ≡ initialAt (countsAt image)
-initial-place image ea eb = rw (ea, eb)
+pub initial-offset : (image : List ℕ) {a b : ℕ} → a ≡ countsAt image .states → b ≡ countsAt image .transitions → contentsBytes + 4 * a + 4 * b ≡ initialAt (countsAt image)
+initial-offset image ea eb = rw (ea, eb)
 
-pub initial-fits : (image : List ℕ) → Readable image → (at n i : ℕ) {q : ℕ} → at ≡ initialAt (countsAt image) → n ≡ numberAt image 14 → i < n → q ≡ numberAt image (at + 2 * i) → 4 * q + 4 ≤ 384
+pub initial-fits : (image : List ℕ) → Readable image → (at n i : ℕ) {q : ℕ} → at ≡ initialAt (countsAt image) → n ≡ countsAt image .initial → i < n → q ≡ numberAt image (at + 2 * i) → 4 * q + 4 ≤ rowsWords
 initial-fits image fine at n i ea en lt eq = rw (eq, ea) (omega (arith, fine .few, initial-inside image fine i (rw en at lt)))
 
-pub all-initial : (image : List ℕ) {before after : List ℕ} (n at : ℕ) → n ≡ numberAt image 14 → at ≡ initialAt (countsAt image)
-    → Adds before after (λ q k. (i : ℕ) × (i < n) × ((q ≡ numberAt image (at + 2 * i)) × (k ≡ 96))) → Adds before after (λ q k. In q (machine image .initial) × (k ≡ 96))
+pub all-initial : (image : List ℕ) {before after : List ℕ} (n at : ℕ) → n ≡ countsAt image .initial → at ≡ initialAt (countsAt image)
+    → Adds before after (λ q k. (i : ℕ) × (i < n) × ((q ≡ numberAt image (at + 2 * i)) × (k ≡ startBit))) → Adds before after (λ q k. In q (imageAutomaton image .initial) × (k ≡ startBit))
 all-initial image n at en ea adds = adds-as adds to from
   where
-    to : (q k : ℕ) → ((i : ℕ) × (i < n) × ((q ≡ numberAt image (at + 2 * i)) × (k ≡ 96))) → In q (machine image .initial) × (k ≡ 96)
+    to : (q k : ℕ) → ((i : ℕ) × (i < n) × ((q ≡ numberAt image (at + 2 * i)) × (k ≡ startBit))) → In q (imageAutomaton image .initial) × (k ≡ startBit)
     to q k (i, lt, (e, f)) = (rw (e, ea) (number-initial image i (rw en at lt)), f)
 
-    put : (q k : ℕ) → k ≡ 96 → (i : ℕ) × (i < numberAt image 14) × (q ≡ numberAt image (initialAt (countsAt image) + 2 * i)) → (i : ℕ) × (i < n) × ((q ≡ numberAt image (at + 2 * i)) × (k ≡ 96))
+    put : (q k : ℕ) → k ≡ startBit → (i : ℕ) × (i < countsAt image .initial) × (q ≡ numberAt image (initialAt (countsAt image) + 2 * i)) → (i : ℕ) × (i < n) × ((q ≡ numberAt image (at + 2 * i)) × (k ≡ startBit))
     put q k f (i, lt, e) = (i, rw en lt, (rw ea e, f))
 
-    from : (q k : ℕ) → In q (machine image .initial) × (k ≡ 96) → (i : ℕ) × (i < n) × ((q ≡ numberAt image (at + 2 * i)) × (k ≡ 96))
+    from : (q k : ℕ) → In q (imageAutomaton image .initial) × (k ≡ startBit) → (i : ℕ) × (i < n) × ((q ≡ numberAt image (at + 2 * i)) × (k ≡ startBit))
     from q k (h, f) = put q k f (initial-number image q h)
 
 pub all-states : {before after : List ℕ} (n : ℕ) → Adds before after (λ q k. (p : ℕ) × (p < n) × ((q ≡ p) × (k ≡ p))) → Adds before after (λ q k. (q < n) × (k ≡ q))

@@ -1,14 +1,17 @@
--- From the rows that the search makes, one after another, to its verdict.
+-- From the rows that the search makes, one after another, to its verdict. Assumes of the automaton that its numbers are
+-- states, at most `maxStates`.
 use Prim.Native.Nat.{ℕ, zero, suc, _+_, _*_, _<_, _≤_}
 use mathlib.Core.Path.{_≡_}
 use mathlib.Core.List.{List}
-use mathlib.Core.Bool.{Bool, false}
+use mathlib.Core.Bool.{Bool, true, false}
 use mathlib.Core.Logic.{_⊎_, inl, inr, ⊎-elim}
 use lib.ListN.{length, getD, replicate}
 use Rattle.automaton.specs.Automaton.{Automaton, Step, Accepts, AcceptingPass}
 use Rattle.sets.specs.Sets.{In}
-use Rattle.judge.specs.Marks.{Token, Lifted, Is, Adds, Confined, Decides, After, Linked, one, join, joinMet, Found}
-use Rattle.judge.proofs.Rows.{none-set}
+use Rattle.judge.specs.RunBits.{Token, Lifted, Is, Adds, Confined, Tells, After, Linked, one, join, joinMet, SomeStarted}
+use Rattle.judge.specs.Limits.{startBit, metBit, rowsWords}
+use Rattle.automaton.specs.Limits.{maxStates}
+use Rattle.judge.proofs.RunBits.{none-set}
 use Rattle.judge.proofs.Decisions.{holds-not}
 use Rattle.judge.proofs.Letters.{moved-map, after-inside}
 use Rattle.judge.proofs.Passes.{Begun, Passed, found-pass, pass-stemmed, pass-passed, pass-found}
@@ -64,10 +67,10 @@ more-confined : (n : ℕ) {x y : List ℕ} {New : (q k : ℕ) → Type 0} → Co
 more-confined n old new adds q k h = ⊎-elim (old q k) (new q k) (adds .only q k h)
 
 module _ (a : Automaton) (n : ℕ) (inside : (q x t : ℕ) → Step a q x t → t < n) (initial : (q : ℕ) → In q (a .initial) → q < n) where
-  pub starts-confined : {r1 : List ℕ} → Adds (replicate 384 0) r1 (λ q k. In q (a .initial) × (k ≡ 96)) → Confined n r1
-  starts-confined starts = more-confined n (λ q k h. absurd (none-set 384 q k h)) (λ q k h. initial q (h .0)) starts
+  pub starts-confined : {r1 : List ℕ} → Adds (replicate rowsWords 0) r1 (λ q k. In q (a .initial) × (k ≡ startBit)) → Confined n r1
+  starts-confined starts = more-confined n (λ q k h. absurd (none-set rowsWords q k h)) (λ q k h. initial q (h .0)) starts
 
-  pub begun-confined : (stem : List ℕ) {r1 r2 r3 r4 : List ℕ} → Adds (replicate 384 0) r1 (λ q k. In q (a .initial) × (k ≡ 96)) → Is r2 (After a (λ i. getD stem i 0) (Token r1) (length stem))
+  pub begun-confined : (stem : List ℕ) {r1 r2 r3 r4 : List ℕ} → Adds (replicate rowsWords 0) r1 (λ q k. In q (a .initial) × (k ≡ startBit)) → Is r2 (After a (λ i. getD stem i 0) (Token r1) (length stem))
       → Adds r2 r3 (λ q k. (q < n) × (k ≡ q)) → Adds r3 r4 (λ q k. Accepts a q × Lifted (Token r3) q k) → Confined n r4
   begun-confined stem {r1} {r2} {r3} {r4} starts stemmed placed begun = more-confined n third (λ q k h. third q (h .1 .low) (h .1 .held)) begun
     where
@@ -77,25 +80,25 @@ module _ (a : Automaton) (n : ℕ) (inside : (q x t : ℕ) → Step a q x t → 
       third : Confined n r3
       third = more-confined n second (λ q k h. h .0) placed
 
-module _ (a : Automaton) (n : ℕ) (stem cycle : List ℕ) (few : n ≤ 96) (inside : (q x t : ℕ) → Step a q x t → t < n) (initial : (q : ℕ) → In q (a .initial) → q < n) where
+module _ (a : Automaton) (n : ℕ) (stem cycle : List ℕ) (few : n ≤ maxStates) (inside : (q x t : ℕ) → Step a q x t → t < n) (initial : (q : ℕ) → In q (a .initial) → q < n) where
   -- no run from an initial state is left after the stem
-  pub lost-in-stem : {r1 : List ℕ} → Adds (replicate 384 0) r1 (λ q k. In q (a .initial) × (k ≡ 96)) → ((q : ℕ) → After a (λ i. getD stem i 0) (Token r1) (length stem) q 96 → ⊥) → Decides false (AcceptingPass a stem cycle)
+  pub lost-in-stem : {r1 : List ℕ} → Adds (replicate rowsWords 0) r1 (λ q k. In q (a .initial) × (k ≡ startBit)) → ((q : ℕ) → After a (λ i. getD stem i 0) (Token r1) (length stem) q startBit → ⊥) → Tells false (AcceptingPass a stem cycle)
   lost-in-stem starts lost = holds-not (λ pass.
       let h = pass-stemmed a n stem cycle few inside initial pass in
-      lost (h .0) (after-map a (λ i. getD stem i 0) (is-initial 384 starts .all) (length stem) (h .0) 96 (h .1)))
+      lost (h .0) (after-map a (λ i. getD stem i 0) (is-initial rowsWords starts .all) (length stem) (h .0) startBit (h .1)))
 
-  module _ {r1 r2 r3 r4 : List ℕ} (starts : Adds (replicate 384 0) r1 (λ q k. In q (a .initial) × (k ≡ 96))) (stemmed : Is r2 (After a (λ i. getD stem i 0) (Token r1) (length stem)))
+  module _ {r1 r2 r3 r4 : List ℕ} (starts : Adds (replicate rowsWords 0) r1 (λ q k. In q (a .initial) × (k ≡ startBit))) (stemmed : Is r2 (After a (λ i. getD stem i 0) (Token r1) (length stem)))
       (placed : Adds r2 r3 (λ q k. (q < n) × (k ≡ q))) (begun : Adds r3 r4 (λ q k. Accepts a q × Lifted (Token r3) q k)) where
     is-begun : Is r4 (Begun a n stem cycle)
-    is-begun = is-lifted a (is-more (is-after a (λ i. getD stem i 0) (length stem) (is-initial 384 starts) stemmed) placed) begun
+    is-begun = is-lifted a (is-more (is-after a (λ i. getD stem i 0) (length stem) (is-initial rowsWords starts) stemmed) placed) begun
 
     -- nor after the first pass
-    pub lost-in-cycle : ((q : ℕ) → After a (λ i. getD cycle i 0) (Token r4) (length cycle) q 96 → ⊥) → Decides false (AcceptingPass a stem cycle)
+    pub lost-in-cycle : ((q : ℕ) → After a (λ i. getD cycle i 0) (Token r4) (length cycle) q startBit → ⊥) → Tells false (AcceptingPass a stem cycle)
     lost-in-cycle lost = holds-not (λ pass.
         let h = pass-passed a n stem cycle few inside initial pass in
-        lost (h .0) (after-map a (λ i. getD cycle i 0) (is-begun .all) (length cycle) (h .0) 96 (h .1)))
+        lost (h .0) (after-map a (λ i. getD cycle i 0) (is-begun .all) (length cycle) (h .0) startBit (h .1)))
 
-    pub verdict : {r : Bool} {r5 r6 : List ℕ} → Is r5 (After a (λ i. getD cycle i 0) (Token r4) (length cycle)) → Is r6 (Linked n (Token r5)) → Decides r (Found n r6) → Decides r (AcceptingPass a stem cycle)
+    pub verdict : {r : Bool} {r5 r6 : List ℕ} → Is r5 (After a (λ i. getD cycle i 0) (Token r4) (length cycle)) → Is r6 (Linked n (Token r5)) → Tells r (SomeStarted true n r6) → Tells r (AcceptingPass a stem cycle)
     verdict {r} {r5} {r6} passed closed found = record {
       yes = λ e. kept (found .yes e);
       no = λ e pass. found .no e (shown (pass-found a n stem cycle few inside initial pass));
@@ -104,14 +107,14 @@ module _ (a : Automaton) (n : ℕ) (stem cycle : List ℕ) (few : n ≤ 96) (ins
         rows : Is r6 (Linked n (Passed a n stem cycle))
         rows = is-linked n (is-after a (λ i. getD cycle i 0) (length cycle) is-begun passed) closed
 
-        kept : Found n r6 → AcceptingPass a stem cycle
-        kept (q, lt, (b, h)) = found-pass a n stem cycle few q lt (rows .only q 96 b) (rows .only q (128 + q) h)
+        kept : SomeStarted true n r6 → AcceptingPass a stem cycle
+        kept (q, lt, (b, h)) = found-pass a n stem cycle few q lt (rows .only q startBit b) (rows .only q (metBit + q) h)
 
-        shown : (q : ℕ) × (q < n) × (Linked n (Passed a n stem cycle) q 96 × Linked n (Passed a n stem cycle) q (128 + q)) → Found n r6
-        shown (q, lt, (b, h)) = (q, lt, (rows .all q 96 b, rows .all q (128 + q) h))
+        shown : (q : ℕ) × (q < n) × (Linked n (Passed a n stem cycle) q startBit × Linked n (Passed a n stem cycle) q (metBit + q)) → SomeStarted true n r6
+        shown (q, lt, (b, h)) = (q, lt, (rows .all q startBit b, rows .all q (metBit + q) h))
 
 -- no state accepts
-pub never-accepts : (a : Automaton) (stem cycle : List ℕ) → ((q : ℕ) → Accepts a q → ⊥) → Decides false (AcceptingPass a stem cycle)
+pub never-accepts : (a : Automaton) (stem cycle : List ℕ) → ((q : ℕ) → Accepts a q → ⊥) → Tells false (AcceptingPass a stem cycle)
 never-accepts a stem cycle none = holds-not (λ pass. go pass (pass .accepts))
   where
     go : (pass : AcceptingPass a stem cycle) → (i : ℕ) × (length stem + pass .first * length cycle ≤ i) × (i ≤ length stem + pass .second * length cycle) × Accepts a (pass .at i) → ⊥

@@ -39,10 +39,14 @@ workBytes = maxStates * maxLetters
 abbrev pub workCheck : List ℕ → Check
 workCheck work = require (leb workBytes (length work)) 25 0
 
+-- the automaton, if the lasso is not refused by 8 or 9
+abbrev pub lassoJudgeable : Automaton → (stem cycle : List ℕ) → Result Automaton
+lassoJudgeable a stem cycle = andThen (lassoCheck stem cycle) (λ _. accepted a)
+
 -- the order of judging's refusals: 25, the image's 10 to 13, the lasso's 8 and 9; else the automaton that is judged
 unfoldable pub judgeable : (image stem cycle work : List ℕ) → Result Automaton
 judgeable image stem cycle work =
-    andThen (workCheck work) (λ _. andThen (readImage image) (λ a. andThen (lassoCheck stem cycle) (λ _. accepted a)))
+    andThen (workCheck work) (λ _. andThen (readImage image) (λ a. lassoJudgeable a stem cycle))
 
 -- kept exactly where there is an accepting pass (01, Judging, sentence 6)
 unfoldable pub verdict : Automaton → (stem cycle : List ℕ) → Verdict
@@ -60,6 +64,10 @@ judgement answer work = record { answer = answer; work = work }
 abbrev pub judgedBy : Result Automaton → (stem cycle work : List ℕ) → Judgement
 judgedBy (accepted a) stem cycle work = judgement (accepted (verdict a stem cycle)) (zeros work)
 judgedBy (refused number place) stem cycle work = judgement (refused number place) work
+
+-- an automaton on a lasso
+abbrev pub judgedOn : Automaton → (stem cycle work : List ℕ) → Judgement
+judgedOn a stem cycle work = judgedBy (lassoJudgeable a stem cycle) stem cycle work
 
 unfoldable pub judged : (image stem cycle work : List ℕ) → Judgement
 judged image stem cycle work = judgedBy (judgeable image stem cycle work) stem cycle work

@@ -1,4 +1,5 @@
--- The call judge, its verdict as a value, and the marks by which the code searches.
+-- The call judge, its verdict as a value, and the bits by which the code searches.
+pub mod Limits
 pub mod Search
 pub mod Judge
-pub mod Marks
+pub mod RunBits

@@ -34,7 +34,10 @@ meetAll (x ∷ xs) met = meetAll xs (meet x met)
 -- where the transitions that read the letter lead, in order, at the next position
 unfoldable pub targets : (letter next : ℕ) → List Transition → List Point
 targets x next [] = []
-targets x next (t ∷ ts) = elim (reads t x) [ true ↦ point next (t .target) ∷ targets x next ts | false ↦ targets x next ts ]
+targets x next (t ∷ ts) = elim (reads t x) [
+  | true ↦ point next (t .target) ∷ targets x next ts
+  | false ↦ targets x next ts
+]
 
 -- positions run over stem and cycle; after the last comes the cycle's first
 unfoldable pub after : (stem cycle : List ℕ) (position : ℕ) → ℕ
@@ -44,13 +47,16 @@ module _ (a : Automaton) (stem cycle : List ℕ) where
   -- the points that a step leads to
   unfoldable pub onward : Point → List Point
   onward x =
-      targets (letter stem cycle (x .position)) (after stem cycle (x .position)) (getD (a .states) (x .state) noState .transitions)
+      targets (letter stem cycle (x .position)) (after stem cycle (x .position))
+      (getD (a .states) (x .state) noState .transitions)
 
   -- the points met, when the first `taken` of them have been taken: each one taken meets those that it leads to
   unfoldable pub reach : (fuel taken : ℕ) (met : List Point) → List Point
   reach zero taken met = met
-  reach (suc fuel) taken met =
-      elim (ltb taken (length met)) [ true ↦ reach fuel (suc taken) (meetAll (onward (getD met taken (point 0 0))) met) | false ↦ met ]
+  reach (suc fuel) taken met = elim (ltb taken (length met)) [
+    | true ↦ reach fuel (suc taken) (meetAll (onward (getD met taken (point 0 0))) met)
+    | false ↦ met
+  ]
 
   -- all points that can be reached from the given ones: each is taken once, so states times positions are enough
   unfoldable pub reachedFrom : List Point → List Point

@@ -1,19 +1,16 @@
 // Judges the lasso on standard input, which has an image, the stem and the cycle one after another. Before the image
 // and before the stem stands its length, two bytes with the low one first; the cycle goes to the end.
+use answer::number_of;
 use judge::Judged;
 use judge::WORK_BYTES;
 use lasso::MAX_LETTERS;
 use libc::STDIN_FILENO;
-use libc::STDOUT_FILENO;
+use show::print;
 ghost use Prim.Native.Nat.{_≤_};
 
 // The longest image and stem that two bytes can say, with their lengths, and one letter more than a lasso may have:
 // what comes after that changes no answer.
 const ENOUGH: usize = 2 + 65535 + 2 + 65535 + MAX_LETTERS + 1;
-
-fn print(text: &[u8]) {
-    io::write_all(STDOUT_FILENO, text);
-}
 
 fn print_judged(answer: Judged) {
     match answer {
@@ -43,7 +40,7 @@ fn judge_after(input: &[u8], end: usize)
         return;
     }
     let from = end + 2;
-    let n = show::number_of(input[end], input[end + 1]);
+    let n = number_of(input[end], input[end + 1]);
     if input.len() - from < n {
         print(b"short\n");
         return;
@@ -57,7 +54,7 @@ fn judge_input(input: &[u8]) {
         print(b"short\n");
         return;
     }
-    judge_after(input, 2 + show::number_of(input[0], input[1]));
+    judge_after(input, 2 + number_of(input[0], input[1]));
 }
 
 fn read_and_judge(buffer: &mut [u8]) {

@@ -1,3 +1,3 @@
--- What is known of lassos, for the crates above.
+-- What is known of lassos, for the crates above. Assumes nothing.
 pub mod Letters
 pub mod Checking

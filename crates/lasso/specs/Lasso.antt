@@ -1,5 +1,5 @@
--- A lasso: a stem, and a cycle that is taken round and round (document 01: a plan, its stem and its loop). A letter is one
--- byte, in which bit p is proposition p (a slot with its marks).
+-- A lasso: a stem, and a cycle that is taken round and round (document 01: a plan, its stem and its loop). A letter is
+-- one byte, in which bit p is proposition p (a slot with its marks).
 use Prim.Native.Nat.{ℕ, _+_, _-_, _%_}
 use mathlib.Core.List.{List}
 use mathlib.Core.Bool.{cond}

@@ -9,7 +9,8 @@ use lib.ListN.{getD, length}
 use lib.Dec.{leb, ltb}
 use borrow.Author.Tests.{leb-true, ltb-true}
 use Rattle.answer.specs.Result.{Result, accepted, refused, andThen, Check, fine, require, lowest}
-use Rattle.formula.specs.Rule.{nodeCount, lengthCheck, nodeCheck, placeCheck, syntaxCheck, untilCheck}
+use Rattle.formula.specs.Rule.{nodeCount, releaseKind, lengthCheck, nodeCheck, placeCheck, syntaxCheck, untilCheck}
+use Rattle.formula.specs.Limits.{ruleBytes}
 use Rattle.formula.specs.Rule
 use Rattle.answer.proofs.Lowest.{fine-first}
 use Rattle.answer.proofs.Results.{never-both, require-fine, required}
@@ -21,9 +22,10 @@ use Rattle.translation.specs.Degeneralized.{degeneralized, translation}
 use Rattle.automaton.specs.Limits.{maxTransitions}
 use Rattle.automaton.specs.Tables.{Counts, Outcome, tableCheck}
 use Rattle.translation.specs.Translate.{stored, unless, translated}
-use Rattle.image.specs.Reader.{countsAt, countsFit, contentsCheck, stateCheck, transitionCheck, initialCheck, recordsCheck, readTables, readImage}
-use Rattle.image.specs.Calls.{bufferCheck, written, writes, loaded, reads}
-use Rattle.image.proofs.Tests.{Small, counts-small}
+use Rattle.image.specs.Steps.{Small}
+use Rattle.image.specs.Reader.{countsAt, countsFit, contentsCheck, stateCheck, transitionRecordCheck, initialCheck, recordsCheck, readTables, readImage}
+use Rattle.image.specs.Calls.{bufferCheck, written, writes, loaded, readInto}
+use Rattle.image.proofs.Tests.{counts-small}
 use Rattle.image.proofs.Contents.{contents-fine}
 use Rattle.lasso.specs.Lasso.{lassoCheck}
 use Rattle.judge.specs.Judge.{judgeable, judgedBy, judged}
@@ -116,12 +118,12 @@ length-proper rule = search proper
 -- a rule that 1 lets pass has few nodes
 few-nodes : (rule : List ℕ) → lengthCheck rule ≡ fine → nodeCount rule ≤ maxTransitions
 unfolding lengthCheck
-few-nodes rule e = omega (arith, leb-true (length rule) 96 (required _ 1 0 _ e .0))
+few-nodes rule e = omega (arith, leb-true (length rule) ruleBytes (required _ 1 0 _ e .0))
 
 -- 3 to 5
-node-proper : (rule : List ℕ) (n : ℕ) → n ≤ maxTransitions → Proper (nodeCheck rule n)
+node-proper : (highest : ℕ) (rule : List ℕ) (n : ℕ) → n ≤ maxTransitions → Proper (nodeCheck highest rule n)
 unfolding nodeCheck
-node-proper rule n le = search proper
+node-proper highest rule n le = search proper
 
 -- 6
 place-proper : (rule : List ℕ) (n : ℕ) → n ≤ maxTransitions → Proper (placeCheck rule n)
@@ -129,9 +131,9 @@ unfolding placeCheck
 place-proper rule n le = search proper
 
 -- 1 to 6
-syntax-proper : (rule : List ℕ) → Proper (syntaxCheck rule)
+syntax-proper : (highest : ℕ) (rule : List ℕ) → Proper (syntaxCheck highest rule)
 unfolding syntaxCheck
-syntax-proper rule =
+syntax-proper highest rule =
     then-proper (lengthCheck rule) _ (length-proper rule)
     (λ u e. let few : nodeCount rule ≤ maxTransitions = few-nodes rule e in search (proper, node-proper, place-proper) depth 7)
 
@@ -149,7 +151,7 @@ sizes-proper : (rule : List ℕ) → Proper (checked rule)
 unfolding checked Rule.checked syntaxCheck
 sizes-proper rule =
     then-proper (Rule.checked rule) _ (rule-proper rule)
-    (λ u e. let few : nodeCount rule ≤ maxTransitions = few-nodes rule (fine-first (lengthCheck rule) _ (fine-first (syntaxCheck rule) _ e)) in search (proper, size-proper))
+    (λ u e. let few : nodeCount rule ≤ maxTransitions = few-nodes rule (fine-first (lengthCheck rule) _ (fine-first (syntaxCheck releaseKind rule) _ e)) in search (proper, size-proper))
 
 -- 21
 product-proper : (rule : List ℕ) (place state : ℕ) → place ≤ maxTransitions → Proper (productCheck rule place state)
@@ -196,8 +198,8 @@ unfolding stateCheck
 state-proper s k le = search proper
 
 -- 12
-transition-proper : (states : ℕ) (t : List ℕ) (k : ℕ) → k ≤ maxTransitions → Proper (transitionCheck states t k)
-unfolding transitionCheck
+transition-proper : (states : ℕ) (t : List ℕ) (k : ℕ) → k ≤ maxTransitions → Proper (transitionRecordCheck states t k)
+unfolding transitionRecordCheck
 transition-proper states t k le = search proper
 
 -- 13
@@ -225,8 +227,8 @@ unfolding readImage
 image-proper image = then-proper (contentsCheck image) _ (contents-proper image) (λ u e. records-proper (countsAt image) _ _ _ (contents-fine image e .small))
 
 -- 25 and 10 to 13
-pub reads-proper : (image s t i : List ℕ) → Proper (reads image s t i .answer)
-unfolding reads
+pub reads-proper : (image s t i : List ℕ) → Proper (readInto image s t i .answer)
+unfolding readInto
 reads-proper image s t i = go (andThen (tableCheck s t i) (λ _. readImage image)) (search (proper, tables-proper, image-proper))
   where
     go : (r : Result Automaton) → Proper r → Proper (loaded r s t i .answer)

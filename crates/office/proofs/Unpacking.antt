@@ -13,15 +13,16 @@ use Rattle.translation.specs.Degeneralized.{translation}
 use Rattle.automaton.specs.Limits.{maxStates, maxTransitions, maxInitial}
 use Rattle.automaton.specs.Tables.{Counts, counts, tableCheck, countsOf}
 use Rattle.translation.specs.Translate.{stored, unless, translated}
+use Rattle.image.specs.Steps.{Small}
 use Rattle.image.specs.Image.{imageLength, largestImage}
 use Rattle.image.specs.Reader.{countsFit, recordsCheck, automatonFrom, readTables, readImage}
-use Rattle.image.specs.Calls.{buffer, bufferCheck, writes, loaded, reads, checks}
+use Rattle.image.specs.Calls.{buffer, bufferCheck, writes, loaded, readInto, checks}
 use Rattle.image.proofs.Before.{follows, passes}
-use Rattle.image.proofs.Tests.{Small, counts-small}
+use Rattle.image.proofs.Tests.{counts-small}
 use Rattle.image.proofs.Contents.{checks-sized}
 use Rattle.image.proofs.Sizes.{image-size}
 use Rattle.image.proofs.Tables.{counts-back}
-use Rattle.image.proofs.Answers.{writes-of}
+use Rattle.image.proofs.Outcomes.{writes-of}
 use Rattle.judge.specs.Judge.{Verdict, kept, broken, judged}
 use Rattle.demands.specs.Demand.{decided}
 use Rattle.automaton.proofs.WellFormed.{few-together}
@@ -79,8 +80,8 @@ translated-small rule s t i c e =
     first (refused number place) e = never-both e
 
 -- of an accepted read
-pub reads-small : (image s t i : List ℕ) (c : Counts) → reads image s t i .answer ≡ accepted c → Small c
-unfolding reads checks
+pub reads-small : (image s t i : List ℕ) (c : Counts) → readInto image s t i .answer ≡ accepted c → Small c
+unfolding readInto checks
 reads-small image s t i c e = first (tableCheck s t i) e
   where
     second : (r : Result Automaton) → loaded r s t i .answer ≡ accepted c → accepted c ≡ andThen r (λ a. accepted (counts a))
@@ -199,8 +200,8 @@ pub translate-unpacks : (rule s t i : List ℕ) → Unpacks CountsRead (packCoun
 translate-unpacks rule s t i = counts-unpack (translated rule s t i .answer) (translated-proper rule s t i) (translated-small rule s t i)
 
 -- zimboralo_read
-pub read-unpacks : (image s t i : List ℕ) → Unpacks CountsRead (packCounts (reads image s t i .answer)) (reads image s t i .answer)
-read-unpacks image s t i = counts-unpack (reads image s t i .answer) (reads-proper image s t i) (reads-small image s t i)
+pub read-unpacks : (image s t i : List ℕ) → Unpacks CountsRead (packCounts (readInto image s t i .answer)) (readInto image s t i .answer)
+read-unpacks image s t i = counts-unpack (readInto image s t i .answer) (reads-proper image s t i) (reads-small image s t i)
 
 -- zimboralo_write
 pub write-unpacks : (c : Counts) (s t i image : List ℕ) → Unpacks LengthRead (packLength (writes c s t i image .answer)) (writes c s t i image .answer)

@@ -1,7 +1,7 @@
 // The calls for C: numbers and byte slices, each slice a pointer and a length. An answer is packed into one number.
 use demands::decide;
 use image::Loaded;
-use image::Written;
+use image::WrittenImage;
 use image::read;
 use image::write;
 use judge::Judged;
@@ -10,7 +10,7 @@ use translation::Translated;
 use translation::translate;
 ghost use mathlib.Core.Path.{_≡_};
 ghost use Rattle.translation.specs.Translate.{answer, translated};
-ghost use Rattle.image.specs.Calls.{readAnswer, reads, writeAnswer, writes};
+ghost use Rattle.image.specs.Calls.{readAnswer, readInto, writeAnswer, writes};
 ghost use Rattle.automaton.specs.Tables.{countsOf};
 ghost use Rattle.judge.specs.Judge.{judgeAnswer, judged};
 ghost use Rattle.demands.specs.Demand.{decided};
@@ -57,17 +57,17 @@ fn pack_loaded(loaded: Loaded) -> u64
 {
     match loaded {
         Loaded::Counted(states, transitions, initial) => pack_three(states, transitions, initial),
-        Loaded::Rejected(number, place) => pack_refusal(number, place),
+        Loaded::Refused(number, place) => pack_refusal(number, place),
     }
 }
 
 // The answer of write: the length, or the refusal.
-fn pack_written(written: Written) -> u64
+fn pack_written(written: WrittenImage) -> u64
     ensures { λ r. ⌜ r ≡ packLength (writeAnswer written) ⌝ }
 {
     match written {
-        Written::Length(length) => pack_size(length),
-        Written::Refused(number, place) => pack_refusal(number, place),
+        WrittenImage::Length(length) => pack_size(length),
+        WrittenImage::Refused(number, place) => pack_refusal(number, place),
     }
 }
 
@@ -127,7 +127,7 @@ pub extern "C" fn zimboralo_read(
     transitions: &mut [u8],
     initial: &mut [u8],
 ) -> u64
-    ensures { λ r. ⌜ packedTables r (now (states .exit)) (now (transitions .exit)) (now (initial .exit)) ≡ packOutcome (reads (now (image .entry)) (now (states .entry)) (now (transitions .entry)) (now (initial .entry))) ⌝ }
+    ensures { λ r. ⌜ packedTables r (now (states .exit)) (now (transitions .exit)) (now (initial .exit)) ≡ packOutcome (readInto (now (image .entry)) (now (states .entry)) (now (transitions .entry)) (now (initial .entry))) ⌝ }
 {
     pack_loaded(read(image, states, transitions, initial))
 }

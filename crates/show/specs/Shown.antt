@@ -3,13 +3,10 @@
 use Prim.Native.Nat.{ℕ, _+_, _-_, _*_, _/_, _%_}
 use mathlib.Core.Bool.{cond}
 use mathlib.Core.List.{List, [], _∷_}
-use lib.ListN.{getD, length}
+use lib.ListN.{length}
 use lib.Dec.{ltb, leb}
+use Rattle.answer.specs.Bytes.{numberAt}
 use Rattle.automaton.specs.Limits.{maxTransitions}
-
--- a number in two bytes, low byte first (01, The image, sentence 2)
-abbrev pub number : (low high : ℕ) → ℕ
-number low high = low + 256 * high
 
 -- a hexadecimal digit in ASCII: 0 stands at 48, A at 65
 abbrev pub digit : ℕ → ℕ
@@ -25,6 +22,4 @@ label must mustNot =
 -- transitions that an automaton has, and past the last record, nothing is shown.
 unfoldable pub rowEnd : (states : List ℕ) (i from : ℕ) → ℕ
 rowEnd states i from =
-    cond (ltb maxTransitions from) from
-    (cond (leb (length states / 4) i) from
-    (from + number (getD states (i * 4) 0) (getD states (i * 4 + 1) 0)))
+    cond (ltb maxTransitions from) from (cond (leb (length states / 4) i) from (from + numberAt states (i * 4)))

@@ -1,4 +1,5 @@
 // Prints what the program showwatch prints of a rule: its automaton, or its refusal.
+use answer::number_of;
 use automaton::INITIAL_BYTES;
 use automaton::MAX_TRANSITIONS;
 use automaton::STATES_BYTES;
@@ -8,9 +9,9 @@ use translation::Translated;
 ghost use mathlib.Core.Path.{_≡_};
 ghost use Prim.Native.Nat.{_≤_, _<_};
 ghost use Rattle.automaton.specs.Limits.{maxTransitions};
-ghost use Rattle.show.specs.Shown.{number, digit, label, rowEnd};
+ghost use Rattle.show.specs.Shown.{digit, label, rowEnd};
 
-fn print(text: &[u8]) {
+pub fn print(text: &[u8]) {
     io::write_all(STDOUT_FILENO, text);
 }
 
@@ -33,15 +34,6 @@ fn digit(n: u8) -> u8
     ensures { λ r. ⌜ r ≡ digit n ⌝ }
 {
     if n < 10 { 48 + n } else { 55 + n }
-}
-
-// A number in two bytes, low byte first.
-pub fn number_of(low: u8, high: u8) -> usize
-    ensures value { λ r. ⌜ r ≡ number low high ⌝ }
-    ensures within { λ r. ⌜ r ≤ 65535 ⌝ }
-{
-    let high = high as usize;
-    (low as usize) + high * 256
 }
 
 // must and must_not in two hexadecimal digits each, a space after each.

@@ -1,12 +1,12 @@
 // The second walk, which makes the automaton of a rule, and the call translate: the automaton as records in three
 // tables that the caller lends.
 use answer::Checked;
+use answer::TABLE_TOO_SHORT;
 use answer::put_number;
 use answer::zero;
 use automaton::INITIAL_BYTES;
 use automaton::MAX_STATES;
 use automaton::STATES_BYTES;
-use automaton::TABLE_TOO_SHORT;
 use automaton::TRANSITIONS_BYTES;
 use generalized::GeneralizedState;
 use generalized::Met;

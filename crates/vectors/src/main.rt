@@ -1,5 +1,6 @@
 // Translates many rules in one run. Standard input has them one after another, each behind its length in two bytes,
 // low byte first; each gets what the program showwatch prints.
+use answer::number_of;
 use libc::STDIN_FILENO;
 
 // The longest input taken for a rule: enough for any that is not refused by its length, and for many that are.
@@ -26,7 +27,7 @@ fn answer_next() -> bool {
         return false;
     }
     let mut buffer = [0u8; LONGEST];
-    answer_rule(&mut buffer, show::number_of(prefix[0], prefix[1]))
+    answer_rule(&mut buffer, number_of(prefix[0], prefix[1]))
 }
 
 // A loop has to end, and nothing says that the input does: it counts its turns down.

@@ -11,10 +11,10 @@ use Rattle.formula.proofs.check_nodes.Statement.{statement}
 use Rattle.formula.proofs.check_nodes.Tie as tie
 
 abbrev Inv-loop : tie.InvT-loop
-Inv-loop rule n i₀ i = Passing (nodeCheck rule) n i
+Inv-loop highest rule n i₀ i = Passing (nodeCheck highest rule) n i
 
 abbrev μ-loop : tie.MeasureT-loop
-μ-loop rule n i₀ i = n - i
+μ-loop highest rule n i₀ i = n - i
 
 loop-holds : tie.Need-loop-holds Inv-loop μ-loop
 loop-holds c = pass-begins _ _

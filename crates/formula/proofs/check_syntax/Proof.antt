@@ -4,18 +4,18 @@ use borrow.Author.Needs.{needs}
 use native.Mathlib.Omega.{arith}
 use mathlib.Core.Path.{refl, sym, ap, _∙_}
 use Rattle.answer.specs.Result.{answer}
-use Rattle.formula.proofs.Checks.{too-long, empty, broken, node-refused, places-left}
+use Rattle.formula.proofs.Checks.{too-long, empty, broken, node-refused, places-left, children-below}
 use Rattle.formula.proofs.check_syntax.Statement.{statement}
 use Rattle.formula.proofs.check_syntax.Tie as tie
 
 returns : tie.Need-returns
-returns c = too-long _ (omega arith)
+returns c = too-long _ _ (omega arith)
 
 returns-2 : tie.Need-returns-2
-returns-2 c = empty _ (omega arith) (omega arith)
+returns-2 c = empty _ _ (omega arith) (omega arith)
 
 returns-3 : tie.Need-returns-3
-returns-3 c = broken _ (omega arith) (c .if3 .taken)
+returns-3 c = broken _ _ (omega arith) (c .if3 .taken)
 
 check-nodes-requires : tie.Need-check-nodes-requires
 check-nodes-requires c κs = search needs
@@ -25,19 +25,19 @@ enum-known-nodes c = search needs
 
 returns-4 : tie.Need-returns-4
 returns-4 c =
-    node-refused _ (omega arith) (omega arith) (omega arith) (sym (ap answer (c .before .nodes .given .1)) ∙ c .before .before .before .check-nodes .ensures)
+    node-refused _ _ (omega arith) (omega arith) (omega arith) (sym (ap answer (c .before .nodes .given .1)) ∙ c .before .before .before .check-nodes .ensures)
 
 enum-told : tie.Need-enum-told
 enum-told c = search needs
 
 check-places-requires : tie.Need-check-places-requires
-check-places-requires c κs = (refl, omega arith, sym (c .before .before .check-nodes .ensures) ∙ ap answer (c .enum-told .given .1))
+check-places-requires c κs = (refl, omega arith, children-below _ _ _ (sym (c .before .before .check-nodes .ensures) ∙ ap answer (c .enum-told .given .1)))
 
 returns-5 : tie.Need-returns-5
 returns-5 c =
     let nodes = c .before in
     c .check-places .ensures
-    ∙ places-left _ (omega arith) (omega arith) (omega arith) (sym (nodes .before .before .check-nodes .ensures) ∙ ap answer (nodes .enum-told .given .1))
+    ∙ places-left _ _ (omega arith) (omega arith) (omega arith) (sym (nodes .before .before .check-nodes .ensures) ∙ ap answer (nodes .enum-told .given .1))
 
 pub check-syntax-spec : {M : Type 1} → statement M
 check-syntax-spec =

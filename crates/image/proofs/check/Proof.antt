@@ -32,7 +32,7 @@ read c = passes _ _ _ (sym (ap readAnswer (c .before .contents .given .1)) ∙ c
 check-bodies-requires : tie.Need-check-bodies-requires
 check-bodies-requires c κs =
     let known = sized (read c) in
-    (known .small .states, known .small .transitions, known .small .initial, known .size)
+    (known .small, known .size)
 
 enum-known-bodies : tie.Need-enum-known-bodies
 enum-known-bodies c = search needs

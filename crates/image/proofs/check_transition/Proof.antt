@@ -1,8 +1,8 @@
--- `image::check_transition` meets its contract: each way through the code settles the tests of `transitionCheck`.
+-- `image::check_transition` meets its contract: each way through the code settles the tests of `transitionRecordCheck`.
 -- Assumes nothing.
 use borrow.Author.Needs.{needs}
 use native.Mathlib.Omega.{arith}
-use Rattle.image.proofs.Tests.{target-wrong, shared-mark, transition-fits}
+use Rattle.image.proofs.Tests.{target-wrong, shared-proposition, transition-fits}
 use Rattle.image.proofs.check_transition.Statement.{statement}
 use Rattle.image.proofs.check_transition.Tie as tie
 
@@ -34,7 +34,7 @@ shared-slice-read-must-not : tie.Need-shared-slice-read-must-not
 shared-slice-read-must-not c = search needs
 
 returns-2 : tie.Need-returns-2
-returns-2 c = shared-mark _ _ _ (omega arith) (c .if2 .taken)
+returns-2 c = shared-proposition _ _ _ (omega arith) (c .if2 .taken)
 
 returns-3 : tie.Need-returns-3
 returns-3 c = transition-fits _ _ _ (omega arith) (c .if2 .left)

@@ -6,12 +6,12 @@ use Prim.Native.Nat.{_-_}
 use mathlib.Core.Path.{sym, ap, _∙_}
 use Rattle.answer.specs.Result.{answer}
 use Rattle.answer.proofs.Lowest.{Passing, pass-begins, pass-steps, pass-fails, pass-ends}
-use Rattle.image.specs.Reader.{transitionCheck}
+use Rattle.image.specs.Reader.{transitionRecordCheck}
 use Rattle.image.proofs.check_transitions.Statement.{statement}
 use Rattle.image.proofs.check_transitions.Tie as tie
 
 abbrev Inv-loop : tie.InvT-loop
-Inv-loop transitions n state-count i₀ i = Passing (transitionCheck state-count transitions) n i
+Inv-loop transitions n state-count i₀ i = Passing (transitionRecordCheck state-count transitions) n i
 
 abbrev μ-loop : tie.MeasureT-loop
 μ-loop transitions n state-count i₀ i = n - i

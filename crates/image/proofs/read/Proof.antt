@@ -3,7 +3,7 @@
 use borrow.Author.Needs.{needs}
 use mathlib.Core.Path.{sym, ap, _∙_}
 use Rattle.image.specs.Calls.{readAnswer}
-use Rattle.image.proofs.Answers.{tables-long, read-short, read-refused, read-accepted}
+use Rattle.image.proofs.Outcomes.{tables-long, read-short, read-refused, read-accepted}
 use Rattle.image.proofs.Contents.{checks-sized}
 use Rattle.image.proofs.read.Statement.{statement}
 use Rattle.image.proofs.read.Tie as tie
@@ -35,7 +35,7 @@ load-bodies-requires c κs =
     let a = tables .before .before .before .before .before .before .args in
     let long = tables-long (a .states .now) (a .transitions .now) (a .initial .now) (tables .before .tables-fit .ensures) (tables .if1 .left) in
     let known = checks-sized _ _ (sym (ap readAnswer (found .found .given .1)) ∙ found .before .before .check .ensures) in
-    (known .small .states, known .small .transitions, known .small .initial, known .size, long .states, long .transitions, long .initial)
+    (known .small, known .size, long)
 
 same-length : tie.Need-same-length
 same-length c = search needs

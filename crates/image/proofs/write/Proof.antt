@@ -6,7 +6,7 @@ use mathlib.Core.Path.{sym, ap, _∙_}
 use borrow.Author.Tests.{not-false}
 use Rattle.answer.specs.Result.{answer}
 use Rattle.image.proofs.Tests.{counts-small}
-use Rattle.image.proofs.Answers.{tables-long, write-short, buffer-short, counts-refused, records-refused, write-accepted}
+use Rattle.image.proofs.Outcomes.{tables-long, write-short, buffer-short, counts-refused, records-refused, write-accepted}
 use Rattle.image.proofs.write.Statement.{statement}
 use Rattle.image.proofs.write.Tie as tie
 
@@ -57,7 +57,7 @@ write-image-requires c κs =
     let a = tables .before .before .before .before .before .before .args in
     let long = tables-long (a .states .now) (a .transitions .now) (a .initial .now) (tables .before .tables-fit .ensures) (tables .if1 .left) in
     let small = counts-small _ (sym (counts .before .counts-fit .ensures) ∙ not-false _ (counts .if3 .left)) in
-    (small .states, small .transitions, small .initial, long .states, long .transitions, long .initial, omega arith)
+    (small, long, omega arith)
 
 same-length : tie.Need-same-length
 same-length c = search needs

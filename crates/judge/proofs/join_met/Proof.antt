@@ -6,17 +6,17 @@ use borrow.Author.Needs.{needs}
 use Rattle.judge.proofs.join_met.Statement.{statement}
 use Rattle.judge.proofs.join_met.Tie as tie
 
-add-has : tie.Need-add-has
-add-has c = search needs
+add-has-bit : tie.Need-add-has-bit
+add-has-bit c = search needs
 
-has-requires : tie.Need-has-requires
-has-requires c κs = search needs
+has-bit-requires : tie.Need-has-bit-requires
+has-bit-requires c κs = search needs
 
 same-length : tie.Need-same-length
 same-length c = search needs
 
 returns : tie.Need-returns
-returns c = adds-not (decided-not (c .before .has .ensures) (c .if1 .taken))
+returns c = adds-not (decided-not (c .before .has-bit .ensures) (c .if1 .taken))
 
 or-met-requires : tie.Need-or-met-requires
 or-met-requires c κs = search needs
@@ -25,9 +25,9 @@ same-length-2 : tie.Need-same-length-2
 same-length-2 c = search needs
 
 returns-2 : tie.Need-returns-2
-returns-2 c = adds-if (decided-so (c .before .before .before .before .before .has .ensures) (c .before .before .before .before .if1 .left)) (c .before .before .or-met .ensures)
+returns-2 c = adds-if (decided-so (c .before .before .before .before .before .has-bit .ensures) (c .before .before .before .before .if1 .left)) (c .before .before .or-met .ensures)
 
 pub join-met-spec : {M : Type 1} → statement M
 join-met-spec =
     tie.close
-    (tie.spec add-has has-requires same-length returns or-met-requires same-length-2 returns-2)
+    (tie.spec add-has-bit has-bit-requires same-length returns or-met-requires same-length-2 returns-2)

@@ -4,7 +4,7 @@ use borrow.Author.Needs.{needs}
 use mathlib.Core.Path.{sym, ap, _∙_}
 use Rattle.answer.specs.Result.{answer}
 use Rattle.image.proofs.Accepted.{readable-in-range}
-use Rattle.judge.proofs.Answers.{lasso-refused, lasso-kept, lasso-broken}
+use Rattle.judge.proofs.Judgements.{lasso-refused, lasso-kept, lasso-broken}
 use Rattle.judge.proofs.judge_lasso.Statement.{statement}
 use Rattle.judge.proofs.judge_lasso.Tie as tie
 

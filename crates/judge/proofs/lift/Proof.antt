@@ -2,17 +2,17 @@
 -- Assumes nothing.
 use borrow.Author.Needs.{needs}
 use native.Mathlib.Omega.{arith}
-use Prim.Native.Nat.{_-_, _+_, _*_}
+use Prim.Native.Nat.{_-_}
 use mathlib.Core.Path.{_≡_}
-use lib.ListN.{getD}
-use Rattle.judge.specs.Marks.{Token, Lifted}
+use Rattle.judge.specs.RunBits.{Token, Lifted}
+use Rattle.image.specs.Lookup.{AcceptingByte}
 use Rattle.judge.proofs.Gathers.{Gathering, gather-begins, gather-steps, gather-ends}
 use Rattle.judge.proofs.Turns.{all-lifted}
 use Rattle.judge.proofs.lift.Statement.{statement}
 use Rattle.judge.proofs.lift.Tie as tie
 
 abbrev Inv-loop : tie.InvT-loop
-Inv-loop image n rows₀ from q₀ rows q = Gathering rows₀ (λ p r k. (getD image (20 + 4 * p) 0 ≡ 1) × ((r ≡ p) × Lifted (Token from) p k)) n rows q
+Inv-loop image n rows₀ from q₀ rows q = Gathering rows₀ (λ p r k. (AcceptingByte image p) × ((r ≡ p) × Lifted (Token from) p k)) n rows q
 
 abbrev μ-loop : tie.MeasureT-loop
 μ-loop image n rows₀ from q₀ rows q = n - q

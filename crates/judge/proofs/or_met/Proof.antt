@@ -1,6 +1,6 @@
 -- `judge::or_met` meets its contract: the two words of a lower half joined to the two of an upper one.
 -- Assumes nothing.
-use Rattle.judge.proofs.Rows.{ored-met}
+use Rattle.judge.proofs.RunBits.{ored-met}
 use borrow.Author.Needs.{needs}
 use Rattle.judge.proofs.or_met.Statement.{statement}
 use Rattle.judge.proofs.or_met.Tie as tie

@@ -1,6 +1,6 @@
 -- `judge::or_row` meets its contract: four words joined are a row joined.
 -- Assumes nothing.
-use Rattle.judge.proofs.Rows.{ored-row}
+use Rattle.judge.proofs.RunBits.{ored-row}
 use borrow.Author.Needs.{needs}
 use Rattle.judge.proofs.or_row.Statement.{statement}
 use Rattle.judge.proofs.or_row.Tie as tie

@@ -3,7 +3,7 @@
 use borrow.Author.Needs.{needs}
 use native.Mathlib.Omega.{arith}
 use Prim.Native.Nat.{_-_}
-use Rattle.judge.proofs.Rows.{Oring, or-begins, or-steps, or-ends}
+use Rattle.judge.proofs.RunBits.{Oring, or-begins, or-steps, or-ends}
 use Rattle.judge.proofs.or_words.Statement.{statement}
 use Rattle.judge.proofs.or_words.Tie as tie
 

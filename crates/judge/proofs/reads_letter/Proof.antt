@@ -1,7 +1,7 @@
 -- `judge::reads_letter` meets its contract: the two tests of `reads` in one (`tests-joined`).
 -- Assumes nothing.
 use lib.Bits.{bitAnd, bitOr}
-use Rattle.judge.proofs.Rows.{tests-joined}
+use Rattle.judge.proofs.RunBits.{tests-joined}
 use Rattle.judge.proofs.reads_letter.Statement.{statement}
 use Rattle.judge.proofs.reads_letter.Tie as tie
 

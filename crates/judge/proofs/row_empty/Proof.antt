@@ -1,7 +1,7 @@
 -- `judge::row_empty` meets its contract: the row's four words joined are 0 only if each is.
 -- Assumes nothing.
 use borrow.Author.Tests.{eqb-true}
-use Rattle.judge.proofs.Rows.{row-none}
+use Rattle.judge.proofs.RunBits.{row-none}
 use borrow.Author.Needs.{needs}
 use Rattle.judge.proofs.row_empty.Statement.{statement}
 use Rattle.judge.proofs.row_empty.Tie as tie

@@ -1,4 +1,4 @@
--- `judge::run` meets its contract: the marks are those after the first i letters (`Running`).
+-- `judge::run` meets its contract: the bits are those after the first i letters (`Running`).
 -- Assumes nothing.
 use borrow.Author.Needs.{needs}
 use native.Mathlib.Omega.{arith}
@@ -6,7 +6,7 @@ use Prim.Native.Nat.{ℕ, _+_, _-_, _<_}
 use mathlib.Core.Path.{_∙_}
 use lib.ListN.{length}
 use Rattle.automaton.specs.Automaton.{Step}
-use Rattle.image.specs.Lookup.{machine}
+use Rattle.image.specs.Lookup.{imageAutomaton}
 use Rattle.judge.proofs.Decisions.{decided-not}
 use Rattle.judge.proofs.Letters.{Running, run-begins, run-confined, run-steps, run-stops, run-ends}
 use Rattle.image.proofs.Lookup.{step-target}
@@ -14,13 +14,13 @@ use Rattle.judge.proofs.run.Statement.{statement}
 use Rattle.judge.proofs.run.Tie as tie
 
 abbrev Inv-loop : tie.InvT-loop
-Inv-loop image n word rows₀ next₀ i₀ rows next i = Running (machine image) n word rows₀ rows next i
+Inv-loop image n word rows₀ next₀ i₀ rows next i = Running (imageAutomaton image) n word rows₀ rows next i
 
 abbrev μ-loop : tie.MeasureT-loop
 μ-loop image n word rows₀ next₀ i₀ rows next i = length word - i
 
 -- every transition leads to one of the n states
-target : (c : tie.Start Inv-loop μ-loop) → (p x q : ℕ) → Step (machine (c .args .image .now)) p x q → q < c .args .n
+target : (c : tie.Start Inv-loop μ-loop) → (p x q : ℕ) → Step (imageAutomaton (c .args .image .now)) p x q → q < c .args .n
 target c p x q h = rw (c .pre .1) (step-target (c .args .image .now) (c .pre .0) p x q h)
 
 loop-holds : tie.Need-loop-holds Inv-loop μ-loop

@@ -6,7 +6,8 @@ use native.Mathlib.Omega.{arith}
 use Prim.Native.Nat.{ℕ, _<_, _≤_}
 use Rattle.sets.specs.Sets.{In}
 use Rattle.automaton.specs.Automaton.{Step}
-use Rattle.image.specs.Lookup.{machine}
+use Rattle.image.specs.Lookup.{imageAutomaton}
+use Rattle.automaton.specs.Limits.{maxStates}
 use Rattle.judge.proofs.Decisions.{decided-not}
 use Rattle.image.proofs.Lookup.{step-target, initial-state, accepts-inside, accepts-byte}
 use Rattle.judge.proofs.Verdict.{starts-confined, begun-confined, never-accepts, lost-in-stem, lost-in-cycle, verdict}
@@ -14,13 +15,13 @@ use Rattle.judge.proofs.search.Statement.{statement}
 use Rattle.judge.proofs.search.Tie as tie
 
 -- what is known of the n states
-few : (c : tie.Start) → c .args .n ≤ 96
+few : (c : tie.Start) → c .args .n ≤ maxStates
 few c = omega (arith, c .pre .1, c .pre .0 .few)
 
-inside : (c : tie.Start) → (q x t : ℕ) → Step (machine (c .args .image .now)) q x t → t < c .args .n
+inside : (c : tie.Start) → (q x t : ℕ) → Step (imageAutomaton (c .args .image .now)) q x t → t < c .args .n
 inside c q x t h = rw (c .pre .1) (step-target (c .args .image .now) (c .pre .0) q x t h)
 
-initial : (c : tie.Start) → (q : ℕ) → In q (machine (c .args .image .now) .initial) → q < c .args .n
+initial : (c : tie.Start) → (q : ℕ) → In q (imageAutomaton (c .args .image .now) .initial) → q < c .args .n
 initial c q h = rw (c .pre .1) (initial-state (c .args .image .now) (c .pre .0) q h)
 
 some-accepting-requires : tie.Need-some-accepting-requires
@@ -30,13 +31,13 @@ returns : tie.Need-returns
 returns c =
     let s = c .before .before .before .before .before in
     let image = s .args .image .now in
-    never-accepts (machine image) _ _ (λ q h. decided-not (c .before .some-accepting .ensures) (c .if1 .taken) (q, rw (s .pre .1) (accepts-inside image q h), accepts-byte image q h))
+    never-accepts (imageAutomaton image) _ _ (λ q h. decided-not (c .before .some-accepting .ensures) (c .if1 .taken) (q, rw (s .pre .1) (accepts-inside image q h), accepts-byte image q h))
 
-slice-aggregate-mark-initial : tie.Need-slice-aggregate-mark-initial
-slice-aggregate-mark-initial c = search needs
+slice-aggregate-begin-runs : tie.Need-slice-aggregate-begin-runs
+slice-aggregate-begin-runs c = search needs
 
-mark-initial-requires : tie.Need-mark-initial-requires
-mark-initial-requires c κs = search needs
+begin-runs-requires : tie.Need-begin-runs-requires
+begin-runs-requires c κs = search needs
 
 slice-aggregate-run : tie.Need-slice-aggregate-run
 slice-aggregate-run c = search needs
@@ -44,18 +45,18 @@ slice-aggregate-run c = search needs
 run-requires : tie.Need-run-requires
 run-requires c κs =
     let s = c .before .before .before .before .before .before .before .before .before in
-    (s .pre .0, s .pre .1, search needs, starts-confined (machine (s .args .image .now)) (s .args .n) (inside s) (initial s) (c .before .before .mark-initial .ensures))
+    (s .pre .0, s .pre .1, search needs, starts-confined (imageAutomaton (s .args .image .now)) (s .args .n) (inside s) (initial s) (c .before .before .begin-runs .ensures))
 
 returns-2 : tie.Need-returns-2
 returns-2 c =
     let s = c .before .before .before .before .before .before .before .before .before .before .before .before in
-    lost-in-stem (machine (s .args .image .now)) (s .args .n) _ _ (few s) (inside s) (initial s) (c .before .before .before .before .before .mark-initial .ensures) (c .before .before .run .ensures .lost (not-true _ (c .if2 .taken)))
+    lost-in-stem (imageAutomaton (s .args .image .now)) (s .args .n) _ _ (few s) (inside s) (initial s) (c .before .before .before .before .before .begin-runs .ensures) (c .before .before .run .ensures .lost (not-true _ (c .if2 .taken)))
 
-slice-aggregate-mark-states : tie.Need-slice-aggregate-mark-states
-slice-aggregate-mark-states c = search needs
+slice-aggregate-begin-passes : tie.Need-slice-aggregate-begin-passes
+slice-aggregate-begin-passes c = search needs
 
-mark-states-requires : tie.Need-mark-states-requires
-mark-states-requires c κs = search needs
+begin-passes-requires : tie.Need-begin-passes-requires
+begin-passes-requires c κs = search needs
 
 slice-aggregate-lift : tie.Need-slice-aggregate-lift
 slice-aggregate-lift c = search needs
@@ -72,12 +73,12 @@ slice-aggregate-run-2 c = search needs
 run-requires-2 : tie.Need-run-requires-2
 run-requires-2 c κs =
     let s = c .before .before .before .before .before .before .before .before .before .before .before .before .before .before .before .before .before .before .before .before in
-    (s .pre .0, s .pre .1, search needs, begun-confined (machine (s .args .image .now)) (s .args .n) (inside s) (initial s) (s .args .stem .now) (c .before .before .before .before .before .before .before .before .before .before .before .before .before .mark-initial .ensures) (c .before .before .before .before .before .before .before .before .before .before .run .ensures .on (not-false _ (c .before .before .before .before .before .before .before .before .if2 .left))) (c .before .before .before .before .before .before .mark-states .ensures) (c .before .before .lift .ensures))
+    (s .pre .0, s .pre .1, search needs, begun-confined (imageAutomaton (s .args .image .now)) (s .args .n) (inside s) (initial s) (s .args .stem .now) (c .before .before .before .before .before .before .before .before .before .before .before .before .before .begin-runs .ensures) (c .before .before .before .before .before .before .before .before .before .before .run .ensures .on (not-false _ (c .before .before .before .before .before .before .before .before .if2 .left))) (c .before .before .before .before .before .before .begin-passes .ensures) (c .before .before .lift .ensures))
 
 returns-3 : tie.Need-returns-3
 returns-3 c =
     let s = c .before .before .before .before .before .before .before .before .before .before .before .before .before .before .before .before .before .before .before .before .before .before .before in
-    lost-in-cycle (machine (s .args .image .now)) (s .args .n) _ _ (few s) (inside s) (initial s) (c .before .before .before .before .before .before .before .before .before .before .before .before .before .before .before .before .mark-initial .ensures) (c .before .before .before .before .before .before .before .before .before .before .before .before .before .run .ensures .on (not-false _ (c .before .before .before .before .before .before .before .before .before .before .before .if2 .left))) (c .before .before .before .before .before .before .before .before .before .mark-states .ensures) (c .before .before .before .before .before .lift .ensures) (c .before .before .run2 .ensures .lost (not-true _ (c .if3 .taken)))
+    lost-in-cycle (imageAutomaton (s .args .image .now)) (s .args .n) _ _ (few s) (inside s) (initial s) (c .before .before .before .before .before .before .before .before .before .before .before .before .before .before .before .before .begin-runs .ensures) (c .before .before .before .before .before .before .before .before .before .before .before .before .before .run .ensures .on (not-false _ (c .before .before .before .before .before .before .before .before .before .before .before .if2 .left))) (c .before .before .before .before .before .before .before .before .before .begin-passes .ensures) (c .before .before .before .before .before .lift .ensures) (c .before .before .run2 .ensures .lost (not-true _ (c .if3 .taken)))
 
 slice-aggregate-close : tie.Need-slice-aggregate-close
 slice-aggregate-close c = search needs
@@ -85,18 +86,18 @@ slice-aggregate-close c = search needs
 close-requires : tie.Need-close-requires
 close-requires c κs = search needs
 
-slice-aggregate-found : tie.Need-slice-aggregate-found
-slice-aggregate-found c = search needs
+slice-aggregate-some-started : tie.Need-slice-aggregate-some-started
+slice-aggregate-some-started c = search needs
 
-found-requires : tie.Need-found-requires
-found-requires c κs =
+some-started-requires : tie.Need-some-started-requires
+some-started-requires c κs =
     let s = c .before .before .before .before .before .before .before .before .before .before .before .before .before .before .before .before .before .before .before .before .before .before .before .before .before .before .before in
     (few s, omega (arith, c .before .before .close .kept .0))
 
 returns-4 : tie.Need-returns-4
 returns-4 c =
     let s = c .before .before .before .before .before .before .before .before .before .before .before .before .before .before .before .before .before .before .before .before .before .before .before .before .before .before .before .before in
-    verdict (machine (s .args .image .now)) (s .args .n) _ _ (few s) (inside s) (initial s) (c .before .before .before .before .before .before .before .before .before .before .before .before .before .before .before .before .before .before .before .before .before .mark-initial .ensures) (c .before .before .before .before .before .before .before .before .before .before .before .before .before .before .before .before .before .before .run .ensures .on (not-false _ (c .before .before .before .before .before .before .before .before .before .before .before .before .before .before .before .before .if2 .left))) (c .before .before .before .before .before .before .before .before .before .before .before .before .before .before .mark-states .ensures) (c .before .before .before .before .before .before .before .before .before .before .lift .ensures) (c .before .before .before .before .before .before .before .run2 .ensures .on (not-false _ (c .before .before .before .before .before .if3 .left))) (c .before .before .before .close .ensures) (c .found .ensures)
+    verdict (imageAutomaton (s .args .image .now)) (s .args .n) _ _ (few s) (inside s) (initial s) (c .before .before .before .before .before .before .before .before .before .before .before .before .before .before .before .before .before .before .before .before .before .begin-runs .ensures) (c .before .before .before .before .before .before .before .before .before .before .before .before .before .before .before .before .before .before .run .ensures .on (not-false _ (c .before .before .before .before .before .before .before .before .before .before .before .before .before .before .before .before .if2 .left))) (c .before .before .before .before .before .before .before .before .before .before .before .before .before .before .begin-passes .ensures) (c .before .before .before .before .before .before .before .before .before .before .lift .ensures) (c .before .before .before .before .before .before .before .run2 .ensures .on (not-false _ (c .before .before .before .before .before .if3 .left))) (c .before .before .before .close .ensures) (c .some-started .ensures)
 
 pub search-spec : {M : Type 1} → statement M
 search-spec =
@@ -104,13 +105,13 @@ search-spec =
     (tie.spec
     some-accepting-requires
     returns
-    slice-aggregate-mark-initial
-    mark-initial-requires
+    slice-aggregate-begin-runs
+    begin-runs-requires
     slice-aggregate-run
     run-requires
     returns-2
-    slice-aggregate-mark-states
-    mark-states-requires
+    slice-aggregate-begin-passes
+    begin-passes-requires
     slice-aggregate-lift
     slice-aggregate-lift-2
     lift-requires
@@ -119,6 +120,6 @@ search-spec =
     returns-3
     slice-aggregate-close
     close-requires
-    slice-aggregate-found
-    found-requires
+    slice-aggregate-some-started
+    some-started-requires
     returns-4)

@@ -2,15 +2,15 @@
 -- Assumes nothing.
 use borrow.Author.Needs.{needs}
 use native.Mathlib.Omega.{arith}
-use Prim.Native.Nat.{_-_, _+_, _*_}
-use mathlib.Core.Path.{_≡_, refl}
-use lib.ListN.{getD}
+use Prim.Native.Nat.{_-_}
+use mathlib.Core.Path.{refl}
+use Rattle.image.specs.Lookup.{AcceptingByte}
 use Rattle.judge.proofs.Decisions.{Missing, miss-begins, miss-steps, miss-finds, miss-ends, holds-so, holds-not}
 use Rattle.judge.proofs.some_accepting.Statement.{statement}
 use Rattle.judge.proofs.some_accepting.Tie as tie
 
 abbrev Inv-loop : tie.InvT-loop
-Inv-loop image n q₀ q = Missing n (λ p. getD image (20 + 4 * p) 0 ≡ 1) q
+Inv-loop image n q₀ q = Missing n (λ p. AcceptingByte image p) q
 
 abbrev μ-loop : tie.MeasureT-loop
 μ-loop image n q₀ q = n - q

@@ -1,29 +1,29 @@
--- `judge::some_started` meets its contract: no row before q has the bit (`Missing`).
+-- `judge::some_started` meets its contract: no state before q has what is asked for (`Missing`).
 -- Assumes nothing.
 use borrow.Author.Needs.{needs}
 use native.Mathlib.Omega.{arith}
 use Prim.Native.Nat.{_-_}
-use Rattle.judge.specs.Marks.{Token}
+use Rattle.judge.specs.RunBits.{Started}
 use Rattle.judge.proofs.Decisions.{Missing, miss-begins, miss-steps, miss-finds, miss-ends}
 use Rattle.judge.proofs.some_started.Statement.{statement}
 use Rattle.judge.proofs.some_started.Tie as tie
 
 abbrev Inv-loop : tie.InvT-loop
-Inv-loop rows n q₀ q = Missing n (λ p. Token rows p 96) q
+Inv-loop rows n back q₀ q = Missing n (Started back rows) q
 
 abbrev μ-loop : tie.MeasureT-loop
-μ-loop rows n q₀ q = n - q
+μ-loop rows n back q₀ q = n - q
 
 loop-holds : tie.Need-loop-holds Inv-loop μ-loop
 loop-holds c = miss-begins _ _
 
-has-requires : tie.Need-has-requires Inv-loop μ-loop
-has-requires c κs = search needs
+started-requires : tie.Need-started-requires Inv-loop μ-loop
+started-requires c κs = search needs
 
 returns : tie.Need-returns Inv-loop μ-loop
 returns c =
     let at = c .before .before .before in
-    miss-finds _ _ (at .loop .q) (omega arith) (c .before .has .ensures) (c .if1 .taken)
+    miss-finds _ _ (at .loop .q) (omega arith) (c .before .started .ensures) (c .if1 .taken)
 
 add-q : tie.Need-add-q Inv-loop μ-loop
 add-q c = search needs
@@ -34,7 +34,7 @@ loop-less c = search needs
 loop-again : tie.Need-loop-again Inv-loop μ-loop
 loop-again c =
     let at = c .before .before .before in
-    miss-steps _ _ (at .loop .q) (omega arith) (at .loop .inv) (c .before .has .ensures) (c .if1 .left)
+    miss-steps _ _ (at .loop .q) (omega arith) (at .loop .inv) (c .before .started .ensures) (c .if1 .left)
 
 returns-2 : tie.Need-returns-2 Inv-loop μ-loop
 returns-2 c = miss-ends _ _ (c .before .loop .q) (omega arith) (c .before .loop .inv)
@@ -42,4 +42,4 @@ returns-2 c = miss-ends _ _ (c .before .loop .q) (omega arith) (c .before .loop 
 pub some-started-spec : {M : Type 1} → statement M
 some-started-spec =
     tie.close
-    (tie.spec Inv-loop μ-loop loop-holds has-requires returns add-q loop-less loop-again returns-2)
+    (tie.spec Inv-loop μ-loop loop-holds started-requires returns add-q loop-less loop-again returns-2)

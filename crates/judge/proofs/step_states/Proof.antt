@@ -23,13 +23,13 @@ add-at c = search needs
 loop-holds : tie.Need-loop-holds Inv-loop μ-loop
 loop-holds c =
     let s = c .before .before .before in
-    record { place = records-begin (s .args .image .now) _ (s .pre .1); turns = gather-begins _ _ _ }
+    record { offset = records-begin (s .args .image .now) _ (s .pre .1); turns = gather-begins _ _ _ }
 
 step-state-requires : tie.Need-step-state-requires Inv-loop μ-loop
 step-state-requires c κs =
     let at = c .before .before in
     let s = at .before .before .before .before in
-    (s .pre .0, omega arith, at .loop .inv .place, omega arith, omega (arith, at .loop .inv .turns .size))
+    (s .pre .0, omega arith, at .loop .inv .offset, omega arith, omega (arith, at .loop .inv .turns .size))
 
 add-q : tie.Need-add-q Inv-loop μ-loop
 add-q c = search needs
@@ -41,7 +41,7 @@ loop-again : tie.Need-loop-again Inv-loop μ-loop
 loop-again c =
     let at = c .before .before .before .before .before in
     record {
-      place = c .before .before .step-state .ensures .0;
+      offset = c .before .before .step-state .ensures .0;
       turns = gather-steps _ _ _ _ _ (at .loop .q) (omega arith) (at .loop .inv .turns) (c .before .before .step-state .kept .1 .1 .1 .1 .1 .0) (c .before .before .step-state .ensures .1);
     }
 

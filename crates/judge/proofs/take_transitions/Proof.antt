@@ -5,12 +5,12 @@ use native.Mathlib.Omega.{arith}
 use Prim.Native.Nat.{_+_, _-_, _*_, _≤_}
 use lib.ListN.{length}
 use Rattle.judge.proofs.Gathers.{Gathering, gather-begins, gather-steps, gather-ends}
-use Rattle.judge.proofs.Turns.{ByRecord, all-records, transition-fits, records-fit}
+use Rattle.judge.proofs.Turns.{ByRecords, all-records, transition-fits, records-fit}
 use Rattle.judge.proofs.take_transitions.Statement.{statement}
 use Rattle.judge.proofs.take_transitions.Tie as tie
 
 abbrev Inv-loop : tie.InvT-loop
-Inv-loop image q at count letter rows next₀ i₀ next i = Gathering next₀ (ByRecord image rows q letter at) count next i
+Inv-loop image q at count letter rows next₀ i₀ next i = Gathering next₀ (ByRecords image rows q letter at) count next i
 
 abbrev μ-loop : tie.MeasureT-loop
 μ-loop image q at count letter rows next₀ i₀ next i = count - i

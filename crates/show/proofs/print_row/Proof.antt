@@ -3,11 +3,12 @@
 use Prim.Native.Nat.{ℕ, _+_, _*_, _/_, _≤_, _<_}
 use mathlib.Core.Path.{_≡_}
 use mathlib.Core.List.{List}
-use lib.ListN.{length, getD}
+use lib.ListN.{length}
 use borrow.Author.Needs.{needs}
 use borrow.Author.Tests.{lt-ltb, le-ltb, le-leb, lt-leb}
 use Rattle.automaton.specs.Limits.{maxTransitions}
-use Rattle.show.specs.Shown.{number, rowEnd}
+use Rattle.answer.specs.Bytes.{numberAt}
+use Rattle.show.specs.Shown.{rowEnd}
 use Rattle.show.proofs.print_row.Statement.{statement}
 use Rattle.show.proofs.print_row.Tie as tie
 
@@ -20,7 +21,7 @@ module _ (states : List ℕ) (i from : ℕ) where
   unfolding rowEnd
   behind le none = rw (le-ltb maxTransitions from le, le-leb (length states / 4) i none)
 
-  counted : {count : ℕ} → from ≤ maxTransitions → i < length states / 4 → count ≡ number (getD states (i * 4) 0) (getD states (i * 4 + 1) 0) → from + count ≡ rowEnd states i from
+  counted : {count : ℕ} → from ≤ maxTransitions → i < length states / 4 → count ≡ numberAt states (i * 4) → from + count ≡ rowEnd states i from
   unfolding rowEnd
   counted le there e = rw (le-ltb maxTransitions from le, lt-leb (length states / 4) i there, e)
 

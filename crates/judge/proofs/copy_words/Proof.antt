@@ -1,11 +1,11 @@
--- `judge::copy` meets its contract: the words before i are copied (`Storing`).
+-- `judge::copy_words` meets its contract: the words before i are copied (`Storing`).
 -- Assumes nothing.
 use borrow.Author.Needs.{needs}
 use native.Mathlib.Omega.{arith}
 use Prim.Native.Nat.{_-_}
 use Rattle.answer.proofs.Storing.{Storing, store-begins, store-steps, store-ends}
-use Rattle.judge.proofs.copy.Statement.{statement}
-use Rattle.judge.proofs.copy.Tie as tie
+use Rattle.judge.proofs.copy_words.Statement.{statement}
+use Rattle.judge.proofs.copy_words.Tie as tie
 
 abbrev Inv-loop : tie.InvT-loop
 Inv-loop rows₀ from n i₀ rows i = Storing rows₀ from n rows i
@@ -45,8 +45,8 @@ same-length c = c .before .loop .inv .size
 returns : tie.Need-returns Inv-loop μ-loop
 returns c = store-ends _ _ _ _ (c .before .loop .i) (omega arith) (c .before .loop .inv)
 
-pub copy-spec : {M : Type 1} → statement M
-copy-spec =
+pub copy-words-spec : {M : Type 1} → statement M
+copy-words-spec =
     tie.close
     (tie.spec
     Inv-loop

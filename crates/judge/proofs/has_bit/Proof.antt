@@ -1,10 +1,10 @@
--- `judge::has` meets its contract: the bit shifted down to the lowest place.
+-- `judge::has_bit` meets its contract: the bit shifted down to the lowest bit.
 -- Assumes nothing.
 use native.Mathlib.Omega.{arith}
-use Rattle.judge.proofs.Rows.{looked}
+use Rattle.judge.proofs.RunBits.{looked}
 use borrow.Author.Needs.{needs}
-use Rattle.judge.proofs.has.Statement.{statement}
-use Rattle.judge.proofs.has.Tie as tie
+use Rattle.judge.proofs.has_bit.Statement.{statement}
+use Rattle.judge.proofs.has_bit.Tie as tie
 
 mul-result : tie.Need-mul-result
 mul-result c = search needs
@@ -24,7 +24,7 @@ shr-result c = search needs
 returns : tie.Need-returns
 returns c = looked _ _ _ (omega arith)
 
-pub has-spec : {M : Type 1} → statement M
-has-spec =
+pub has-bit-spec : {M : Type 1} → statement M
+has-bit-spec =
     tie.close
     (tie.spec mul-result add-result mul-result-2 shared-slice-read-result shr-result returns)

@@ -12,16 +12,16 @@ use Rattle.automaton.specs.Tables.{Counts}
 use Rattle.image.specs.Calls.{checks}
 use Rattle.image.proofs.Contents.{read-of, checks-of, checks-refused}
 use Rattle.judge.specs.Search.{hasAcceptingPass}
-use Rattle.judge.specs.Judge.{workBytes, Verdict, kept, broken, judgeable, verdict, Judgement, judgement, judgedBy, judged}
+use Rattle.judge.specs.Judge.{workBytes, Verdict, kept, broken, judgeable, verdict, Judgement, judgement, judgedBy, judged, lassoJudgeable}
 use Rattle.lasso.specs.Lasso.{lassoCheck}
-use Rattle.judge.specs.Marks.{Decides, lassoJudgeable}
-use Rattle.image.specs.Lookup.{machine}
+use Rattle.judge.specs.RunBits.{Tells}
+use Rattle.image.specs.Lookup.{imageAutomaton}
 use Rattle.judge.proofs.Decisions.{true-false}
 use Rattle.automaton.proofs.InRange.{InRange}
 use Rattle.judge.proofs.HasAcceptingPass.{has-accepting-pass-iff}
 
 -- a test that tells whether there is an accepting pass is what is computed
-decided-pass : (a : Automaton) (stem cycle : List ℕ) → InRange a → 0 < length cycle → {k : Bool} → Decides k (AcceptingPass a stem cycle) → hasAcceptingPass a stem cycle ≡ k
+decided-pass : (a : Automaton) (stem cycle : List ℕ) → InRange a → 0 < length cycle → {k : Bool} → Tells k (AcceptingPass a stem cycle) → hasAcceptingPass a stem cycle ≡ k
 decided-pass a stem cycle range pos {k} tells = go (hasAcceptingPass a stem cycle) refl k refl
   where
     go : (b : Bool) → hasAcceptingPass a stem cycle ≡ b → (d : Bool) → k ≡ d → b ≡ d
@@ -38,7 +38,7 @@ module _ (stem cycle work : List ℕ) where
     pub lasso-refused : {number place : ℕ} → refused number place ≡ lassoCheck stem cycle → judgement (refused number place) work ≡ judgedBy (lassoJudgeable a stem cycle) stem cycle work
     lasso-refused e = judged-refused {x = lassoJudgeable a stem cycle} (rw (← e))
 
-    module _ (range : InRange a) (passed : fine ≡ lassoCheck stem cycle) {k : Bool} (tells : Decides k (AcceptingPass a stem cycle)) {after : List ℕ} (zero : after ≡ replicate (length work) 0) where
+    module _ (range : InRange a) (passed : fine ≡ lassoCheck stem cycle) {k : Bool} (tells : Tells k (AcceptingPass a stem cycle)) {after : List ℕ} (zero : after ≡ replicate (length work) 0) where
       judged-by : {v : Verdict} → v ≡ verdict a stem cycle → judgement (accepted v) after ≡ judgedBy (lassoJudgeable a stem cycle) stem cycle work
       judged-by e = rw (e, zero, ← passed)
 
@@ -60,10 +60,10 @@ module _ (stem cycle work : List ℕ) where
       unfolding judged judgeable
       image-refused e = judged-refused {x = judgeable image stem cycle work} (rw (le-leb workBytes (length work) long, checks-refused image e))
 
-      pub image-judged : {c : Counts} → accepted c ≡ checks image → {j : Judgement} → j ≡ judgedBy (lassoJudgeable (machine image) stem cycle) stem cycle work → j ≡ judged image stem cycle work
+      pub image-judged : {c : Counts} → accepted c ≡ checks image → {j : Judgement} → j ≡ judgedBy (lassoJudgeable (imageAutomaton image) stem cycle) stem cycle work → j ≡ judged image stem cycle work
       unfolding judged judgeable
       image-judged {c} e h =
           let found = checks-of image c e in
           let read = read-of image (found .automaton) (found .read) in
-          let same : judgeable image stem cycle work ≡ lassoJudgeable (machine image) stem cycle = rw (le-leb workBytes (length work) long, found .read, read .automaton) in
+          let same : judgeable image stem cycle work ≡ lassoJudgeable (imageAutomaton image) stem cycle = rw (le-leb workBytes (length work) long, found .read, read .automaton) in
           rw same h

@@ -1,4 +1,4 @@
--- What joining words, setting a bit and looking at one say of the bits of rows.
+-- What joining words, setting a bit and looking at one say of the bits of rows. Assumes nothing.
 use Prim.Native.Nat.{ℕ, zero, suc, _+_, _-_, _*_, _/_, _%_, _^_, _<_, _≤_}
 use mathlib.Core.Path.{_≡_, refl, sym, _∙_, ap, subst}
 use mathlib.Core.List.{List, _++_}
@@ -13,9 +13,11 @@ use lib.Dec.{eqb}
 use lib.Pow.{pow-lt}
 use native.Mathlib.Nat.{one-mul, mod-eq-of-lt, add-zero}
 use borrow.Author.Tests.{eqb-true, eqb-false, eq-eqb, ne-eqb}
-use Rattle.judge.specs.Marks.{Token, Lifted, Is, Adds, Confined, Ored, Decides}
+use Rattle.judge.specs.RunBits.{Token, Lifted, Is, Adds, Confined, Ored, Tells}
+use Rattle.answer.proofs.Zeros.{zeros-at}
 use Rattle.sets.specs.Bits.{Has}
 use Rattle.sets.proofs.Bits.{or-has, has-or-l, has-or-r, zero-has, pow-has, has-pow}
+use Rattle.judge.specs.Limits.{metBit, rowBits}
 
 -- ---- words joined
 
@@ -69,8 +71,8 @@ joined-right {u} {w} v n e h = subst (λ (d : ℕ). Has d n) (sym e) (has-or-r v
 same-bit : {u v : ℕ} (n : ℕ) → u ≡ v → Has u n → Has v n
 same-bit n e h = subst (λ (d : ℕ). Has d n) e h
 
--- places of other rows
-apart : (r t k : ℕ) → k < 256 → (r ≡ t → ⊥) → (4 * r + k / 64 < 4 * t) ⊎ (4 * t + 4 ≤ 4 * r + k / 64)
+-- words of other rows
+apart : (r t k : ℕ) → k < rowBits → (r ≡ t → ⊥) → (4 * r + k / 64 < 4 * t) ⊎ (4 * t + 4 ≤ 4 * r + k / 64)
 apart r t k w e = go (decLt r t)
   where
     go : Dec (r < t) → (4 * r + k / 64 < 4 * t) ⊎ (4 * t + 4 ≤ 4 * r + k / 64)
@@ -82,7 +84,7 @@ module _ (x from y : List ℕ) (t q : ℕ) where
   pub ored-row : Ored x (4 * t) from (4 * q) 4 y → Adds x y (λ r k. (r ≡ t) × Token from q k)
   ored-row o = record { only = λ r k h. only r k h (ℕ-discrete r t); all = λ r k h. all r k h (ℕ-discrete r t) }
     where
-      word : (r k : ℕ) → r ≡ t → k < 256 → getD y (4 * r + k / 64) 0 ≡ bitOr (getD x (4 * r + k / 64) 0) (getD from (4 * q + k / 64) 0)
+      word : (r k : ℕ) → r ≡ t → k < rowBits → getD y (4 * r + k / 64) 0 ≡ bitOr (getD x (4 * r + k / 64) 0) (getD from (4 * q + k / 64) 0)
       word r k e w = rw e (o .inside (k / 64) (omega arith))
 
       only : (r k : ℕ) → Token y r k → Dec (r ≡ t) → Token x r k ⊎ ((r ≡ t) × Token from q k)
@@ -100,45 +102,45 @@ module _ (x from y : List ℕ) (t q : ℕ) where
 
   -- the upper half of a row, from the lower half of another
   pub ored-met : Ored x (4 * t + 2) from (4 * q) 2 y → Adds x y (λ r k. (r ≡ t) × Lifted (Token from) q k)
-  ored-met o = record { only = λ r k h. only r k h (ℕ-discrete r t) (decLt k 128); all = λ r k h. all r k h (ℕ-discrete r t) (decLt k 128) }
+  ored-met o = record { only = λ r k h. only r k h (ℕ-discrete r t) (decLt k metBit); all = λ r k h. all r k h (ℕ-discrete r t) (decLt k metBit) }
     where
-      word : (r k : ℕ) → r ≡ t → k < 256 → 128 ≤ k → getD y (4 * r + k / 64) 0 ≡ bitOr (getD x (4 * r + k / 64) 0) (getD from (4 * q + (k - 128) / 64) 0)
+      word : (r k : ℕ) → r ≡ t → k < rowBits → metBit ≤ k → getD y (4 * r + k / 64) 0 ≡ bitOr (getD x (4 * r + k / 64) 0) (getD from (4 * q + (k - metBit) / 64) 0)
       word r k e w l =
-          let i : 4 * r + k / 64 ≡ 4 * t + 2 + (k - 128) / 64 = omega arith in
-          rw i (o .inside ((k - 128) / 64) (omega arith))
+          let i : 4 * r + k / 64 ≡ 4 * t + 2 + (k - metBit) / 64 = omega arith in
+          rw i (o .inside ((k - metBit) / 64) (omega arith))
 
-      low : (r k : ℕ) → r ≡ t → k < 128 → getD y (4 * r + k / 64) 0 ≡ getD x (4 * r + k / 64) 0
+      low : (r k : ℕ) → r ≡ t → k < metBit → getD y (4 * r + k / 64) 0 ≡ getD x (4 * r + k / 64) 0
       low r k e l = o .outside (4 * r + k / 64) (inl (omega arith))
 
-      other : (r k : ℕ) → k < 256 → (r ≡ t → ⊥) → getD y (4 * r + k / 64) 0 ≡ getD x (4 * r + k / 64) 0
+      other : (r k : ℕ) → k < rowBits → (r ≡ t → ⊥) → getD y (4 * r + k / 64) 0 ≡ getD x (4 * r + k / 64) 0
       other r k w e = o .outside (4 * r + k / 64) (go (apart r t k w e))
         where
           go : (4 * r + k / 64 < 4 * t) ⊎ (4 * t + 4 ≤ 4 * r + k / 64) → (4 * r + k / 64 < 4 * t + 2) ⊎ (4 * t + 2 + 2 ≤ 4 * r + k / 64)
           go (inl l) = inl (omega arith)
           go (inr l) = inr (omega arith)
 
-      only : (r k : ℕ) → Token y r k → Dec (r ≡ t) → Dec (k < 128) → Token x r k ⊎ ((r ≡ t) × Lifted (Token from) q k)
+      only : (r k : ℕ) → Token y r k → Dec (r ≡ t) → Dec (k < metBit) → Token x r k ⊎ ((r ≡ t) × Lifted (Token from) q k)
       only r k h (no e) d = inl (record { within = h .within; bit = same-bit (k % 64) (other r k (h .within) e) (h .bit) })
       only r k h (yes e) (yes l) = inl (record { within = h .within; bit = same-bit (k % 64) (low r k e l) (h .bit) })
       only r k h (yes e) (no l) = split (joined-only (k % 64) (word r k e (h .within) (omega arith)) (h .bit))
         where
-          split : Has (getD x (4 * r + k / 64) 0) (k % 64) ⊎ Has (getD from (4 * q + (k - 128) / 64) 0) (k % 64) → Token x r k ⊎ ((r ≡ t) × Lifted (Token from) q k)
+          split : Has (getD x (4 * r + k / 64) 0) (k % 64) ⊎ Has (getD from (4 * q + (k - metBit) / 64) 0) (k % 64) → Token x r k ⊎ ((r ≡ t) × Lifted (Token from) q k)
           split (inl b) = inl (record { within = h .within; bit = b })
           split (inr b) =
               let w = h .within in
-              let m : k % 64 ≡ (k - 128) % 64 = omega arith in
-              inr (e, record { low = k - 128; half = omega arith; high = omega arith; held = record { within = omega arith; bit = rw m at b } })
+              let m : k % 64 ≡ (k - metBit) % 64 = omega arith in
+              inr (e, record { low = k - metBit; half = omega arith; high = omega arith; held = record { within = omega arith; bit = rw m at b } })
 
-      all : (r k : ℕ) → Token x r k ⊎ ((r ≡ t) × Lifted (Token from) q k) → Dec (r ≡ t) → Dec (k < 128) → Token y r k
+      all : (r k : ℕ) → Token x r k ⊎ ((r ≡ t) × Lifted (Token from) q k) → Dec (r ≡ t) → Dec (k < metBit) → Token y r k
       all r k (inl h) (no e) d = record { within = h .within; bit = same-bit (k % 64) (sym (other r k (h .within) e)) (h .bit) }
       all r k (inl h) (yes e) (yes l) = record { within = h .within; bit = same-bit (k % 64) (sym (low r k e l)) (h .bit) }
-      all r k (inl h) (yes e) (no l) = record { within = h .within; bit = joined-left (getD from (4 * q + (k - 128) / 64) 0) (k % 64) (word r k e (h .within) (omega arith)) (h .bit) }
+      all r k (inl h) (yes e) (no l) = record { within = h .within; bit = joined-left (getD from (4 * q + (k - metBit) / 64) 0) (k % 64) (word r k e (h .within) (omega arith)) (h .bit) }
       all r k (inr (e, l)) d f = record { within = omega (arith, l .half, l .high); bit = joined-right (getD x (4 * r + k / 64) 0) (k % 64) (word r k e (omega (arith, l .half, l .high)) (omega (arith, l .high))) bit }
         where
-          bit : Has (getD from (4 * q + (k - 128) / 64) 0) (k % 64)
+          bit : Has (getD from (4 * q + (k - metBit) / 64) 0) (k % 64)
           bit =
               let h = l .high in
-              let i : k - 128 ≡ l .low = omega arith in
+              let i : k - metBit ≡ l .low = omega arith in
               let m : k % 64 ≡ l .low % 64 = omega arith in
               rw (i, m) (l .held .bit)
 
@@ -171,13 +173,8 @@ tests-joined a b c = go (ℕ-discrete a b) (ℕ-discrete c 0)
 
 -- ---- no bit
 
-pub zeros : (n i : ℕ) → _≡_ {A = ℕ} (getD (replicate n 0) i 0) 0
-zeros zero i = refl
-zeros (suc n) zero = refl
-zeros (suc n) (suc i) = zeros n i
-
 pub none-set : (n q k : ℕ) → Token (replicate n 0) q k → ⊥
-none-set n q k h = zero-has (same-bit (k % 64) (zeros n (4 * q + k / 64)) (h .bit))
+none-set n q k h = zero-has (same-bit (k % 64) (zeros-at n (4 * q + k / 64)) (h .bit))
 
 four : (rows : List ℕ) (at j : ℕ) → j < 4 → getD rows at 0 ≡ 0 → getD rows (at + 1) 0 ≡ 0 → getD rows (at + 2) 0 ≡ 0 → getD rows (at + 3) 0 ≡ 0 → getD rows (at + j) 0 ≡ 0
 four rows at zero lt a b c d = rw add-zero a
@@ -232,7 +229,7 @@ module _ (n : ℕ) (old : List ℕ) (confined : Confined n old) where
       is : Is (take (4 * n) from ++ drop (4 * n) old) (λ q k. (q < n) × Token (take (4 * n) from) q k)
       is = stored (take (4 * n) from) (length-take-le (4 * n) from fits)
 
-      word : (q k : ℕ) → q < n → k < 256 → getD (take (4 * n) from) (4 * q + k / 64) 0 ≡ getD from (4 * q + k / 64) 0
+      word : (q k : ℕ) → q < n → k < rowBits → getD (take (4 * n) from) (4 * q + k / 64) 0 ≡ getD from (4 * q + k / 64) 0
       word q k lt w = getD-take (4 * n) from (4 * q + k / 64) 0 (omega arith)
 
       only : (q k : ℕ) → (q < n) × Token (take (4 * n) from) q k → Token from q k
@@ -247,9 +244,9 @@ module _ (n : ℕ) (old : List ℕ) (confined : Confined n old) where
 abbrev withBits : List ℕ → (q k word : ℕ) → List ℕ
 withBits x q k word = set x (4 * q + k / 64) (bitOr (getD x (4 * q + k / 64) 0) word)
 
-module _ (x : List ℕ) (q k : ℕ) (fits : 4 * q + 4 ≤ length x) (within : k < 256) where
-  pub marked : (word : ℕ) → word ≡ 2 ^ (k % 64) → Adds x (withBits x q k word) (λ r j. (r ≡ q) × (j ≡ k))
-  marked word e = record { only = λ r j h. only r j h (ℕ-discrete (4 * r + j / 64) (4 * q + k / 64)); all = λ r j h. all r j h (ℕ-discrete (4 * r + j / 64) (4 * q + k / 64)) }
+module _ (x : List ℕ) (q k : ℕ) (fits : 4 * q + 4 ≤ length x) (within : k < rowBits) where
+  pub bit-is-set : (word : ℕ) → word ≡ 2 ^ (k % 64) → Adds x (withBits x q k word) (λ r j. (r ≡ q) × (j ≡ k))
+  bit-is-set word e = record { only = λ r j h. only r j h (ℕ-discrete (4 * r + j / 64) (4 * q + k / 64)); all = λ r j h. all r j h (ℕ-discrete (4 * r + j / 64) (4 * q + k / 64)) }
     where
       at : (i : ℕ) → i ≡ 4 * q + k / 64 → getD (withBits x q k word) i 0 ≡ bitOr (getD x i 0) word
       at i h = rw h (getD-set-same x (4 * q + k / 64) (bitOr (getD x (4 * q + k / 64) 0) word) 0 (omega arith))
@@ -276,7 +273,7 @@ module _ (x : List ℕ) (q k : ℕ) (fits : 4 * q + 4 ≤ length x) (within : k 
           record { within = omega arith; bit = joined-right (getD x (4 * r + j / 64) 0) (j % 64) (at (4 * r + j / 64) (rw (a, b) refl)) (rw b p) }
 
 -- a word's bit, as the code looks at it
-pub looked : (rows : List ℕ) (q k : ℕ) → k < 256 → Decides (eqb (bitAnd (getD rows (4 * q + k / 64) 0 / 2 ^ (k % 64)) 1) 1) (Token rows q k)
+pub looked : (rows : List ℕ) (q k : ℕ) → k < rowBits → Tells (eqb (bitAnd (getD rows (4 * q + k / 64) 0 / 2 ^ (k % 64)) 1) 1) (Token rows q k)
 looked rows q k w = record {
   yes = λ e. record { within = w; bit = record { set = rw (and-mask (getD rows (4 * q + k / 64) 0 / 2 ^ (k % 64)) 1) at (eqb-true (bitAnd (getD rows (4 * q + k / 64) 0 / 2 ^ (k % 64)) 1) 1 e) } };
   no = λ e h. eqb-false (bitAnd (getD rows (4 * q + k / 64) 0 / 2 ^ (k % 64)) 1) 1 e (and-mask (getD rows (4 * q + k / 64) 0 / 2 ^ (k % 64)) 1 ∙ h .bit .set);

@@ -1,6 +1,7 @@
--- The outcomes of write and read, by the answers of their checks and what was stored.
+-- The outcomes of write and read, by the answers of their checks and what was stored. Assumes of the bytes only that
+-- they are bytes.
 use mathlib.Core.Path.{_≡_, refl, sym, ap, _∙_}
-use mathlib.Core.Bool.{Bool, true, false, not, _&&_, and-eq-true-iff}
+use mathlib.Core.Bool.{Bool, true, false, not, and-eq-true-iff}
 use mathlib.Core.List.{List, _++_}
 use Prim.Native.Nat.{ℕ, _-_, _≤_, _<_}
 use native.Mathlib.Omega.{arith}
@@ -13,25 +14,19 @@ use Rattle.answer.proofs.Results.{never-both, require-fine}
 use Rattle.automaton.specs.Automaton.{Automaton}
 use Rattle.automaton.specs.Limits.{statesBytes, transitionsBytes, initialBytes}
 use Rattle.automaton.specs.Records.{stateRecords, transitionRecords, initialRecords}
-use Rattle.automaton.specs.Tables.{Counts, counts, Outcome, outcome, tableCheck}
+use Rattle.automaton.specs.Tables.{Counts, counts, Outcome, outcome, lengthsFit, tableCheck}
 use Rattle.answer.specs.Bytes.{filled}
 use Rattle.image.specs.Image.{transitionsAt, initialAt, imageBytes, contentsBytes, largestImage}
-use Rattle.image.specs.Reader.{countsAt, countsFit, recordsCheck, readTables}
-use Rattle.image.specs.Calls.{Buffer, buffer, written, writes, loaded, reads, checks}
-use Rattle.image.specs.Steps.{joinedOver, Loads}
-use Rattle.image.proofs.Tests.{Small, counts-small}
+use Rattle.image.specs.Reader.{countsAt, countsFit, recordsCheck, readTables, bodiesCheck}
+use Rattle.image.specs.Calls.{Buffer, buffer, written, writes, loaded, readInto, checks}
+use Rattle.image.specs.Steps.{joinedOver, Loads, Small, Long}
+use Rattle.image.proofs.Tests.{counts-small}
 use Rattle.image.proofs.Tables.{Bytes, drop-bytes, Passed, counts-back, states-back, transitions-back, initial-back, image-back, image-length}
-use Rattle.image.proofs.Contents.{Contents, contents-fine, bodiesCheck, read-of, checks-of, checks-refused}
-
--- tables of the sizes that 25 asks for
-pub record Long (s t i : List ℕ) : Type 0 where
-  pub states : statesBytes ≤ length s
-  pub transitions : transitionsBytes ≤ length t
-  pub initial : initialBytes ≤ length i
+use Rattle.image.proofs.Contents.{Contents, contents-fine, read-of, checks-of, checks-refused}
 
 module _ (s t i : List ℕ) where
   abbrev sizes : Bool
-  sizes = leb statesBytes (length s) && (leb transitionsBytes (length t) && leb initialBytes (length i))
+  sizes = lengthsFit (length s) (length t) (length i)
 
   tables-short : {r : Bool} → r ≡ sizes → not r ≡ true → tableCheck s t i ≡ refused 25 0
   unfolding tableCheck
@@ -68,7 +63,7 @@ module _ (s t i : List ℕ) where
   }
 
 -- the writer, its tests in their order
-module _ (c : Counts) (s t i image : List ℕ) {r : Bool} (fit : r ≡ (leb statesBytes (length s) && (leb transitionsBytes (length t) && leb initialBytes (length i)))) where
+module _ (c : Counts) (s t i image : List ℕ) {r : Bool} (fit : r ≡ lengthsFit (length s) (length t) (length i)) where
   pub write-short : not r ≡ true → buffer (refused 25 0) image ≡ writes c s t i image
   unfolding writes
   write-short f = rw (tables-short s t i fit f)
@@ -162,18 +157,18 @@ body-passed image contents bytes checked =
     }
 
 -- the reader, its tests in their order
-module _ (image s t i : List ℕ) {r : Bool} (fit : r ≡ (leb statesBytes (length s) && (leb transitionsBytes (length t) && leb initialBytes (length i)))) where
-  pub read-short : not r ≡ true → outcome (refused 25 0) s t i ≡ reads image s t i
-  unfolding reads
+module _ (image s t i : List ℕ) {r : Bool} (fit : r ≡ lengthsFit (length s) (length t) (length i)) where
+  pub read-short : not r ≡ true → outcome (refused 25 0) s t i ≡ readInto image s t i
+  unfolding readInto
   read-short f = rw (tables-short s t i fit f)
 
   module _ (long : not r ≡ false) where
-    pub read-refused : {answer : Result Counts} {number place : ℕ} → answer ≡ refused number place → answer ≡ checks image → outcome answer s t i ≡ reads image s t i
-    unfolding reads
+    pub read-refused : {answer : Result Counts} {number place : ℕ} → answer ≡ refused number place → answer ≡ checks image → outcome answer s t i ≡ readInto image s t i
+    unfolding readInto
     read-refused told e = rw (tables-fine s t i fit long, checks-refused image (sym told ∙ e), told)
 
-    pub read-accepted : {c : Counts} {s₁ t₁ i₁ : List ℕ} → Bytes image → accepted c ≡ checks image → Loads image c s t i s₁ t₁ i₁ → outcome (accepted c) s₁ t₁ i₁ ≡ reads image s t i
-    unfolding reads
+    pub read-accepted : {c : Counts} {s₁ t₁ i₁ : List ℕ} → Bytes image → accepted c ≡ checks image → Loads image c s t i s₁ t₁ i₁ → outcome (accepted c) s₁ t₁ i₁ ≡ readInto image s t i
+    unfolding readInto
     read-accepted {c} bytes e loads =
         let found = checks-of image c e in
         let parts = read-of image (found .automaton) (found .read) in

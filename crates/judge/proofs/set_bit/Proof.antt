@@ -1,11 +1,11 @@
--- `judge::mark` meets its contract: a word joined with one bit.
+-- `judge::set_bit` meets its contract: a word joined with one bit.
 -- Assumes nothing.
 use native.Mathlib.Omega.{arith}
 use Prim.Native.Nat.{_%_}
-use Rattle.judge.proofs.Rows.{marked, shifted-one}
+use Rattle.judge.proofs.RunBits.{bit-is-set, shifted-one}
 use borrow.Author.Needs.{needs}
-use Rattle.judge.proofs.mark.Statement.{statement}
-use Rattle.judge.proofs.mark.Tie as tie
+use Rattle.judge.proofs.set_bit.Statement.{statement}
+use Rattle.judge.proofs.set_bit.Tie as tie
 
 shl-rows : tie.Need-shl-rows
 shl-rows c = search needs
@@ -29,10 +29,10 @@ same-length : tie.Need-same-length
 same-length c = search needs
 
 returns : tie.Need-returns
-returns c = marked _ _ (c .before .args .k) (omega arith) (omega arith) _ (shifted-one (c .before .args .k % 64) (omega arith))
+returns c = bit-is-set _ _ (c .before .args .k) (omega arith) (omega arith) _ (shifted-one (c .before .args .k % 64) (omega arith))
 
-pub mark-spec : {M : Type 1} → statement M
-mark-spec =
+pub set-bit-spec : {M : Type 1} → statement M
+set-bit-spec =
     tie.close
     (tie.spec
     shl-rows
