@@ -12,7 +12,8 @@ use Rattle.image.specs.Reader.{countsAt, countSum, automatonFrom}
 -- the automaton of the image
 abbrev pub imageAutomaton : List ℕ → Automaton
 imageAutomaton image =
-    automatonFrom (countsAt image) (statesBody image) (transitionsBody (countsAt image) image) (initialBody (countsAt image) image)
+    automatonFrom (countsAt image)
+    (statesBody image) (transitionsBody (countsAt image) image) (initialBody (countsAt image) image)
 
 -- the transition record at a byte of the image
 abbrev pub recordAt : List ℕ → ℕ → Transition

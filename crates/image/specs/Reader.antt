@@ -48,7 +48,8 @@ bodiesFit image =
 -- (01, Numbers that come from the input, 10)
 unfoldable pub contentsCheck : List ℕ → Check
 contentsCheck image =
-    require (leb contentsBytes (length image) && (kindsFit image && (countsFit (countsAt image) && bodiesFit image))) 10 0
+    require (leb contentsBytes (length image) && (kindsFit image &&
+    (countsFit (countsAt image) && bodiesFit image))) 10 0
 
 -- whether 11 lets state record i pass: it counts no more transitions than a state may have, has 0 or 1 as its accepting
 -- byte, and ends in 0 (01, Numbers that come from the input, 11)

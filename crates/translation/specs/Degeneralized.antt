@@ -11,7 +11,7 @@ use Rattle.term.specs.Size.{checked}
 use Rattle.generalized.specs.Explore.{find, explore}
 use Rattle.generalized.specs.Generalized.{transitions, generalized}
 use Rattle.acceptance.specs.Acceptance.{untilCount, fulfilsNext}
-use Rattle.automaton.specs.Automaton.{State, Automaton}
+use Rattle.automaton.specs.Automaton.{Transition, State, Automaton}
 use Rattle.automaton.specs.Limits.{maxStates}
 
 -- the level reached from j: one higher for each of the next untils that t fulfils, up to the first that it does not;
@@ -22,7 +22,8 @@ climb rule (suc left) j t = elim (fulfilsNext rule j t) [ true ↦ climb rule le
 
 -- the level after t: reached from j, or from 0 if j is the last, r (01, First walk and second walk, sentence 13)
 unfoldable pub nextLevel : List ℕ → (j : ℕ) → Term → ℕ
-nextLevel rule j t = cond (ltb j (untilCount rule)) (climb rule (untilCount rule - j) j t) (climb rule (untilCount rule) 0 t)
+nextLevel rule j t =
+    cond (ltb j (untilCount rule)) (climb rule (untilCount rule - j) j t) (climb rule (untilCount rule) 0 t)
 
 -- a state of the second walk: the number of a state of the first, and a level, which is at most r (01, First walk and
 -- second walk, sentence 11)
@@ -59,17 +60,26 @@ module _ (rule states : List ℕ) where
   -- 24)
   unfoldable pub degeneralized : Result (List Pair)
   degeneralized =
-      explore samePair maxStates 24 (λ _ _. fine) (pair 0 0) (λ x. map (target x) (pairTransitions x)) (λ _ _. fine) maxStates 0 0 (map (λ i. pair i 0) (initialNumbers rule))
+      explore samePair maxStates 24 (λ _ _. fine) (pair 0 0) (λ x. map (target x) (pairTransitions x)) (λ _ _. fine)
+      maxStates 0 0 (map (λ i. pair i 0) (initialNumbers rule))
+
+  -- a transition of the first walk as one of the automaton, to its target's number (01, First walk and second walk,
+  -- sentence 14)
+  abbrev pub transitionOf : List Pair → Pair → Term → Transition
+  transitionOf pairs x t = record { must = t .must; mustNot = t .mustNot; target = find samePair (target x t) pairs }
 
   -- a pair as a state of the automaton: it accepts at the last level, and has the transitions of the first walk, each
   -- to its target's number (01, First walk and second walk, sentences 14 and 15)
   unfoldable pub stateOf : List Pair → Pair → State
   stateOf pairs x = record {
     accepting = eqb (x .level) (untilCount rule);
-    transitions = map (λ t. record { must = t .must; mustNot = t .mustNot; target = find samePair (target x t) pairs }) (pairTransitions x);
+    transitions = map (transitionOf pairs x) (pairTransitions x);
   }
 
 -- the automaton of a rule, or its refusal by 1 to 7 or 20 to 24
 unfoldable pub translation : List ℕ → Result Automaton
 translation rule =
-    andThen (checked rule) (λ _. andThen (generalized rule) (λ states. andThen (degeneralized rule states) (λ pairs. accepted (record { states = map (stateOf rule states pairs) pairs; initial = initialNumbers rule }))))
+    andThen (checked rule)
+    (λ _. andThen (generalized rule)
+    (λ states. andThen (degeneralized rule states)
+    (λ pairs. accepted (record { states = map (stateOf rule states pairs) pairs; initial = initialNumbers rule }))))

@@ -13,13 +13,15 @@ use Rattle.automaton.specs.Records.{stateRecords, transitionRecords, initialRec
 
 -- what the answer of the call says in document 01's numbers and values
 abbrev pub answer : Translated → Result Counts
-answer (Accepted states transitions initial) = accepted (record { states = states; transitions = transitions; initial = initial })
+answer (Accepted states transitions initial) =
+    accepted (record { states = states; transitions = transitions; initial = initial })
 answer (Refused number place) = refused number place
 
 -- the outcome for a rule that 25 and 1 to 7 let pass
 unfoldable pub stored : Result Automaton → (states transitions initial : List ℕ) → Outcome
 stored (accepted a) s t i =
-    outcome (accepted (counts a)) (filled s (stateRecords a)) (filled t (transitionRecords a)) (filled i (initialRecords a))
+    outcome (accepted (counts a))
+    (filled s (stateRecords a)) (filled t (transitionRecords a)) (filled i (initialRecords a))
 stored (refused number place) s t i = outcome (refused number place) (zeros s) (zeros t) (zeros i)
 
 -- 25 and 1 to 7 leave the tables as they were
@@ -29,4 +31,5 @@ unless (refused number place) rest s t i = outcome (refused number place) s t i
 
 -- 25, then 1 to 7, each leaving the tables as they were; then 20 to 24, or acceptance, with the tables as above
 unfoldable pub translated : (rule states transitions initial : List ℕ) → Outcome
-translated rule s t i = unless (andThen (tableCheck s t i) (λ _. Rule.checked rule)) (stored (translation rule) s t i) s t i
+translated rule s t i =
+    unless (andThen (tableCheck s t i) (λ _. Rule.checked rule)) (stored (translation rule) s t i) s t i
