@@ -4,3 +4,7 @@ pub mod Packing
 pub mod Rising
 pub mod ByKind
 pub mod Sizes
+pub mod Bounds
+pub mod Reached
+pub mod Descending
+pub mod Keeping
