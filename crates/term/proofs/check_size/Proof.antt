@@ -23,13 +23,13 @@ shared-slice-read-terms c = omega (arith, ready-small _ _ (c .before .before .be
 returns : tie.Need-returns
 returns c =
     let pre = c .before .before .before .before .pre in
-    over-own _ _ (pre .1) (pre .3 .over (c .if1 .taken))
+    over-own _ _ (pre .1) (pre .3 .over (omega arith))
 
 returns-2 : tie.Need-returns-2
 returns-2 c =
     let e = c .before in
     let s = e .before .before .before .before in
-    let row = s .pre .3 .within (e .if1 .left) in
+    let row = s .pre .3 .within (omega arith) in
     let f = tree (s .args .rule .now) (s .args .n) in
     fine-few _ _ (record { terms = omega (arith, row .count); cover = omega (arith, s .pre .4, cover-bounded f (omega (arith, s .pre .4))) })
 
@@ -39,14 +39,14 @@ cover-of-requires c κs = search needs
 returns-3 : tie.Need-returns-3
 returns-3 c =
     let pre = c .before .before .before .before .before .before .before .pre in
-    over-own _ _ (pre .1) (c .before .cover-of .ensures .over (c .if3 .taken))
+    over-own _ _ (pre .1) (c .before .cover-of .ensures .over (omega arith))
 
 returns-4 : tie.Need-returns-4
 returns-4 c =
     let e = c .before .before .before in
     let s = e .before .before .before .before in
-    let row = s .pre .3 .within (e .if1 .left) in
-    let is = c .before .cover-of .ensures .within (c .if3 .left) in
+    let row = s .pre .3 .within (omega arith) in
+    let is = c .before .cover-of .ensures .within (omega arith) in
     let f = tree (s .args .rule .now) (s .args .n) in
     fine-few _ _ (record { terms = omega (arith, row .count); cover = omega (arith, is .count, length-map (cover f) packSet) })
 
