@@ -11,7 +11,7 @@ use borrow.Author.Tests.{eqb-true}
 use Rattle.answer.specs.Result.{fine, lowest}
 use Rattle.formula.specs.declared.Operand.{Operand}
 use Rattle.formula.specs.declared.Operand.the-variants.{Child}
-use Rattle.formula.specs.Rule.{nodeCount, root, kindAt, leftAt, rightAt, leftOperand, rightOperand, isChild, places, placeCheck, lengthCheck, nodeCheck, syntaxCheck, checked}
+use Rattle.formula.specs.Rule.{nodeCount, root, kindAt, leftAt, rightAt, leftOperand, rightOperand, isChild, places, placeCheck, lengthCheck, nodeCheck, syntaxCheck, releaseKind, checked}
 use Rattle.answer.proofs.Lowest.{not-fine, fine-first, fine-second, lowest-each}
 use Rattle.formula.proofs.Operands.{left-unused, left-proposition, left-child, right-unused, right-next, right-child}
 use Rattle.formula.proofs.Checks.{place-none}
@@ -62,8 +62,8 @@ module _ (rule : List ℕ) (passed : checked rule ≡ fine) where
   place-fine : (k : ℕ) → k < nodeCount rule → placeCheck rule k ≡ fine
   unfolding checked syntaxCheck
   place-fine k lt =
-      let syntax = fine-first (syntaxCheck rule) _ passed in
-      lowest-each (placeCheck rule) (nodeCount rule) (fine-second (lowest (nodeCheck rule) (nodeCount rule)) _ (fine-second (lengthCheck rule) _ syntax)) k lt
+      let syntax = fine-first (syntaxCheck releaseKind rule) _ passed in
+      lowest-each (placeCheck rule) (nodeCount rule) (fine-second (lowest (nodeCheck releaseKind rule) (nodeCount rule)) _ (fine-second (lengthCheck rule) _ syntax)) k lt
 
   node : (k : ℕ) → k < nodeCount rule → Node rule k
   node = accepted-fine rule passed .nodes
