@@ -1,5 +1,6 @@
 -- A walk that numbers what it meets and is not refused: each of its steps, what it keeps, and that it is closed.
-use mathlib.Core.Path.{_≡_, refl, _∙_}
+use mathlib.Core.Path.{_≡_, refl, sym, _∙_, subst}
+use mathlib.Core.Logic.{inl, inr}
 use mathlib.Core.List.{List, [], _∷_, _++_}
 use mathlib.Core.Bool.{Bool, true, false}
 use Prim.Native.Nat.{ℕ, zero, suc, _+_, _≤_, _<_}
@@ -11,16 +12,10 @@ use borrow.Author.Tests.{ltb-true, ltb-false}
 use Rattle.answer.specs.Result.{Result, accepted, refused, andThen, Check, fine}
 use Rattle.generalized.specs.Explore.{find, meet, meetAll, explore}
 use Rattle.generalized.proofs.Exploring.{accepted-is, not-accepted}
-use Rattle.translation.specs.Memory.{All}
-use Rattle.translation.proofs.Within.{all-at}
+use Rattle.sets.proofs.Members.{All, at-in, append-in}
 
 pub all-last : {A : Type 0} (P : A → Type 0) (xs : List A) (x : A) → All P xs → P x → All P (xs ++ (x ∷ []))
-all-last P [] x all p = (p, tt)
-all-last P (y ∷ ys) x all p = (all .0, all-last P ys x (all .1) p)
-
-all-on : {A : Type 0} (P Q : A → Type 0) (xs : List A) → ((x : A) → P x → Q x) → All P xs → All Q xs
-all-on P Q [] on all = tt
-all-on P Q (x ∷ xs) on all = (on x (all .0), all-on P Q xs on (all .1))
+all-last P xs x all p y h = elim (append-in y xs (x ∷ []) h) [ inl m ↦ all y m | inr (inl e) ↦ subst P (sym e) p | inr (inr m) ↦ absurd m ]
 
 module _ {A : Type 0} (same : A → A → Bool) (limit : ℕ) where
   -- ys are xs with x met
@@ -63,7 +58,7 @@ module _ {A : Type 0} (same : A → A → Bool) (limit : ℕ) where
 
     pub all-keeps : {ts xs zs : List A} → AddedAll ts xs zs → All P ts → All P xs → All P zs
     all-keeps none ps all = all
-    all-keeps (more a r) ps all = all-keeps r (ps .1) (added-keeps a all (ps .0))
+    all-keeps (more {x} a r) ps all = all-keeps r (λ y h. ps y (inr h)) (added-keeps a all (ps x (inl refl)))
 
   -- no more are numbered than there may be
   added-most : {x : A} {xs ys : List A} → Added x xs ys → length xs ≤ limit → length ys ≤ limit
@@ -131,8 +126,9 @@ module _ {A : Type 0} (same : A → A → Bool) (limit : ℕ) where
     all-onward (more a r) = onward-more (added-onward a) (all-onward r)
 
     all-found : {ts xs zs : List A} → AddedAll ts xs zs → All (Found zs) ts
-    all-found none = tt
-    all-found (more {x} a r) = (all-onward r .found x (added-found a), all-found r)
+    all-found none y h = absurd h
+    all-found {zs = zs} (more {x} a r) y (inl e) = subst (Found zs) (sym e) (all-onward r .found x (added-found a))
+    all-found (more {x} a r) y (inr h) = all-found r y h
 
     module _ (targets : A → List A) (before : ℕ → A → Check) where
       -- the walk from place on, when xs are numbered, ends with ys
@@ -171,7 +167,7 @@ module _ {A : Type 0} (same : A → A → Bool) (limit : ℕ) where
       module _ (P : A → Type 0) (keep : (x : A) → P x → All P (targets x)) where
         walk-keeps : {ys xs : List A} {place : ℕ} → Walk ys place xs → All P xs → All P ys
         walk-keeps (ends le) all = all
-        walk-keeps {xs = xs} {place} (takes lt f a w) all = walk-keeps w (all-keeps P a (keep _ (all-at P d xs place all lt)) all)
+        walk-keeps {xs = xs} {place} (takes lt f a w) all = walk-keeps w (all-keeps P a (keep _ (all _ (at-in d xs place lt))) all)
 
         pub explore-keeps : (full : ℕ) (each : (place count : ℕ) → Check) (xs ys : List A) → length xs ≤ limit → explore same limit full each d targets before limit 0 0 xs ≡ accepted ys → All P xs → All P ys
         explore-keeps full each xs ys le e = walk-keeps (walks full each limit 0 0 xs ys le (omega arith) e)
@@ -189,7 +185,7 @@ module _ {A : Type 0} (same : A → A → Bool) (limit : ℕ) where
           stays = onward-more (all-onward a) (walk-onward w) .there place lt
 
           pick : Dec (k ≡ place) → (suc place ≤ k → Taken ys k) → Taken ys k
-          pick (yes e) later = rw e (record { passed = rw stays f; closed = rw stays (all-on (Found zs) (Found ys) (targets (getD xs place d)) (walk-onward w .found) (all-found a)) })
+          pick (yes e) later = rw e (record { passed = rw stays f; closed = rw stays (λ x h. walk-onward w .found x (all-found a x h)) })
           pick (no n) later = later (omega arith)
 
       -- a whole walk that is not refused
