@@ -28,7 +28,7 @@ fn add_until(kind: u8, i: usize, nodes: &mut [usize], count: usize) -> usize
 }
 
 // The untils' nodes, rising; their count.
-fn untils_of(rule: &[u8], nodes: &mut [usize]) -> usize
+pub fn untils_of(rule: &[u8], nodes: &mut [usize]) -> usize
     requires { ⌜ (length (now nodes) ≡ 8) × (checked (now rule) ≡ fine) ⌝ }
     ensures { λ r. ⌜ take r (now (nodes .exit)) ≡ untils (now (rule .entry)) (nodeCount (now (rule .entry))) ⌝ }
     ensures { λ r. ⌜ r ≡ untilCount (now (rule .entry)) ⌝ }

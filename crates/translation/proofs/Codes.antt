@@ -1,55 +1,57 @@
--- The codes of the initial pairs, and the numbers of the transitions' targets.
+-- The codes of the initial pairs: each state's at level 0, none twice, so that they take the first numbers.
+-- Assumes nothing.
 use mathlib.Core.Path.{_≡_, refl, _∙_}
-use mathlib.Core.List.{List, map, map-append}
-use Prim.Native.Nat.{ℕ, _+_, _*_, _/_, _≤_, _<_}
+use mathlib.Core.List.{List, [], _∷_, _++_, map, map-append}
+use Prim.Native.Nat.{ℕ, zero, suc, _+_, _/_, _≤_, _<_}
 use native.Mathlib.Numerals.{add-one}
 use native.Mathlib.Omega.{arith}
-use lib.ListN.{length, getD, take, set, length-set}
-use lib.Seq.{take-suc-set, getD-set-same, getD-set-other}
-use lib.Dec.{eqb}
-use borrow.Author.Count.{below-more}
-use Rattle.generalized.specs.Explore.{find}
+use lib.ListN.{length, getD, take, length-append, length-map}
+use Rattle.term.specs.Limits.{maxTerms}
 use Rattle.translation.specs.Degeneralized.{numbers}
-use Rattle.translation.specs.Memory.{Targets}
+use Rattle.translation.specs.Memory.{codeOf, levelPlaces, Within, Numbered}
+use Rattle.translation.proofs.Explored.{all-last}
+use Rattle.translation.proofs.Numbering.{find-none, unmet}
 
--- a loop that writes the first n states at level 0 and stands at i
-pub record Starting (pairs₀ : List ℕ) (n : ℕ) (pairs : List ℕ) (i : ℕ) : Type 0 where
+pub numbers-length : (n : ℕ) → length (numbers n) ≡ n
+unfolding numbers
+numbers-length zero = refl
+numbers-length (suc n) = rw length-append (omega (arith, numbers-length n))
+
+-- the first n states at level 0
+abbrev pub starts : ℕ → List ℕ
+starts n = map (λ i. codeOf i 0) (numbers n)
+
+pub starts-within : (n k : ℕ) → n ≤ k → Within k (starts n)
+unfolding numbers
+starts-within zero k le = λ c h. absurd h
+starts-within (suc n) k le =
+    rw (map-append (λ i. codeOf i 0) (numbers n) (n ∷ [])) (all-last (λ c. c / levelPlaces < k) (starts n) (codeOf n 0) (starts-within n k (omega arith)) (omega arith))
+
+-- a loop that numbers the first n states at level 0 and stands at i
+pub record Starting (n : ℕ) (pairs index : List ℕ) (i : ℕ) : Type 0 where
   pub within : i ≤ n
-  pub size : length pairs ≡ length pairs₀
-  pub listed : take i pairs ≡ map (λ k. k * 16) (numbers i)
+  pub numbered : Numbered pairs index i
+  pub listed : take i pairs ≡ starts i
 
-module _ (pairs₀ : List ℕ) (n : ℕ) where
-  pub start-begins : Starting pairs₀ n pairs₀ 0
+pub start-begins : (n : ℕ) (pairs index : List ℕ) → Numbered pairs index 0 → Starting n pairs index 0
+unfolding numbers
+start-begins n pairs index inv = record { within = omega arith; numbered = inv; listed = refl }
+
+module _ (n : ℕ) (pairs index : List ℕ) (i : ℕ) (inv : Starting n pairs index i) where
+  pub start-new : (code : ℕ) → n ≤ maxTerms → i < n → code ≡ codeOf i 0 → getD index code 0 ≡ 0
+  start-new code most lt e =
+      unmet pairs index i (inv .numbered) code (omega arith)
+      (rw (inv .listed) (omega (arith, find-none code (starts i) (λ y h same. omega (arith, starts-within i i (omega arith) y h)), length-map (numbers i) (λ k. codeOf k 0), numbers-length i)))
+
+  pub start-steps : (code : ℕ) (pairs′ index′ : List ℕ) → i < n → code ≡ codeOf i 0 → Numbered pairs′ index′ (i + 1) × (take (i + 1) pairs′ ≡ take i pairs ++ (code ∷ [])) → Starting n pairs′ index′ (i + 1)
   unfolding numbers
-  start-begins = record { within = omega arith; size = refl; listed = refl }
+  start-steps code pairs′ index′ lt e added = record {
+    within = omega arith;
+    numbered = added .0;
+    listed = added .1 ∙ rw (inv .listed, e, add-one, numbers, map-append (λ k. codeOf k 0) (numbers i) (i ∷ []));
+  }
 
-  pub start-steps : (pairs : List ℕ) (i code : ℕ) → n ≤ length pairs₀ → i < n → Starting pairs₀ n pairs i → code ≡ i * 16 + 0 → Starting pairs₀ n (set pairs i code) (i + 1)
-  unfolding numbers
-  start-steps pairs i code le lt inv e =
-      let is : code ≡ i * 16 = omega arith in
-      record {
-        within = omega arith;
-        size = length-set pairs i code ∙ inv .size;
-        listed = rw (add-one, take-suc-set pairs i code (omega (arith, inv .size)), inv .listed, map-append, is);
-      }
-
-  pub start-ends : (pairs : List ℕ) (i : ℕ) → n ≤ i → Starting pairs₀ n pairs i → take n pairs ≡ map (λ k. k * 16) (numbers n)
-  start-ends pairs i ge inv =
+  pub start-ends : n ≤ i → Numbered pairs index n × (take n pairs ≡ starts n)
+  start-ends ge =
       let e : i ≡ n = omega (arith, inv .within) in
-      rw e at (inv .listed)
-
--- a loop that numbers the targets of m transitions and stands at i
-pub record Targeting (states terms : List ℕ) (m : ℕ) (targets₀ targets : List ℕ) (i : ℕ) : Type 0 where
-  pub within : i ≤ m
-  pub size : length targets ≡ length targets₀
-  pub numbered : Targets states terms i targets
-
-pub target-steps : (states terms : List ℕ) (m : ℕ) (targets₀ targets after : List ℕ) (i k : ℕ) → m ≤ length targets₀ → Targeting states terms m targets₀ targets i → i < m → k ≡ find eqb (getD terms i 0 / 65536) states
-    → after ≡ set targets i k → Targeting states terms m targets₀ after (i + 1)
-target-steps states terms m targets₀ targets after i k le inv lt e put =
-    rw put
-    record {
-      within = omega arith;
-      size = length-set targets i k ∙ inv .size;
-      numbered = below-more _ i (λ j l. getD-set-other targets i j k 0 (λ e. omega arith) ∙ inv .numbered j l) (getD-set-same targets i k 0 (omega (arith, inv .size)) ∙ e);
-    }
+      (rw e at (inv .numbered), rw e at (inv .listed))

@@ -1,32 +1,37 @@
--- The first walk's tables, as the second walk reads them: the row of each state, its transitions and their targets.
-use mathlib.Core.Path.{_≡_, refl, sym, ap, _∙_}
+-- The first walk's tables, as the second walk reads them: the row of each state, its transitions and their parts.
+-- Assumes nothing.
+use mathlib.Core.Path.{_≡_, refl, sym, ap, subst, _∙_}
+use mathlib.Core.Logic.{inl, inr}
 use mathlib.Core.List.{List, [], _∷_, _++_, map, append-nil, append-assoc}
-use Prim.Native.Nat.{ℕ, zero, suc, _+_, _/_, _≤_, _<_}
+use Prim.Native.Nat.{ℕ, zero, suc, _+_, _-_, _≤_, _<_}
 use native.Mathlib.Omega.{arith}
-use lib.ListN.{length, getD, take, drop, length-append, length-map, take-append-drop, List·getD-append, List·getD-map}
-use lib.Seq.{take-suc, length-take-le, getD-take, getD-append-seam, append-snoc, take-take}
-use lib.Dec.{eqb}
-use borrow.Author.Tests.{eqb-true, eq-eqb}
+use lib.ListN.{length, getD, take, drop, length-append, take-append-drop, List·getD-append}
+use lib.Seq.{take-suc, getD-take, getD-append-seam, append-snoc}
+use lib.Dec.{eqb, leb}
+use borrow.Author.Tests.{eq-eqb, leb-true}
 use Rattle.answer.specs.Result.{fine}
-use Rattle.sets.proofs.Members.{in-map}
+use Rattle.answer.proofs.Lowest.{fine-first, lowest-each}
+use Rattle.answer.proofs.Results.{require-fine}
+use Rattle.sets.proofs.Members.{All, at-in, in-map, append-in, map-at}
+use Rattle.formula.specs.Limits.{maxUntils}
 use Rattle.formula.specs.Rule.{nodeCount, root}
-use Rattle.formula.specs.Formula.{tree, formula}
-use Rattle.term.specs.declared.Terms.{Terms}
+use Rattle.formula.specs.Rule
+use Rattle.formula.specs.Formula.{formula}
+use Rattle.formula.proofs.Accepted.{accepted-fine}
+use Rattle.term.specs.Limits.{maxTerms}
 use Rattle.term.specs.Term.{Term, term, cover}
 use Rattle.term.specs.Size.{checked}
-use Rattle.term.specs.Packed.{pack, packSet, IsCover}
 use Rattle.term.proofs.Packing.{Numbers, none, more, Bytes, of-terms}
-use Rattle.generalized.specs.declared.Walked.the-variants.{Counts}
-use Rattle.generalized.specs.Limits.{maxGeneralizedStates}
+use Rattle.generalized.specs.Limits.{maxProduct, maxGeneralizedStates}
 use Rattle.generalized.specs.Explore.{find}
-use Rattle.generalized.specs.Generalized.{transitions, productCheck, transitionCheck, targets, generalized}
-use Rattle.generalized.specs.Memory.{allTransitions, Walks}
-use Rattle.generalized.proofs.Passed.{in-range, initial-few, few-transitions}
-use Rattle.generalized.proofs.Explored.{Explored, explored, extends-longer}
+use Rattle.generalized.specs.Generalized.{partialProduct, transitions, productCheck, transitionCheck, targets, generalized}
+use Rattle.generalized.specs.Memory.{allTransitions}
+use Rattle.generalized.proofs.Passed.{some-nodes, in-range, few}
 use Rattle.generalized.proofs.Products.{partial-packed}
-use Rattle.translation.specs.Memory.{range, rowStart, rowCount, row, All, Ends}
-use Rattle.translation.proofs.Within.{all-at}
-use Rattle.translation.proofs.Each.{in-all}
+use Rattle.acceptance.specs.Acceptance.{untilCount, fulfilment}
+use Rattle.translation.specs.Memory.{kept, keptTarget, keptUntils, keptMust, keptMustNot, range, rowStart, rowCount, row, Walks, Ends}
+use Rattle.translation.proofs.Explored.{Walked, walked, Found}
+use Rattle.translation.proofs.Kept.{target-kept, untils-kept, must-kept, must-not-kept}
 
 -- ---- transitions of a list of states
 
@@ -47,115 +52,127 @@ module _ (rule : List ℕ) where
   -- what holds of the transitions of each state holds of all
   all-each : (P : Term → Type 0) (xs : List ℕ) → ((s : ℕ) → s < length xs → All P (transitions rule (getD xs s 0))) → All P (allTransitions rule xs)
   unfolding allTransitions
-  all-each P [] each = tt
-  all-each P (x ∷ xs) each = both (transitions rule x) (allTransitions rule xs) (each 0 (omega arith)) (all-each P xs (λ s lt. each (suc s) (omega arith)))
-    where
-      both : (ts us : List Term) → All P ts → All P us → All P (ts ++ us)
-      both [] us p q = q
-      both (t ∷ ts) us p q = (p .0, both ts us (p .1) q)
+  all-each P [] each t h = absurd h
+  all-each P (x ∷ xs) each t h =
+      elim (append-in t (transitions rule x) (allTransitions rule xs) h) [ inl m ↦ each 0 (omega arith) t m | inr m ↦ all-each P xs (λ s lt. each (suc s) (omega arith)) t m ]
 
 all-bytes : {ts : List Term} {ns : List ℕ} → Numbers of-terms ts ns → All Bytes ts
-all-bytes none = tt
-all-bytes (more t bytes rest) = (bytes, all-bytes rest)
+all-bytes none t h = absurd h
+all-bytes (more u bytes rest) t (inl e) = subst Bytes (sym e) bytes
+all-bytes (more u bytes rest) t (inr h) = all-bytes rest t h
 
 -- what a function of the elements comes to over the places of a part
-range-map : {A B : Type 0} (d : A) (all : List A) (g : ℕ → B) (h : A → B) → ((i : ℕ) → i < length all → g i ≡ h (getD all i d)) → (mid pre post : List A) → all ≡ (pre ++ mid) ++ post
+range-map : {A B : Type 0} (d : A) (all : List A) (g : ℕ → B) (h : A → B) (mid pre post : List A) → ((i : ℕ) → length pre ≤ i → i < length pre + length mid → g i ≡ h (getD all i d)) → all ≡ (pre ++ mid) ++ post
     → map g (range (length mid) (length pre)) ≡ map h mid
 unfolding range
-range-map d all g h each [] pre post e = refl
-range-map {A} d all g h each (x ∷ mid) pre post e =
+range-map d all g h [] pre post each e = refl
+range-map {A} d all g h (x ∷ mid) pre post each e =
     let here : length pre < length (pre ++ (x ∷ mid)) = omega (arith, length-append pre (x ∷ mid)) in
     let at : getD all (length pre) d ≡ x = ap (λ (l : List A). getD l (length pre) d) e ∙ List·getD-append (pre ++ (x ∷ mid)) post d (length pre) here ∙ getD-append-seam pre x mid d in
-    let first : g (length pre) ≡ h x = each (length pre) (omega (arith, here, ap length e, length-append (pre ++ (x ∷ mid)) post)) ∙ ap h at in
+    let first : g (length pre) ≡ h x = each (length pre) (omega arith) (omega arith) ∙ ap h at in
     let next : length (pre ++ (x ∷ [])) ≡ suc (length pre) = omega (arith, length-append pre (x ∷ [])) in
-    rw (first, ← next, range-map d all g h each mid (pre ++ (x ∷ [])) post (e ∙ rw (append-snoc pre x mid)))
+    rw (first, ← next, range-map d all g h mid (pre ++ (x ∷ [])) post (λ i le lt. each i (omega (arith, next)) (omega (arith, next))) (e ∙ rw (append-snoc pre x mid)))
 
 -- ---- the tables that the walk leaves
 
 abbrev pub noTerm : Term
 noTerm = term 0 0 0
 
-pub initial-counted : (rule : List ℕ) → checked rule ≡ fine → (sets : Terms) → IsCover sets (cover (tree rule (root rule))) → sets .count ≡ length (cover (formula rule))
-unfolding formula
-initial-counted rule passed sets is = omega (arith, is .count, length-map (cover (tree rule (root rule))) packSet, initial-few rule passed)
+module _ (rule : List ℕ) (passed : checked rule ≡ fine) where
+  pub initial-few : length (cover (formula rule)) ≤ maxTerms
+  unfolding formula
+  initial-few = few rule passed (root rule) (omega (arith, some-nodes rule passed)) .cover
 
-module _ (rule : List ℕ) (passed : checked rule ≡ fine) (states terms ends : List ℕ) (n m : ℕ) (w : Walks rule (Counts n m) states terms ends) (room : length states ≡ 128) where
+  pub few-levels : untilCount rule ≤ maxUntils
+  unfolding checked
+  few-levels = accepted-fine rule (fine-first (Rule.checked rule) _ passed) .untils
+
+module _ (rule : List ℕ) (passed : checked rule ≡ fine) {initial : ℕ} {kepts ends : List ℕ} (w : Walks rule initial kepts ends) where
   abbrev pub xs : List ℕ
-  xs = take n states
+  xs = w .states
 
   abbrev pub ts : List Term
   ts = allTransitions rule xs
 
-  pub states-length : length xs ≡ n
-  states-length = length-take-le n states (omega (arith, w .1))
-
-  whole : Explored eqb maxGeneralizedStates 23 transitionCheck 0 (targets rule) (productCheck rule) 0 (cover (formula rule)) xs
+  whole : Walked eqb maxGeneralizedStates (λ x. eq-eqb x x refl) 0 (targets rule) (productCheck rule) (cover (formula rule)) xs
   unfolding generalized
-  whole = explored eqb maxGeneralizedStates 23 transitionCheck 0 (targets rule) (productCheck rule) eqb-true (λ x. eq-eqb x x refl) maxGeneralizedStates 0 0 (cover (formula rule)) xs (omega (arith, initial-few rule passed)) (omega arith) (w .0)
+  whole = walked eqb maxGeneralizedStates (λ x. eq-eqb x x refl) 0 (targets rule) (productCheck rule) 23 transitionCheck (cover (formula rule)) xs (omega (arith, initial-few rule passed)) (w .found)
 
   -- the initial states are the first
-  pub initial-states : length (cover (formula rule)) ≤ n
-  initial-states = omega (arith, extends-longer (whole .extends), states-length)
+  pub initial-states : length (cover (formula rule)) ≤ length xs
+  initial-states = whole .onward .longer
 
-  module _ (s : ℕ) (lt : s < n) where
-    inside : s < length xs
-    inside = omega (arith, states-length)
+  end-is : (s : ℕ) → s < length xs → getD ends s 0 ≡ length (allTransitions rule (take s xs)) + length (transitions rule (getD xs s 0))
+  end-is s lt = w .ending s lt ∙ rw (all-one rule xs s lt) (length-append (allTransitions rule (take s xs)) (transitions rule (getD xs s 0)))
 
-    end-is : getD ends s 0 ≡ length (allTransitions rule (take s xs)) + length (transitions rule (getD xs s 0))
-    end-is = w .4 .ending s lt ∙ rw (all-one rule xs s inside) (length-append (allTransitions rule (take s xs)) (transitions rule (getD xs s 0)))
-
-  start-is : (s : ℕ) → s < n → rowStart ends s ≡ length (allTransitions rule (take s xs))
+  start-is : (s : ℕ) → s < length xs → rowStart ends s ≡ length (allTransitions rule (take s xs))
   unfolding allTransitions
   start-is zero lt = refl
-  start-is (suc s) lt = w .4 .ending s (omega arith)
+  start-is (suc s) lt = w .ending s (omega arith)
 
-  module _ (s : ℕ) (lt : s < n) where
+  module _ (s : ℕ) (lt : s < length xs) where
     pub count-is : rowCount ends s ≡ length (transitions rule (getD xs s 0))
     count-is = omega (arith, start-is s lt, end-is s lt)
 
     pub end-inside : getD ends s 0 ≤ length ts
     end-inside =
-        omega (arith, end-is s lt, ap length (all-split rule xs s (inside s lt)), length-append (allTransitions rule (take s xs) ++ transitions rule (getD xs s 0)) (allTransitions rule (drop (suc s) xs)), length-append (allTransitions rule (take s xs)) (transitions rule (getD xs s 0)))
+        omega (arith, end-is s lt, ap length (all-split rule xs s lt), length-append (allTransitions rule (take s xs) ++ transitions rule (getD xs s 0)) (allTransitions rule (drop (suc s) xs)), length-append (allTransitions rule (take s xs)) (transitions rule (getD xs s 0)))
 
-  pub rows-of : length ends ≡ 128 → Ends ends n
+    few-transitions : length (transitions rule (getD xs s 0)) ≤ maxProduct
+    unfolding productCheck transitions
+    few-transitions =
+        let last : nodeCount rule ≡ suc (nodeCount rule - 1) = omega (arith, some-nodes rule passed) in
+        let fits : length (partialProduct rule (getD xs s 0) (suc (nodeCount rule - 1))) ≤ maxProduct =
+        leb-true _ _ (require-fine (leb (length (partialProduct rule (getD xs s 0) (suc (nodeCount rule - 1)))) maxProduct) 21 s (lowest-each _ (nodeCount rule) (whole .taken s lt .passed) (nodeCount rule - 1) (omega (arith, some-nodes rule passed)))) in
+        rw (← last) at fits
+
+  pub rows-of : length ends ≡ maxGeneralizedStates → Ends ends (length xs)
   rows-of size = record {
     size = size;
-    states = w .1;
+    states = whole .most;
     rising = λ s lt. omega (arith, start-is s lt, end-is s lt);
-    inside = λ s lt. omega (arith, end-inside s lt, w .2, w .3);
-    few = λ s lt. omega (arith, count-is s lt, few-transitions rule passed s (getD xs s 0) (whole .taken s (omega arith) (inside s lt) .passed));
+    inside = λ s lt. omega (arith, end-inside s lt, w .most);
+    few = λ s lt. omega (arith, count-is s lt, few-transitions s lt);
   }
 
   -- what a function of the transitions comes to over a row
-  pub row-map : {B : Type 0} (g : ℕ → B) (h : Term → B) → ((i : ℕ) → i < length ts → g i ≡ h (getD ts i noTerm)) → (s : ℕ) → s < n → map g (row ends s) ≡ map h (transitions rule (getD xs s 0))
-  row-map g h each s lt = rw (count-is s lt, start-is s lt) (range-map noTerm ts g h each (transitions rule (getD xs s 0)) (allTransitions rule (take s xs)) (allTransitions rule (drop (suc s) xs)) (all-split rule xs s (inside s lt)))
+  pub row-map : {B : Type 0} (g : ℕ → B) (h : Term → B) (s : ℕ) → s < length xs → ((i : ℕ) → rowStart ends s ≤ i → i < getD ends s 0 → g i ≡ h (getD ts i noTerm)) → map g (row ends s) ≡ map h (transitions rule (getD xs s 0))
+  row-map g h s lt each =
+      rw (count-is s lt, start-is s lt)
+      (range-map noTerm ts g h (transitions rule (getD xs s 0)) (allTransitions rule (take s xs)) (allTransitions rule (drop (suc s) xs))
+      (λ i le l. each i (omega (arith, start-is s lt)) (omega (arith, end-is s lt))) (all-split rule xs s lt))
 
-  -- each transition: its parts are bytes, and its target has a number
   transition-bytes : All Bytes ts
   unfolding transitions
   transition-bytes = all-each rule Bytes xs (λ s lt. all-bytes (partial-packed rule (getD xs s 0) (nodeCount rule) (in-range rule passed)))
 
-  transition-found : All (λ t. find eqb (t .obligations) xs < length xs) ts
+  transition-found : All (λ t. Found eqb maxGeneralizedStates xs (t .obligations)) ts
   unfolding targets
   transition-found =
-      all-each rule (λ t. find eqb (t .obligations) xs < length xs) xs
-      (λ s lt. in-all _ (transitions rule (getD xs s 0)) (λ t m. whole .numbered (t .obligations) (whole .taken s (omega arith) lt .closed (t .obligations) (in-map (λ t. t .obligations) t (transitions rule (getD xs s 0)) m)) .0))
+      all-each rule (λ t. Found eqb maxGeneralizedStates xs (t .obligations)) xs (λ s lt t h. whole .taken s lt .closed (t .obligations) (in-map (λ u. u .obligations) t (transitions rule (getD xs s 0)) h))
 
-  pub listed-are : take m terms ≡ map pack ts
-  listed-are = rw (w .2) (rw (take-take n n states (omega arith)) at (w .4 .listed))
-
+  -- a transition in the table: its parts, and that its target has a number
   module _ (i : ℕ) (lt : i < length ts) where
-    pub bytes-at : Bytes (getD ts i noTerm)
-    bytes-at = all-at Bytes noTerm ts i transition-bytes lt
+    kept-at : getD kepts i 0 ≡ kept rule xs (getD ts i noTerm)
+    kept-at =
+        sym (getD-take (length ts) kepts i 0 lt)
+        ∙ ap (λ (l : List ℕ). getD l i 0) (w .listed)
+        ∙ map-at (kept rule xs) noTerm 0 ts i lt
 
-    pub term-at : getD terms i 0 ≡ pack (getD ts i noTerm)
-    term-at =
-        sym (getD-take m terms i 0 (omega (arith, w .2)))
-        ∙ ap (λ (l : List ℕ). getD l i 0) listed-are
-        ∙ List·getD-map pack ts i noTerm
+    bytes-at : Bytes (getD ts i noTerm)
+    bytes-at = transition-bytes (getD ts i noTerm) (at-in noTerm ts i lt)
 
-    pub obligations-at : getD terms i 0 / 65536 ≡ getD ts i noTerm .obligations
-    obligations-at = rw term-at (omega (arith, bytes-at .must, bytes-at .mustNot))
+    pub target-at : keptTarget (getD kepts i 0) ≡ find eqb (getD ts i noTerm .obligations) xs
+    target-at = rw kept-at (target-kept rule xs (getD ts i noTerm) (few-levels rule passed) bytes-at (w .small _ (at-in noTerm ts i lt)))
 
-    pub found-at : find eqb (getD ts i noTerm .obligations) xs < n
-    found-at = omega (arith, states-length, all-at (λ t. find eqb (t .obligations) xs < length xs) noTerm ts i transition-found lt)
+    pub untils-at : keptUntils (getD kepts i 0) ≡ fulfilment rule (getD ts i noTerm)
+    untils-at = rw kept-at (untils-kept rule xs (getD ts i noTerm) (few-levels rule passed) bytes-at (w .small _ (at-in noTerm ts i lt)))
+
+    pub must-at : keptMust (getD kepts i 0) ≡ getD ts i noTerm .must
+    must-at = rw kept-at (must-kept rule xs (getD ts i noTerm) (few-levels rule passed) bytes-at (w .small _ (at-in noTerm ts i lt)))
+
+    pub must-not-at : keptMustNot (getD kepts i 0) ≡ getD ts i noTerm .mustNot
+    must-not-at = rw kept-at (must-not-kept rule xs (getD ts i noTerm) (few-levels rule passed) bytes-at (w .small _ (at-in noTerm ts i lt)))
+
+    pub found-at : find eqb (getD ts i noTerm .obligations) xs < length xs
+    found-at = transition-found (getD ts i noTerm) (at-in noTerm ts i lt)

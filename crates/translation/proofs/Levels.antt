@@ -1,82 +1,101 @@
--- The level that a transition leads to: counted up by its marks, and by the untils that it fulfils.
+-- The level that a transition leads to: counted up by the bits of its untils, and by the untils that it fulfils.
+-- Assumes nothing.
 use mathlib.Core.Path.{_≡_, refl}
 use mathlib.Core.Bool.{Bool, true, false, cond}
 use mathlib.Core.List.{List}
-use Prim.Native.Nat.{ℕ, zero, suc, _+_, _-_, _*_, _≤_, _<_}
+use Prim.Native.Nat.{ℕ, zero, suc, _+_, _-_, _/_, _%_, _≤_, _<_}
 use native.Mathlib.Numerals.{add-one}
 use native.Mathlib.Omega.{arith}
-use lib.ListN.{getD, length}
-use lib.Dec.{eqb, ltb}
-use borrow.Author.Tests.{eq-eqb, ne-eqb, lt-ltb, le-ltb, ltb-true}
-use Rattle.term.specs.Term.{Term, term}
-use Rattle.acceptance.specs.Acceptance.{untilCount, fulfilsNext}
-use Rattle.acceptance.specs.Marks.{Marks}
+use lib.Dec.{ltb}
+use borrow.Author.Tests.{lt-ltb, le-ltb, ltb-true}
+use Rattle.sets.specs.Bits.{has}
+use Rattle.formula.specs.Limits.{maxUntils}
+use Rattle.term.specs.Term.{Term}
+use Rattle.generalized.specs.Limits.{maxGeneralizedStates}
+use Rattle.acceptance.specs.Acceptance.{untilCount, fulfilsNext, fulfilment}
 use Rattle.translation.specs.Degeneralized.{climb, nextLevel}
-use Rattle.translation.specs.Memory.{climbN, nextLevelN}
+use Rattle.translation.specs.Memory.{keptTarget, keptUntils, levelPlaces, codePlaces, climbN, nextLevelN, targetN}
+use Rattle.translation.proofs.Kept.{fulfilment-has}
 
-module _ (marks : List ℕ) (i r j : ℕ) where
-  pub climb-steps : j < r → getD marks (j * 1024 + i) 0 ≡ 1 → climbN marks i (r - j) j ≡ climbN marks i (r - (j + 1)) (j + 1)
+module _ (untils r j : ℕ) where
+  pub climb-steps : j < r → has untils j ≡ true → climbN untils (r - j) j ≡ climbN untils (r - (j + 1)) (j + 1)
   unfolding climbN
   climb-steps lt e =
       let more : r - j ≡ suc (r - (j + 1)) = omega arith in
-      rw (more, eq-eqb (getD marks (j * 1024 + i) 0) 1 e, climbN, add-one)
+      rw (more, e, climbN, add-one)
 
-  pub climb-stops : j < r → (getD marks (j * 1024 + i) 0 ≡ 1 → ⊥) → climbN marks i (r - j) j ≡ j
+  pub climb-stops : j < r → has untils j ≡ false → climbN untils (r - j) j ≡ j
   unfolding climbN
-  climb-stops lt n =
+  climb-stops lt e =
       let more : r - j ≡ suc (r - (j + 1)) = omega arith in
-      rw (more, ne-eqb (getD marks (j * 1024 + i) 0) 1 n, climbN)
+      rw (more, e, climbN)
 
-  pub climb-ends : r ≤ j → climbN marks i (r - j) j ≡ j
+  pub climb-ends : r ≤ j → climbN untils (r - j) j ≡ j
   unfolding climbN
   climb-ends le =
       let none : r - j ≡ 0 = omega arith in
       rw (none, climbN)
 
-  pub next-below : j < r → nextLevelN marks r i j ≡ climbN marks i (r - j) j
+  pub next-below : j < r → nextLevelN untils r j ≡ climbN untils (r - j) j
   unfolding nextLevelN
   next-below lt = rw (lt-ltb j r lt)
 
-  pub next-again : r ≤ j → nextLevelN marks r i j ≡ climbN marks i (r - 0) 0
+  pub next-again : r ≤ j → nextLevelN untils r j ≡ climbN untils (r - 0) 0
   unfolding nextLevelN
   next-again le =
       let e : r - 0 ≡ r = omega arith in
       rw (le-ltb j r le, e)
 
-climb-most : (marks : List ℕ) (i left j : ℕ) → climbN marks i left j ≤ j + left
+climb-most : (untils left j : ℕ) → climbN untils left j ≤ j + left
 unfolding climbN
-climb-most marks i zero j = omega arith
-climb-most marks i (suc left) j = go (eqb (getD marks (j * 1024 + i) 0) 1) (climb-most marks i left (suc j))
+climb-most untils zero j = omega arith
+climb-most untils (suc left) j = go (has untils j) (climb-most untils left (suc j))
   where
-    go : (b : Bool) → climbN marks i left (suc j) ≤ suc j + left → elim b [ true ↦ climbN marks i left (suc j) | false ↦ j ] ≤ j + suc left
+    go : (b : Bool) → climbN untils left (suc j) ≤ suc j + left → elim b [ true ↦ climbN untils left (suc j) | false ↦ j ] ≤ j + suc left
     go true le = omega arith
     go false le = omega arith
 
-pub next-most : (marks : List ℕ) (r i j : ℕ) → nextLevelN marks r i j ≤ r
+pub next-most : (untils r j : ℕ) → nextLevelN untils r j ≤ r
 unfolding nextLevelN
-next-most marks r i j = go (ltb j r) refl
+next-most untils r j = go (ltb j r) refl
   where
-    go : (b : Bool) → ltb j r ≡ b → cond b (climbN marks i (r - j) j) (climbN marks i r 0) ≤ r
-    go true e = omega (arith, climb-most marks i (r - j) j, ltb-true j r e)
-    go false e = omega (arith, climb-most marks i r 0)
+    go : (b : Bool) → ltb j r ≡ b → cond b (climbN untils (r - j) j) (climbN untils r 0) ≤ r
+    go true e = omega (arith, climb-most untils (r - j) j, ltb-true j r e)
+    go false e = omega (arith, climb-most untils r 0)
 
--- the marks of the transitions ts tell which untils each fulfils
-module _ (rule : List ℕ) (ts : List Term) (marks : List ℕ) (marked : Marks rule ts marks) (i : ℕ) (lt : i < length ts) where
-  climb-is : (left j : ℕ) → j + left ≤ untilCount rule → climbN marks i left j ≡ climb rule left j (getD ts i (term 0 0 0))
+-- ---- a target's code
+
+module _ (r level x : ℕ) (few : r ≤ maxUntils) where
+  pub level-fits : nextLevelN (keptUntils x) r level < levelPlaces
+  level-fits = omega (arith, next-most (keptUntils x) r level)
+
+  pub target-state : targetN r level x / levelPlaces ≡ keptTarget x
+  target-state = omega (arith, level-fits)
+
+  pub target-level : targetN r level x % levelPlaces ≡ nextLevelN (keptUntils x) r level
+  target-level = omega (arith, level-fits)
+
+  pub target-inside : keptTarget x < maxGeneralizedStates → targetN r level x < codePlaces
+  target-inside lt = omega (arith, level-fits)
+
+-- ---- the untils of a transition
+
+module _ (rule : List ℕ) (t : Term) where
+  climb-is : (left j : ℕ) → j + left ≤ untilCount rule → climbN (fulfilment rule t) left j ≡ climb rule left j t
   unfolding climbN climb
   climb-is zero j le = refl
-  climb-is (suc left) j le = go (fulfilsNext rule j (getD ts i (term 0 0 0))) refl (marked .mark j i (omega arith) lt) (climb-is left (suc j) (omega arith))
+  climb-is (suc left) j le = rw (fulfilment-has rule t j (omega arith), climbN, climb) (go (fulfilsNext rule j t) (climb-is left (suc j) (omega arith)))
     where
-      go : (b : Bool) → fulfilsNext rule j (getD ts i (term 0 0 0)) ≡ b → getD marks (j * 1024 + i) 0 ≡ cond (fulfilsNext rule j (getD ts i (term 0 0 0))) 1 0 → climbN marks i left (suc j) ≡ climb rule left (suc j) (getD ts i (term 0 0 0))
-          → climbN marks i (suc left) j ≡ climb rule (suc left) j (getD ts i (term 0 0 0))
-      go true e m next = rw (m, e, climbN, climb) next
-      go false e m next = rw (m, e, climbN, climb)
+      go : (b : Bool) → climbN (fulfilment rule t) left (suc j) ≡ climb rule left (suc j) t
+          → _≡_ {A = ℕ} (elim b [ true ↦ climbN (fulfilment rule t) left (suc j) | false ↦ j ]) (elim b [ true ↦ climb rule left (suc j) t | false ↦ j ])
+      go true next = next
+      go false next = refl
 
-  pub next-level-is : (j : ℕ) → nextLevelN marks (untilCount rule) i j ≡ nextLevel rule j (getD ts i (term 0 0 0))
+  pub next-level-is : (j : ℕ) → nextLevelN (fulfilment rule t) (untilCount rule) j ≡ nextLevel rule j t
   unfolding nextLevelN nextLevel
   next-level-is j = go (ltb j (untilCount rule)) refl
     where
       go : (b : Bool) → ltb j (untilCount rule) ≡ b
-          → cond b (climbN marks i (untilCount rule - j) j) (climbN marks i (untilCount rule) 0) ≡ cond b (climb rule (untilCount rule - j) j (getD ts i (term 0 0 0))) (climb rule (untilCount rule) 0 (getD ts i (term 0 0 0)))
+          → cond b (climbN (fulfilment rule t) (untilCount rule - j) j) (climbN (fulfilment rule t) (untilCount rule) 0) ≡ cond b (climb rule (untilCount rule - j) j t) (climb rule (untilCount rule) 0 t)
       go true e = climb-is (untilCount rule - j) j (omega (arith, ltb-true j (untilCount rule) e))
       go false e = climb-is (untilCount rule) 0 (omega arith)

@@ -1,4 +1,5 @@
 -- The same walk over other names: where a map keeps which two are the same, it takes each step of a walk to a step.
+-- Assumes nothing.
 use mathlib.Core.Path.{_≡_, refl, sym, ap, _∙_}
 use mathlib.Core.List.{List, [], _∷_, map, map-append}
 use mathlib.Core.Bool.{Bool, true, false}
@@ -9,9 +10,8 @@ use lib.ListN.{length, getD, length-map, List·getD-map}
 use Rattle.answer.specs.Result.{Result, accepted, refused, Check, fine}
 use Rattle.generalized.specs.Explore.{find, meet, meetAll, explore}
 use Rattle.generalized.proofs.Exploring.{meet-seen, meet-next, meet-full, all-refused, all-full, all-next, all-met, explore-next, explore-refused, explore-ends}
-use Rattle.translation.specs.Memory.{All}
-use Rattle.translation.proofs.Within.{all-at}
-use Rattle.translation.proofs.Each.{all-keeps}
+use Rattle.sets.proofs.Members.{All, at-in}
+use Rattle.translation.proofs.Explored.{all-adds, all-keeps}
 
 abbrev pub mapped : {A B : Type 0} → (A → B) → Result (List A) → Result (List B)
 mapped f (accepted xs) = accepted (map f xs)
@@ -72,7 +72,7 @@ module _ {A B : Type 0} (sameA : A → A → Bool) (sameB : B → B → Bool) (f
         -- the state at place
         module _ (place count : ℕ) (xs : List A) (all : All P xs) (lt : place < length xs) where
           here : targetsB (getD (map f xs) place (f none)) ≡ map f (targetsA (getD xs place none))
-          here = rw (List·getD-map f xs place none) (same (getD xs place none) (all-at P none xs place all lt))
+          here = rw (List·getD-map f xs place none) (same (getD xs place none) (all _ (at-in none xs place lt)))
 
           taken : meetAll sameB limit full each place (targetsB (getD (map f xs) place (f none))) count (map f xs) ≡ mapped f (meetAll sameA limit full each place (targetsA (getD xs place none)) count xs)
           taken = rw here (all-map place (targetsA (getD xs place none)) count xs)
@@ -95,7 +95,7 @@ module _ {A B : Type 0} (sameA : A → A → Bool) (sameB : B → B → Bool) (f
                 go : (m : Result (List A)) → meetAll sameA limit full each place (targetsA (getD xs place none)) count xs ≡ m → walkB (suc fuel) place count (map f xs) ≡ mapped f (walkA (suc fuel) place count xs)
                 go (accepted more) e =
                     explore-next sameB limit full each (f none) targetsB (λ _ _. fine) fuel place count (map f xs) (inside place count xs all lt) (taken place count xs all lt ∙ ap (mapped f) e)
-                    ∙ rw (counts place count xs all lt) (next more _ (all-keeps P sameA limit full each place _ count xs more e (keep _ (all-at P none xs place all lt)) all))
+                    ∙ rw (counts place count xs all lt) (next more _ (all-keeps sameA limit P (all-adds sameA limit full each place _ count xs more e) (keep _ (all _ (at-in none xs place lt))) all))
                     ∙ sym (ap (mapped f) (explore-next sameA limit full each none targetsA (λ _ _. fine) fuel place count xs lt e))
                 go (refused number at) e =
                     explore-refused sameB limit full each (f none) targetsB (λ _ _. fine) fuel place count (map f xs) (inside place count xs all lt) (taken place count xs all lt ∙ ap (mapped f) e)

@@ -1,29 +1,69 @@
--- How the second walk lies in memory: a pair as one number, the first walk's transitions by state, and what the walk
+-- How the second walk lies in memory: the first walk's transitions by state, a pair as one number, and what the walk
 -- and the records come to over these.
 use Prim.Native.Nat.{ℕ, zero, suc, _+_, _-_, _*_, _/_, _%_, _<_, _≤_}
 use mathlib.Core.Path.{_≡_}
 use mathlib.Core.List.{List, [], _∷_, _++_, map}
-use mathlib.Core.Bool.{Bool, true, false, cond}
-use lib.ListN.{length, getD, take, replicate}
+use mathlib.Core.Bool.{true, false, cond}
+use lib.ListN.{length, getD, take}
 use lib.Dec.{eqb, ltb}
 use Rattle.answer.specs.Result.{Result, accepted, refused, andThen, fine}
+use Rattle.answer.specs.Bytes.{filled}
+use Rattle.sets.specs.Sets.{In}
+use Rattle.sets.specs.Bits.{has}
+use Rattle.formula.specs.Limits.{maxUntils}
+use Rattle.formula.specs.Formula.{formula}
+use Rattle.term.specs.Term.{Term, cover}
+use Rattle.term.specs.Packed.{pack}
+use Rattle.generalized.specs.Limits.{maxGeneralizedTransitions, maxGeneralizedStates}
 use Rattle.generalized.specs.Explore.{find, meetAll, explore}
+use Rattle.generalized.specs.Generalized.{generalized}
+use Rattle.generalized.specs.Memory.{allTransitions}
+use Rattle.acceptance.specs.Acceptance.{fulfilment}
 use Rattle.translation.specs.declared.Paired.{Paired}
 use Rattle.translation.specs.declared.Paired.the-variants.{Count, Full}
 use Rattle.automaton.specs.Automaton.{Automaton}
-use Rattle.translation.specs.Degeneralized.{Pair, pair, numbers, initialNumbers, degeneralized, stateOf}
 use Rattle.automaton.specs.Limits.{maxStates, maxOfState, statesBytes, transitionsBytes, initialBytes}
-use Rattle.automaton.specs.Records.{records}
-use Rattle.answer.specs.Bytes.{twoBytes}
+use Rattle.automaton.specs.Records.{records, stateBytes, transitionBytes}
+use Rattle.translation.specs.Degeneralized.{Pair, pair, initialNumbers, degeneralized, stateOf}
 
 -- the second walk, and the automaton that it makes, when the first walk has the states
 abbrev pub secondWalk : (rule states : List ℕ) → Result Automaton
 secondWalk rule states =
     andThen (degeneralized rule states) (λ pairs. accepted (record { states = map (stateOf rule states pairs) pairs; initial = initialNumbers rule }))
 
--- a pair as one number, its code: state * 16 + level
-abbrev pub pairOf : ℕ → Pair
-pairOf code = pair (code / 16) (code % 16)
+-- ---- the first walk's transitions
+
+-- the number of values that a packed term can have: 2 ^ 48
+abbrev pub termRange : ℕ
+termRange = 281474976710656
+
+-- a transition in the table: the number of its target, the untils that it fulfils, its term, from the top
+abbrev pub kept : (rule states : List ℕ) → Term → ℕ
+kept rule states t = (find eqb (t .obligations) states * 256 + fulfilment rule t) * termRange + pack t
+
+-- the parts of such a number
+abbrev pub keptTarget : ℕ → ℕ
+keptTarget x = x / termRange / 256
+
+abbrev pub keptUntils : ℕ → ℕ
+keptUntils x = x / termRange % 256
+
+abbrev pub keptMust : ℕ → ℕ
+keptMust x = x / 256 % 256
+
+abbrev pub keptMustNot : ℕ → ℕ
+keptMustNot x = x % 256
+
+-- what the first walk hands to the second: how many initial states there are, the transitions of all states one after
+-- another, and where each state's end
+pub record Walks (rule : List ℕ) (initial : ℕ) (transitions ends : List ℕ) : Type 0 where
+  pub states : List ℕ
+  pub found : generalized rule ≡ accepted states
+  pub begun : initial ≡ length (cover (formula rule))
+  pub small : (t : Term) → In t (allTransitions rule states) → pack t < termRange
+  pub most : length (allTransitions rule states) ≤ maxGeneralizedTransitions
+  pub listed : take (length (allTransitions rule states)) transitions ≡ map (kept rule states) (allTransitions rule states)
+  pub ending : (s : ℕ) → s < length states → getD ends s 0 ≡ length (allTransitions rule (take (suc s) states))
 
 -- count numbers, the first is from
 unfoldable pub range : (count from : ℕ) → List ℕ
@@ -42,63 +82,73 @@ rowCount ends s = getD ends s 0 - rowStart ends s
 abbrev pub row : (ends : List ℕ) → ℕ → List ℕ
 row ends s = range (rowCount ends s) (rowStart ends s)
 
--- from level j on, of which left are above: the untils that transition i is marked for, one after another
-unfoldable pub climbN : (marks : List ℕ) (i left j : ℕ) → ℕ
-climbN marks i zero j = j
-climbN marks i (suc left) j =
-    elim (eqb (getD marks (j * 1024 + i) 0) 1) [ true ↦ climbN marks i left (suc j) | false ↦ j ]
+-- ---- pairs
 
-unfoldable pub nextLevelN : (marks : List ℕ) (r i j : ℕ) → ℕ
-nextLevelN marks r i j = cond (ltb j r) (climbN marks i (r - j) j) (climbN marks i r 0)
+-- how many places a state has for its levels, of which there are at most 9: a power of 2
+abbrev pub levelPlaces : ℕ
+levelPlaces = 16
+
+-- a pair as one number, its code
+abbrev pub codeOf : (state level : ℕ) → ℕ
+codeOf state level = state * levelPlaces + level
+
+abbrev pub pairOf : ℕ → Pair
+pairOf code = pair (code / levelPlaces) (code % levelPlaces)
+
+-- a place for each code
+abbrev pub codePlaces : ℕ
+codePlaces = maxGeneralizedStates * levelPlaces
+
+-- from level j on, of which left are above: one more for each until in the set, up to the first that is not
+unfoldable pub climbN : (untils left j : ℕ) → ℕ
+climbN untils zero j = j
+climbN untils (suc left) j = elim (has untils j) [ true ↦ climbN untils left (suc j) | false ↦ j ]
+
+unfoldable pub nextLevelN : (untils r j : ℕ) → ℕ
+nextLevelN untils r j = cond (ltb j r) (climbN untils (r - j) j) (climbN untils r 0)
+
+-- the code of the pair that the transition x leads to from a level
+abbrev pub targetN : (r level x : ℕ) → ℕ
+targetN r level x = codeOf (keptTarget x) (nextLevelN (keptUntils x) r level)
 
 -- the targets ts of the pair at place, met when the pairs codes are numbered
 abbrev pub meetAllN : (place count : ℕ) (ts codes : List ℕ) → Result (List ℕ)
 meetAllN place count ts codes = meetAll eqb maxStates 24 (λ _ _. fine) place ts count codes
 
--- the code of the pair that transition i leads to from a level
-abbrev pub targetN : (targets marks : List ℕ) (r level i : ℕ) → ℕ
-targetN targets marks r level i = getD targets i 0 * 16 + nextLevelN marks r i level
+-- the number of a pair, of which index has one more
+abbrev pub numberN : (index : List ℕ) (code : ℕ) → ℕ
+numberN index code = getD index code 0 - 1
 
--- the record of a state, and of a transition whose term is packed
-unfoldable pub stateBytes : (count : ℕ) → Bool → List ℕ
-stateBytes count accepting = twoBytes count ++ (cond accepting 1 0 ∷ (0 ∷ []))
-
-unfoldable pub transitionBytes : (term target : ℕ) → List ℕ
-transitionBytes term target = term / 256 % 256 ∷ (term % 256 ∷ twoBytes target)
-
--- the record of a pair
+-- the record of a pair, and of its transition x from a level
 abbrev pub pairBytes : (ends : List ℕ) (r code : ℕ) → List ℕ
-pairBytes ends r code = stateBytes (rowCount ends (code / 16)) (eqb (code % 16) r)
+pairBytes ends r code = stateBytes (rowCount ends (code / levelPlaces)) (eqb (code % levelPlaces) r)
 
--- the first walk's tables: where each state's transitions end, the state that each leads to, the untils that it
--- fulfils, and how many untils there are
-module _ (ends targets marks : List ℕ) (r : ℕ) where
+abbrev pub transitionN : (index : List ℕ) (r level x : ℕ) → List ℕ
+transitionN index r level x = transitionBytes (keptMust x) (keptMustNot x) (numberN index (targetN r level x))
+
+-- the first walk's tables, and how many untils there are
+module _ (ends transitions : List ℕ) (r : ℕ) where
   abbrev pub targetsN : (code : ℕ) → List ℕ
-  targetsN code = map (targetN targets marks r (code % 16)) (row ends (code / 16))
+  targetsN code = map (λ i. targetN r (code % levelPlaces) (getD transitions i 0)) (row ends (code / levelPlaces))
 
   abbrev pub exploreN : (fuel place count : ℕ) (codes : List ℕ) → Result (List ℕ)
   exploreN = explore eqb maxStates 24 (λ _ _. fine) 0 targetsN (λ _ _. fine)
 
-  -- the records of a pair's transitions, terms packed, when the pairs codes are numbered
-  abbrev pub rowN : (terms codes : List ℕ) (code : ℕ) → List ℕ
-  rowN terms codes code =
-      records (λ i. transitionBytes (getD terms i 0) (find eqb (targetN targets marks r (code % 16) i) codes)) (row ends (code / 16))
-
--- P holds of each
-abbrev pub All : {A : Type 0} → (A → Type 0) → List A → Type 0
-All P [] = Unit {0}
-All P (x ∷ xs) = P x × All P xs
+  -- the records of a pair's transitions
+  abbrev pub rowN : (index : List ℕ) (code : ℕ) → List ℕ
+  rowN index code =
+      records (λ i. transitionN index r (code % levelPlaces) (getD transitions i 0)) (row ends (code / levelPlaces))
 
 -- the states of the pairs codes are among the first n of the first walk
 abbrev pub Within : (n : ℕ) (codes : List ℕ) → Type 0
-Within n codes = All (λ code. code / 16 < n) codes
+Within n codes = (code : ℕ) → In code codes → code / levelPlaces < n
 
 -- the rows of n states, one after another in a table of transitions
 pub record Ends (ends : List ℕ) (n : ℕ) : Type 0 where
-  pub size : length ends ≡ 128
-  pub states : n ≤ 128
+  pub size : length ends ≡ maxGeneralizedStates
+  pub states : n ≤ maxGeneralizedStates
   pub rising : (s : ℕ) → s < n → rowStart ends s ≤ getD ends s 0
-  pub inside : (s : ℕ) → s < n → getD ends s 0 ≤ 1024
+  pub inside : (s : ℕ) → s < n → getD ends s 0 ≤ maxGeneralizedTransitions
   pub few : (s : ℕ) → s < n → rowCount ends s ≤ maxOfState
 
 -- pairs whose rows these are
@@ -108,43 +158,43 @@ pub record Listed (ends codes : List ℕ) : Type 0 where
   pub within : Within states codes
 
 -- and the transitions in them lead to such pairs
-pub record Rows (ends targets marks : List ℕ) (r : ℕ) (codes : List ℕ) : Type 0 where
+pub record Rows (ends transitions : List ℕ) (r : ℕ) (codes : List ℕ) : Type 0 where
   pub listed : Listed ends codes
-  pub targets-size : length targets ≡ 1024
-  pub marks-size : length marks ≡ 8192
-  pub levels : r ≤ 8
-  pub closed : (s : ℕ) → s < listed .states → (i : ℕ) → i < getD ends s 0 → getD targets i 0 < listed .states
+  pub size : length transitions ≡ maxGeneralizedTransitions
+  pub levels : r ≤ maxUntils
+  pub closed : (s : ℕ) → s < listed .states → (i : ℕ) → i < getD ends s 0 → keptTarget (getD transitions i 0) < listed .states
 
--- where each of the first m transitions leads: the number of its obligations among states
-abbrev pub Targets : (states terms : List ℕ) (m : ℕ) (targets : List ℕ) → Type 0
-Targets states terms m targets = (i : ℕ) → i < m → getD targets i 0 ≡ find eqb (getD terms i 0 / 65536) states
+-- n pairs are numbered: their codes stand by number in pairs, and index has for each code one more than its pair's
+-- number, or 0 where the pair has none
+pub record Numbered (pairs index : List ℕ) (n : ℕ) : Type 0 where
+  pub room : length pairs ≡ maxStates
+  pub size : length index ≡ codePlaces
+  pub few : n ≤ maxStates
+  pub number : (code : ℕ) → code < codePlaces → getD index code 0 ≡ cond (ltb (find eqb code (take n pairs)) n) (suc (find eqb code (take n pairs))) 0
 
--- pairs met: how many, or that there is one too many, and the pair being walked
-abbrev pub Pairs : (met : Result (List ℕ)) → Paired → (pairs : List ℕ) → Type 0
-Pairs met (Count n) pairs = (met ≡ accepted (take n pairs)) × (n ≤ maxStates)
-Pairs met (Full pair) pairs = met ≡ refused 24 (pair .0)
+-- every target of the pairs codes has a number
+abbrev pub Closed : (ends transitions : List ℕ) (r : ℕ) (index codes : List ℕ) → Type 0
+Closed ends transitions r index codes = (code : ℕ) → In code codes → (x : ℕ) → In x (targetsN ends transitions r code) → (0 < getD index x 0) × (getD index x 0 ≤ maxStates)
 
--- a table that has bytes, and zeros after them
-pub record Filled (table bytes : List ℕ) : Type 0 where
-  pub room : length bytes ≤ length table
-  pub is : table ≡ bytes ++ replicate (length table - length bytes) 0
+-- pairs met: how many are numbered then, or that there is one too many, and the pair being walked
+abbrev pub Pairs : (met : Result (List ℕ)) → Paired → (pairs index : List ℕ) → Type 0
+Pairs met (Count n) pairs index = (met ≡ accepted (take n pairs)) × Numbered pairs index n
+Pairs met (Full pair) pairs index = met ≡ refused 24 (pair .0)
+
+-- ---- records in a table
 
 -- records of 4 bytes put after the first k of a table; there are after of them then
 pub record Adds (before : List ℕ) (k : ℕ) (bytes table : List ℕ) (after : ℕ) : Type 0 where
   pub count : after * 4 ≡ k * 4 + length bytes
-  pub filled : (first : List ℕ) → length first ≡ k * 4 → Filled before first → Filled table (first ++ bytes)
+  pub front : take (after * 4) table ≡ take (k * 4) before ++ bytes
 
--- the three tables, large enough and all zero
-pub record Blank (states transitions initial : List ℕ) : Type 0 where
-  pub states-room : statesBytes ≤ length states
-  pub transitions-room : transitionsBytes ≤ length transitions
-  pub initial-room : initialBytes ≤ length initial
-  pub states-zero : Filled states []
-  pub transitions-zero : Filled transitions []
-  pub initial-zero : Filled initial []
+-- a table with count records of 4 bytes, and zeros after them
+pub record Written (before bytes table : List ℕ) (count : ℕ) : Type 0 where
+  pub total : count * 4 ≡ length bytes
+  pub table-is : table ≡ filled before bytes
 
--- the three tables with the records of the pairs codes, of which the first n are initial, and count transitions
-pub record Written (ends targets marks : List ℕ) (r : ℕ) (terms codes : List ℕ) (n : ℕ) (before : List ℕ) (count : ℕ) (states transitions initial : List ℕ) : Type 0 where
-  pub states-filled : Filled states (records (pairBytes ends r) codes)
-  pub transitions-added : Adds before 0 (records (rowN ends targets marks r terms codes) codes) transitions count
-  pub initial-filled : Filled initial (records twoBytes (numbers n))
+-- the three tables are large enough
+pub record Room (states transitions initial : List ℕ) : Type 0 where
+  pub for-states : statesBytes ≤ length states
+  pub for-transitions : transitionsBytes ≤ length transitions
+  pub for-initial : initialBytes ≤ length initial

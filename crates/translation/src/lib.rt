@@ -1,43 +1,41 @@
 // The second walk, which makes the automaton of a rule, and the call translate: the automaton as records in three
 // tables that the caller lends.
-use answer::Checked;
-use answer::TABLE_TOO_SHORT;
 use answer::put_number;
 use answer::zero;
-use automaton::INITIAL_BYTES;
 use automaton::MAX_STATES;
-use automaton::STATES_BYTES;
-use automaton::TRANSITIONS_BYTES;
 use generalized::GeneralizedState;
-use generalized::Met;
-use generalized::Walked;
 ghost use mathlib.Core.Path.{_≡_};
-ghost use mathlib.Core.List.{[], map};
+ghost use mathlib.Core.List.{[], _∷_, _++_, map};
 ghost use Prim.Native.Nat.{ℕ, _+_, _-_, _*_, _/_, _%_, _<_, _≤_};
-ghost use lib.ListN.{length, getD, take, set};
+ghost use lib.ListN.{length, getD, take};
 ghost use lib.Seq.{sets};
 ghost use lib.Dec.{eqb};
-ghost use Rattle.answer.specs.Result.{fine};
-ghost use Rattle.formula.specs.Rule;
-ghost use Rattle.formula.specs.Formula.{formula};
-ghost use Rattle.term.specs.Term.{cover};
+ghost use Rattle.answer.specs.Result.{fine, refused, andThen};
+ghost use Rattle.answer.specs.Bytes.{twoBytes, filled};
+ghost use Rattle.formula.specs.Limits.{maxUntils};
+ghost use Rattle.term.specs.Limits.{maxTerms};
 ghost use Rattle.term.specs.Size.{checked};
-ghost use Rattle.generalized.specs.declared.Walked.the-variants.{Counts};
-ghost use Rattle.generalized.specs.Explore.{find};
-ghost use Rattle.generalized.specs.Memory.{Walks};
-ghost use Rattle.translation.specs.Degeneralized.{numbers, translation};
-ghost use Rattle.automaton.specs.Limits.{maxStates, maxOfState, transitionsBytes};
-ghost use Rattle.automaton.specs.Records.{records};
-ghost use Rattle.answer.specs.Bytes.{twoBytes};
-ghost use Rattle.translation.specs.Memory.{secondWalk, rowStart, climbN, nextLevelN, targetN, targetsN, meetAllN, exploreN, pairBytes, rowN, stateBytes, transitionBytes, Listed, Rows, Targets, Pairs, Filled, Adds, Blank, Written};
-ghost use Rattle.translation.specs.Translate.{answer, stored, translated};
+ghost use Rattle.generalized.specs.Limits.{maxGeneralizedTransitions, maxGeneralizedStates};
+ghost use Rattle.generalized.specs.Explore.{meet};
+ghost use Rattle.generalized.specs.Generalized.{generalized};
+ghost use Rattle.automaton.specs.Limits.{maxStates, maxOfState, transitionsBytes, initialBytes};
+ghost use Rattle.automaton.specs.Records.{records, stateBytes, transitionBytes};
 ghost use Rattle.automaton.specs.Tables.{outcome};
+ghost use Rattle.translation.specs.Degeneralized.{numbers};
+ghost use Rattle.translation.specs.Memory.{secondWalk, keptTarget, keptUntils, keptMust, keptMustNot, Walks, rowStart, levelPlaces, codeOf, codePlaces, climbN, nextLevelN, targetN, targetsN, meetAllN, numberN, exploreN, pairBytes, rowN, Listed, Rows, Numbered, Closed, Pairs, Adds, Written, Room};
+ghost use Rattle.translation.specs.Translate.{answer, stored};
 
 // The number of document 01 by which the second walk is refused.
 pub const TOO_MANY_PAIRS: u8 = 24;
 
-// A mark for each of 8 untils and 1,024 transitions of the first walk.
-const MARKS: usize = 8192;
+// A packed term is below it: 2 to the 48.
+const TERM_RANGE: u64 = 281474976710656;
+
+// A state has this many places for its levels, 0 to 8.
+const LEVEL_PLACES: usize = 16;
+
+// A place for each state of the first walk at each level.
+const CODE_PLACES: usize = generalized::MAX_STATES * LEVEL_PLACES;
 
 // A state's number in the automaton; the first walk's states have numbers of another type.
 pub struct State(pub usize);
@@ -54,14 +52,42 @@ enum Paired {
     Full(State),
 }
 
-// The level that transition i leads to: from a level on, one more for each until that it is marked for.
-fn climb(marks: &[u8], i: usize, r: usize, from: usize) -> usize
-    requires { ⌜ (length (now marks) ≡ 8192) × (i < 1024) × (r ≤ 8) ⌝ }
-    ensures { λ l. ⌜ l ≡ climbN (now (marks .entry)) i (r - from) from ⌝ }
+// The state to which a transition of the first walk leads.
+fn target_state(transition: u64) -> GeneralizedState
+    ensures { λ s. ⌜ s .0 ≡ keptTarget transition ⌝ }
+{
+    GeneralizedState((transition / TERM_RANGE / 256) as usize)
+}
+
+// The untils that it fulfils, a bit each.
+fn untils_of(transition: u64) -> u64
+    ensures { λ u. ⌜ u ≡ keptUntils transition ⌝ }
+{
+    transition / TERM_RANGE % 256
+}
+
+// The propositions that its letters have.
+fn must_of(transition: u64) -> u8
+    ensures { λ m. ⌜ m ≡ keptMust transition ⌝ }
+{
+    (transition / 256 % 256) as u8
+}
+
+// And those that they do not have.
+fn must_not_of(transition: u64) -> u8
+    ensures { λ m. ⌜ m ≡ keptMustNot transition ⌝ }
+{
+    (transition % 256) as u8
+}
+
+// The level reached from one on: one more for each until in the set, up to the first that is not.
+fn climb(untils: u64, r: usize, from: usize) -> usize
+    requires { ⌜ r ≤ maxUntils ⌝ }
+    ensures { λ l. ⌜ l ≡ climbN untils (r - from) from ⌝ }
 {
     let mut j = from;
     while j < r {
-        if marks[j * generalized::MAX_TRANSITIONS + i] != 1 {
+        if !generalized::has(untils, j) {
             return j;
         }
         j += 1;
@@ -69,35 +95,35 @@ fn climb(marks: &[u8], i: usize, r: usize, from: usize) -> usize
     j
 }
 
-// The level after a transition; from level r it is counted from 0.
-fn next_level(marks: &[u8], i: usize, r: usize, level: usize) -> usize
-    requires { ⌜ (length (now marks) ≡ 8192) × (i < 1024) × (r ≤ 8) ⌝ }
-    ensures { λ l. ⌜ l ≡ nextLevelN (now (marks .entry)) r i level ⌝ }
+// The level after a transition that fulfils these untils; from level r it is counted from 0.
+fn next_level(untils: u64, r: usize, level: usize) -> usize
+    requires { ⌜ r ≤ maxUntils ⌝ }
+    ensures { λ l. ⌜ l ≡ nextLevelN untils r level ⌝ }
 {
     if level < r {
-        return climb(marks, i, r, level);
+        return climb(untils, r, level);
     }
-    climb(marks, i, r, 0)
+    climb(untils, r, 0)
 }
 
 // A pair as one number.
-fn code_of(state: GeneralizedState, level: usize) -> u64
-    requires { ⌜ (state .0 < 128) × (level < 16) ⌝ }
-    ensures { λ c. ⌜ c ≡ state .0 * 16 + level ⌝ }
+fn code_of(state: GeneralizedState, level: usize) -> usize
+    requires { ⌜ (state .0 < maxGeneralizedStates) × (level < levelPlaces) ⌝ }
+    ensures { λ c. ⌜ c ≡ codeOf (state .0) level ⌝ }
 {
-    (state.0 * 16 + level) as u64
+    state.0 * LEVEL_PLACES + level
 }
 
-fn state_of(code: u64) -> GeneralizedState
-    ensures { λ s. ⌜ s .0 ≡ code / 16 ⌝ }
+fn state_of(code: usize) -> GeneralizedState
+    ensures { λ s. ⌜ s .0 ≡ code / levelPlaces ⌝ }
 {
-    GeneralizedState((code / 16) as usize)
+    GeneralizedState(code / LEVEL_PLACES)
 }
 
-fn level_of(code: u64) -> usize
-    ensures { λ l. ⌜ l ≡ code % 16 ⌝ }
+fn level_of(code: usize) -> usize
+    ensures { λ l. ⌜ l ≡ code % levelPlaces ⌝ }
 {
-    (code % 16) as usize
+    code % LEVEL_PLACES
 }
 
 // Where the transitions of a state begin.
@@ -121,74 +147,65 @@ fn row_end(ends: &[usize], state: GeneralizedState) -> usize
     ends[s]
 }
 
-// The first walk's transition i leads to the state. The table holds plain numbers; they go in and come out by their type.
-fn put_target(targets: &mut [usize], i: usize, state: GeneralizedState)
-    requires { ⌜ i < length (now targets) ⌝ }
-    ensures { λ _. ⌜ now (targets .exit) ≡ set (now (targets .entry)) i (state .0) ⌝ }
+// The code of the pair to which a transition leads from a level.
+fn target(transition: u64, r: usize, level: usize) -> usize
+    requires { ⌜ (keptTarget transition < maxGeneralizedStates) × (r ≤ maxUntils) ⌝ }
+    ensures { λ c. ⌜ c ≡ targetN r level transition ⌝ }
 {
-    targets[i] = state.0;
+    code_of(
+        target_state(transition),
+        next_level(untils_of(transition), r, level),
+    )
 }
 
-// The state to which it leads.
-fn target_state(targets: &[usize], i: usize) -> GeneralizedState
-    requires { ⌜ i < length (now targets) ⌝ }
-    ensures { λ s. ⌜ s .0 ≡ getD (now (targets .entry)) i 0 ⌝ }
+// A pair that is not met yet takes number n.
+fn add_pair(pairs: &mut [usize], index: &mut [u8], n: usize, code: usize)
+    requires { ⌜ Numbered (now pairs) (now index) n × (n < maxStates) × (code < codePlaces) × (getD (now index) code 0 ≡ 0) ⌝ }
+    ensures { λ _. ⌜ Numbered (now (pairs .exit)) (now (index .exit)) (n + 1) × (take (n + 1) (now (pairs .exit)) ≡ take n (now (pairs .entry)) ++ (code ∷ [])) ⌝ }
 {
-    GeneralizedState(targets[i])
-}
-
-// The number of a pair among the pairs.
-fn pair_number(pairs: &[u64], code: u64) -> State
-    ensures { λ s. ⌜ s .0 ≡ find eqb code (now (pairs .entry)) ⌝ }
-{
-    State(generalized::find(pairs, pairs.len(), code))
-}
-
-// The code of the pair to which transition i leads from a level.
-fn target(targets: &[usize], marks: &[u8], i: usize, r: usize, level: usize) -> u64
-    requires { ⌜ (i < length (now targets)) × (getD (now targets) i 0 < 128) × (length (now marks) ≡ 8192) × (i < 1024) × (r ≤ 8) ⌝ }
-    ensures { λ c. ⌜ c ≡ targetN (now (targets .entry)) (now (marks .entry)) r level i ⌝ }
-{
-    code_of(target_state(targets, i), next_level(marks, i, r, level))
-}
-
-// The state to which each of the m transitions leads: the number of its obligations among those of the n states.
-fn number_targets(states: &[u64], n: usize, terms: &[u64], m: usize, targets: &mut [usize])
-    requires { ⌜ (n ≤ length (now states)) × (m ≤ length (now terms)) × (m ≤ length (now targets)) ⌝ }
-    ensures { λ _. ⌜ Targets (take n (now (states .entry))) (now (terms .entry)) m (now (targets .exit)) ⌝ }
-{
-    let mut i = 0;
-    while i < m {
-        let state = generalized::state_number(states, n, terms[i] / 65536);
-        put_target(targets, i, state);
-        i += 1;
-    }
+    pairs[n] = code;
+    index[code] = (n + 1) as u8;
 }
 
 // The initial pairs: the first n states at level 0.
-fn start_pairs(pairs: &mut [u64], n: usize)
-    requires { ⌜ (n ≤ 64) × (n ≤ length (now pairs)) ⌝ }
-    ensures { λ _. ⌜ take n (now (pairs .exit)) ≡ map (λ i. i * 16) (numbers n) ⌝ }
+fn start_pairs(pairs: &mut [usize], index: &mut [u8], n: usize)
+    requires { ⌜ Numbered (now pairs) (now index) 0 × (n ≤ maxTerms) ⌝ }
+    ensures { λ _. ⌜ Numbered (now (pairs .exit)) (now (index .exit)) n × (take n (now (pairs .exit)) ≡ map (λ i. codeOf i 0) (numbers n)) ⌝ }
 {
     let mut i = 0;
     while i < n {
-        pairs[i] = code_of(GeneralizedState(i), 0);
+        add_pair(pairs, index, i, code_of(GeneralizedState(i), 0));
         i += 1;
     }
+}
+
+// A pair met from another one, when n are numbered: an unseen one takes the next number, if there is one.
+fn meet(pairs: &mut [usize], index: &mut [u8], n: usize, code: usize, from: State) -> Paired
+    requires { ⌜ Numbered (now pairs) (now index) n × (code < codePlaces) ⌝ }
+    ensures { λ met. ⌜ Pairs (meet eqb maxStates 24 (from .0) code (take n (now (pairs .entry)))) met (now (pairs .exit)) (now (index .exit)) ⌝ }
+{
+    if index[code] != 0 {
+        return Paired::Count(n);
+    }
+    if MAX_STATES <= n {
+        return Paired::Full(from);
+    }
+    add_pair(pairs, index, n, code);
+    Paired::Count(n + 1)
 }
 
 // The targets of a pair, met one after another; n pairs are numbered.
 fn meet_row(
     ends: &[usize],
-    targets: &[usize],
-    marks: &[u8],
+    transitions: &[u64],
     r: usize,
-    pairs: &mut [u64],
+    pairs: &mut [usize],
+    index: &mut [u8],
     n: usize,
     pair: State,
 ) -> Paired
-    requires { ⌜ Rows (now ends) (now targets) (now marks) r (take n (now pairs)) × (length (now pairs) ≡ maxStates) × (n ≤ maxStates) × (pair .0 < n) ⌝ }
-    ensures { λ met. ⌜ ((count : ℕ) → Pairs (meetAllN (pair .0) count (targetsN (now (ends .entry)) (now (targets .entry)) (now (marks .entry)) r (getD (now (pairs .entry)) (pair .0) 0)) (take n (now (pairs .entry)))) met (now (pairs .exit))) ⌝ }
+    requires { ⌜ Rows (now ends) (now transitions) r (take n (now pairs)) × Numbered (now pairs) (now index) n × (pair .0 < n) ⌝ }
+    ensures { λ met. ⌜ ((count : ℕ) → Pairs (meetAllN (pair .0) count (targetsN (now (ends .entry)) (now (transitions .entry)) r (getD (now (pairs .entry)) (pair .0) 0)) (take n (now (pairs .entry)))) met (now (pairs .exit)) (now (index .exit))) ⌝ }
 {
     let place = pair.0;
     let code = pairs[place];
@@ -197,9 +214,9 @@ fn meet_row(
     let mut k = n;
     let mut i = row_start(ends, state_of(code));
     while i < end {
-        let met = generalized::meet(pairs, k, target(targets, marks, i, r, level));
-        let Met::Count(more) = met else {
-            return Paired::Full(pair);
+        let met = meet(pairs, index, k, target(transitions[i], r, level), pair);
+        let Paired::Count(more) = met else {
+            return met;
         };
         k = more;
         i += 1;
@@ -210,19 +227,19 @@ fn meet_row(
 // The second walk: all pairs that can be reached from the first n.
 fn explore_pairs(
     ends: &[usize],
-    targets: &[usize],
-    marks: &[u8],
+    transitions: &[u64],
     r: usize,
-    pairs: &mut [u64],
+    pairs: &mut [usize],
+    index: &mut [u8],
     n: usize,
 ) -> Paired
-    requires { ⌜ Rows (now ends) (now targets) (now marks) r (take n (now pairs)) × (length (now pairs) ≡ maxStates) × (n ≤ maxStates) ⌝ }
-    ensures { λ met. ⌜ Pairs (exploreN (now (ends .entry)) (now (targets .entry)) (now (marks .entry)) r maxStates 0 0 (take n (now (pairs .entry)))) met (now (pairs .exit)) ⌝ }
+    requires { ⌜ Rows (now ends) (now transitions) r (take n (now pairs)) × Numbered (now pairs) (now index) n ⌝ }
+    ensures { λ met. ⌜ Pairs (exploreN (now (ends .entry)) (now (transitions .entry)) r maxStates 0 0 (take n (now (pairs .entry)))) met (now (pairs .exit)) (now (index .exit)) ⌝ }
 {
     let mut k = n;
     let mut pair = State(0);
     while pair.0 < k {
-        let met = meet_row(ends, targets, marks, r, pairs, k, pair);
+        let met = meet_row(ends, transitions, r, pairs, index, k, pair);
         let Paired::Count(more) = met else {
             return met;
         };
@@ -230,6 +247,14 @@ fn explore_pairs(
         pair = State(pair.0 + 1);
     }
     Paired::Count(k)
+}
+
+// Zeros behind the first n bytes.
+fn zero_behind(table: &mut [u8], n: usize)
+    requires { ⌜ n ≤ length (now table) ⌝ }
+    ensures { λ _. ⌜ now (table .exit) ≡ filled (now (table .entry)) (take n (now (table .entry))) ⌝ }
+{
+    zero(&mut table[n..]);
 }
 
 // The record of the state at place: how many transitions it has, and whether it accepts.
@@ -243,14 +268,14 @@ fn put_state(table: &mut [u8], place: State, count: usize, accepting: bool)
     table[at + 3] = 0;
 }
 
-// The record of transition number k: its term without the obligations, and its target.
-fn put_transition(table: &mut [u8], k: usize, term: u64, target: State)
+// The record of transition number k, a transition of the first walk with its target among the pairs.
+fn put_transition(table: &mut [u8], k: usize, transition: u64, target: State)
     requires { ⌜ (k * 4 + 4 ≤ length (now table)) × (target .0 < 65536) ⌝ }
-    ensures { λ _. ⌜ now (table .exit) ≡ sets (now (table .entry)) (k * 4) (transitionBytes term (target .0)) ⌝ }
+    ensures { λ _. ⌜ now (table .exit) ≡ sets (now (table .entry)) (k * 4) (transitionBytes (keptMust transition) (keptMustNot transition) (target .0)) ⌝ }
 {
     let at = k * 4;
-    table[at] = (term / 256 % 256) as u8;
-    table[at + 1] = (term % 256) as u8;
+    table[at] = must_of(transition);
+    table[at + 1] = must_not_of(transition);
     put_number(table, at + 2, target.0);
 }
 
@@ -262,10 +287,24 @@ fn put_initial(table: &mut [u8], i: usize, state: State)
     put_number(table, i * 2, state.0);
 }
 
+// The number of a pair that has one.
+fn pair_number(index: &[u8], code: usize) -> State
+    requires { ⌜ (code < length (now index)) × (0 < getD (now index) code 0) ⌝ }
+    ensures { λ s. ⌜ s .0 ≡ numberN (now (index .entry)) code ⌝ }
+{
+    State(wide(index[code]) - 1)
+}
+
+fn wide(x: u8) -> usize
+    ensures { λ r. ⌜ r ≡ x ⌝ }
+{
+    x as usize
+}
+
 // The records of all pairs, as states of the automaton.
-fn write_states(table: &mut [u8], ends: &[usize], r: usize, pairs: &[u64])
-    requires { ⌜ Filled (now table) [] × Listed (now ends) (now pairs) × (length (now pairs) * 4 ≤ length (now table)) ⌝ }
-    ensures { λ _. ⌜ Filled (now (table .exit)) (records (pairBytes (now (ends .entry)) r) (now (pairs .entry))) ⌝ }
+fn write_states(table: &mut [u8], ends: &[usize], r: usize, pairs: &[usize])
+    requires { ⌜ Listed (now ends) (now pairs) × (length (now pairs) * 4 ≤ length (now table)) ⌝ }
+    ensures { λ _. ⌜ now (table .exit) ≡ filled (now (table .entry)) (records (pairBytes (now (ends .entry)) r) (now (pairs .entry))) ⌝ }
 {
     let mut pair = State(0);
     while pair.0 < pairs.len() {
@@ -276,32 +315,29 @@ fn write_states(table: &mut [u8], ends: &[usize], r: usize, pairs: &[u64])
         put_state(table, pair, end - start, level_of(code) == r);
         pair = State(pair.0 + 1);
     }
+    zero_behind(table, pairs.len() * 4);
 }
 
 // The records of the transitions of a pair, of which the first has number k; the number after the last.
 fn write_row(
     table: &mut [u8],
     k: usize,
-    terms: &[u64],
     ends: &[usize],
-    targets: &[usize],
-    marks: &[u8],
+    transitions: &[u64],
     r: usize,
-    pairs: &[u64],
-    pair: State,
+    index: &[u8],
+    code: usize,
 ) -> usize
-    requires { ⌜ Rows (now ends) (now targets) (now marks) r (now pairs) × (pair .0 < length (now pairs)) × (length (now pairs) ≤ maxStates) × (length (now terms) ≡ 1024) × (k * 4 + 4 * maxOfState ≤ length (now table)) ⌝ }
-    ensures { λ after. ⌜ Adds (now (table .entry)) k (rowN (now (ends .entry)) (now (targets .entry)) (now (marks .entry)) r (now (terms .entry)) (now (pairs .entry)) (getD (now (pairs .entry)) (pair .0) 0)) (now (table .exit)) after ⌝ }
+    requires { ⌜ Rows (now ends) (now transitions) r (code ∷ []) × Closed (now ends) (now transitions) r (now index) (code ∷ []) × (length (now index) ≡ codePlaces) × (k * 4 + 4 * maxOfState ≤ length (now table)) ⌝ }
+    ensures { λ after. ⌜ Adds (now (table .entry)) k (rowN (now (ends .entry)) (now (transitions .entry)) r (now (index .entry)) code) (now (table .exit)) after ⌝ }
 {
-    let place = pair.0;
-    let code = pairs[place];
     let level = level_of(code);
     let end = row_end(ends, state_of(code));
     let mut next = k;
     let mut i = row_start(ends, state_of(code));
     while i < end {
-        let number = pair_number(pairs, target(targets, marks, i, r, level));
-        put_transition(table, next, terms[i], number);
+        let number = pair_number(index, target(transitions[i], r, level));
+        put_transition(table, next, transitions[i], number);
         next += 1;
         i += 1;
     }
@@ -311,164 +347,81 @@ fn write_row(
 // The records of the transitions of all pairs; how many.
 fn write_transitions(
     table: &mut [u8],
-    terms: &[u64],
     ends: &[usize],
-    targets: &[usize],
-    marks: &[u8],
+    transitions: &[u64],
     r: usize,
-    pairs: &[u64],
+    index: &[u8],
+    pairs: &[usize],
 ) -> usize
-    requires { ⌜ Rows (now ends) (now targets) (now marks) r (now pairs) × (length (now pairs) ≤ maxStates) × (length (now terms) ≡ 1024) × (transitionsBytes ≤ length (now table)) ⌝ }
-    ensures { λ count. ⌜ Adds (now (table .entry)) 0 (records (rowN (now (ends .entry)) (now (targets .entry)) (now (marks .entry)) r (now (terms .entry)) (now (pairs .entry))) (now (pairs .entry))) (now (table .exit)) count ⌝ }
+    requires { ⌜ Rows (now ends) (now transitions) r (now pairs) × Closed (now ends) (now transitions) r (now index) (now pairs) × (length (now index) ≡ codePlaces) × (length (now pairs) ≤ maxStates) × (transitionsBytes ≤ length (now table)) ⌝ }
+    ensures { λ count. ⌜ Written (now (table .entry)) (records (rowN (now (ends .entry)) (now (transitions .entry)) r (now (index .entry))) (now (pairs .entry))) (now (table .exit)) count ⌝ }
 {
     let mut k = 0;
-    let mut pair = State(0);
-    while pair.0 < pairs.len() {
-        k = write_row(table, k, terms, ends, targets, marks, r, pairs, pair);
-        pair = State(pair.0 + 1);
+    let mut p = 0;
+    while p < pairs.len() {
+        k = write_row(table, k, ends, transitions, r, index, pairs[p]);
+        p += 1;
     }
+    zero_behind(table, k * 4);
     k
 }
 
 // The numbers of the n initial states.
 fn write_initial(table: &mut [u8], n: usize)
-    requires { ⌜ Filled (now table) [] × (n ≤ 64) × (n * 2 ≤ length (now table)) ⌝ }
-    ensures { λ _. ⌜ Filled (now (table .exit)) (records twoBytes (numbers n)) ⌝ }
+    requires { ⌜ (n ≤ maxTerms) × (initialBytes ≤ length (now table)) ⌝ }
+    ensures { λ _. ⌜ now (table .exit) ≡ filled (now (table .entry)) (records twoBytes (numbers n)) ⌝ }
 {
     let mut i = 0;
     while i < n {
         put_initial(table, i, State(i));
         i += 1;
     }
+    zero_behind(table, n * 2);
 }
 
-// The records of the automaton whose states are the pairs, of which the first n are initial; how many transitions.
-fn write_tables(
-    terms: &[u64],
-    ends: &[usize],
-    targets: &[usize],
-    marks: &[u8],
-    r: usize,
-    pairs: &[u64],
-    n: usize,
-    states: &mut [u8],
-    transitions: &mut [u8],
-    initial: &mut [u8],
-) -> usize
-    requires { ⌜ Rows (now ends) (now targets) (now marks) r (now pairs) × (length (now terms) ≡ 1024) × (length (now pairs) ≤ maxStates) × (n ≤ 64) × Blank (now states) (now transitions) (now initial) ⌝ }
-    ensures { λ count. ⌜ Written (now (ends .entry)) (now (targets .entry)) (now (marks .entry)) r (now (terms .entry)) (now (pairs .entry)) n (now (transitions .entry)) count (now (states .exit)) (now (transitions .exit)) (now (initial .exit)) ⌝ }
-{
-    write_states(states, ends, r, pairs);
-    let count = write_transitions(transitions, terms, ends, targets, marks, r, pairs);
-    write_initial(initial, n);
-    count
-}
-
-// How many initial states there are: the root's cover sets.
-fn initial_count(rule: &[u8]) -> usize
-    requires { ⌜ checked (now rule) ≡ fine ⌝ }
-    ensures { λ n. ⌜ n ≡ length (cover (formula (now (rule .entry)))) ⌝ }
-{
-    let sets = term::cover_of(rule, rule.len() / 3 - 1);
-    sets.count
-}
-
-// The second walk, when the first has n states and m transitions, and the automaton in three tables that are all zero.
-fn degeneralize(
-    rule: &[u8],
-    sets: &[u64],
-    n: usize,
-    terms: &[u64],
-    m: usize,
-    ends: &[usize],
+// A refusal by 20 to 24, which leaves all tables zero.
+fn refuse(
+    number: u8,
+    place: usize,
     states: &mut [u8],
     transitions: &mut [u8],
     initial: &mut [u8],
 ) -> Translated
-    requires { ⌜ (checked (now rule) ≡ fine) × Walks (now rule) (Counts n m) (now sets) (now terms) (now ends) × (length (now sets) ≡ 128) × (length (now terms) ≡ 1024) × (length (now ends) ≡ 128) × Blank (now states) (now transitions) (now initial) ⌝ }
-    ensures { λ r. ⌜ outcome (answer r) (now (states .exit)) (now (transitions .exit)) (now (initial .exit)) ≡ stored (secondWalk (now (rule .entry)) (take n (now (sets .entry)))) (now (states .entry)) (now (transitions .entry)) (now (initial .entry)) ⌝ }
+    ensures { λ r. ⌜ outcome (answer r) (now (states .exit)) (now (transitions .exit)) (now (initial .exit)) ≡ stored (refused number place) (now (states .entry)) (now (transitions .entry)) (now (initial .entry)) ⌝ }
 {
-    let mut marks = [0u8; MARKS];
-    let r = acceptance::mark(rule, terms, m, &mut marks);
-    let mut targets = [0usize; generalized::MAX_TRANSITIONS];
-    number_targets(sets, n, terms, m, &mut targets);
-    let mut pairs = [0u64; MAX_STATES];
-    let first = initial_count(rule);
-    start_pairs(&mut pairs, first);
-    let walked = explore_pairs(ends, &targets, &marks, r, &mut pairs, first);
-    match walked {
-        Paired::Full(pair) => Translated::Refused(TOO_MANY_PAIRS, pair.0),
-        Paired::Count(count) => {
-            let written = write_tables(
-                terms,
-                ends,
-                &targets,
-                &marks,
-                r,
-                &pairs[..count],
-                first,
-                states,
-                transitions,
-                initial,
-            );
-            Translated::Accepted(count, written, first)
-        }
-    }
-}
-
-// The two walks of a rule that 1 to 7 let pass, and the automaton in three tables that are all zero.
-fn build(rule: &[u8], states: &mut [u8], transitions: &mut [u8], initial: &mut [u8]) -> Translated
-    requires { ⌜ (Rule.checked (now rule) ≡ fine) × Blank (now states) (now transitions) (now initial) ⌝ }
-    ensures { λ r. ⌜ outcome (answer r) (now (states .exit)) (now (transitions .exit)) (now (initial .exit)) ≡ stored (translation (now (rule .entry))) (now (states .entry)) (now (transitions .entry)) (now (initial .entry)) ⌝ }
-{
-    let sizes = term::check_sizes(rule, rule.len() / 3);
-    if let Checked::Refused(number, place) = sizes {
-        return Translated::Refused(number, place);
-    }
-    let mut sets = [0u64; generalized::MAX_STATES];
-    let mut terms = [0u64; generalized::MAX_TRANSITIONS];
-    let mut ends = [0usize; generalized::MAX_STATES];
-    let walked = generalized::walk(rule, &mut sets, &mut terms, &mut ends);
-    match walked {
-        Walked::Refused(number, place) => Translated::Refused(number, place),
-        Walked::Counts(n, m) => degeneralize(
-            rule,
-            &sets,
-            n,
-            &terms,
-            m,
-            &ends,
-            states,
-            transitions,
-            initial,
-        ),
-    }
-}
-
-// The automaton of a rule in three tables.
-pub fn translate(
-    rule: &[u8],
-    states: &mut [u8],
-    transitions: &mut [u8],
-    initial: &mut [u8],
-) -> Translated
-    ensures { λ r. ⌜ outcome (answer r) (now (states .exit)) (now (transitions .exit)) (now (initial .exit)) ≡ translated (now (rule .entry)) (now (states .entry)) (now (transitions .entry)) (now (initial .entry)) ⌝ }
-{
-    if states.len() < STATES_BYTES {
-        return Translated::Refused(TABLE_TOO_SHORT, 0);
-    }
-    if transitions.len() < TRANSITIONS_BYTES {
-        return Translated::Refused(TABLE_TOO_SHORT, 0);
-    }
-    if initial.len() < INITIAL_BYTES {
-        return Translated::Refused(TABLE_TOO_SHORT, 0);
-    }
-    let bytes = formula::check(rule);
-    if let Checked::Refused(number, place) = bytes {
-        return Translated::Refused(number, place);
-    }
     zero(states);
     zero(transitions);
     zero(initial);
-    build(rule, states, transitions, initial)
+    Translated::Refused(number, place)
+}
+
+// The second walk over the first walk's transitions, of which each state's end where ends says, and the automaton in
+// the three tables; the first walk has `first` initial states.
+fn degeneralize(
+    rule: &[u8],
+    first: usize,
+    kept: &[u64],
+    ends: &[usize],
+    states: &mut [u8],
+    transitions: &mut [u8],
+    initial: &mut [u8],
+) -> Translated
+    requires { ⌜ (checked (now rule) ≡ fine) × Walks (now rule) first (now kept) (now ends) × (length (now kept) ≡ maxGeneralizedTransitions) × (length (now ends) ≡ maxGeneralizedStates) × Room (now states) (now transitions) (now initial) ⌝ }
+    ensures { λ r. ⌜ outcome (answer r) (now (states .exit)) (now (transitions .exit)) (now (initial .exit)) ≡ stored (andThen (generalized (now (rule .entry))) (secondWalk (now (rule .entry)))) (now (states .entry)) (now (transitions .entry)) (now (initial .entry)) ⌝ }
+{
+    let mut nodes = [0usize; formula::MAX_UNTILS];
+    let r = acceptance::untils_of(rule, &mut nodes);
+    let mut pairs = [0usize; MAX_STATES];
+    let mut index = [0u8; CODE_PLACES];
+    start_pairs(&mut pairs, &mut index, first);
+    let walked = explore_pairs(ends, kept, r, &mut pairs, &mut index, first);
+    match walked {
+        Paired::Full(pair) => refuse(TOO_MANY_PAIRS, pair.0, states, transitions, initial),
+        Paired::Count(count) => {
+            write_states(states, ends, r, &pairs[..count]);
+            let written = write_transitions(transitions, ends, kept, r, &index, &pairs[..count]);
+            write_initial(initial, first);
+            Translated::Accepted(count, written, first)
+        }
+    }
 }

@@ -6,22 +6,23 @@ use Prim.Native.Nat.{_-_}
 use mathlib.Core.Path.{sym, _∙_}
 use lib.ListN.{take}
 use Rattle.translation.specs.Memory.{targetsN, meetAllN}
-use Rattle.translation.proofs.Within.{state-inside, among, same-code}
-use Rattle.translation.proofs.Meeting.{Meeting, meeting-begins, meeting-ends, meeting-full, meeting-steps}
+use Rattle.translation.proofs.Levels.{target-inside}
+use Rattle.translation.proofs.Within.{state-inside}
+use Rattle.translation.proofs.Meeting.{among, Meeting, meeting-begins, meeting-ends, meeting-full, meeting-steps}
 use Rattle.translation.proofs.meet_row.Statement.{statement}
 use Rattle.translation.proofs.meet_row.Tie as tie
 
 abbrev Inv-loop : tie.InvT-loop
-Inv-loop ends targets marks r pairs₀ n pair place code level end k₀ i₀ pairs k i = Meeting targets marks r level i₀ end (pair .0) (λ count. meetAllN (pair .0) count (targetsN ends targets marks r code) (take n pairs₀)) pairs k i
+Inv-loop ends transitions r pairs₀ index₀ n pair place code level end k₀ i₀ pairs index k i = Meeting transitions r level i₀ end (pair .0) (λ count. meetAllN (pair .0) count (targetsN ends transitions r code) (take n pairs₀)) pairs index k i
 
 abbrev μ-loop : tie.MeasureT-loop
-μ-loop ends targets marks r pairs₀ n pair place code level end k₀ i₀ pairs k i = end - i
+μ-loop ends transitions r pairs₀ index₀ n pair place code level end k₀ i₀ pairs index k i = end - i
 
 mul-code : tie.Need-mul-code Inv-loop μ-loop
-mul-code c = search needs
+mul-code c = omega (arith, c .before .before .before .before .pre .1 .room, c .before .before .before .before .pre .1 .few)
 
 slice-read-code : tie.Need-slice-read-code Inv-loop μ-loop
-slice-read-code c = search needs
+slice-read-code c = omega (arith, c .before .before .before .before .before .pre .1 .room, c .before .before .before .before .before .pre .1 .few)
 
 level-of-requires : tie.Need-level-of-requires Inv-loop μ-loop
 level-of-requires c κs = search needs
@@ -30,32 +31,28 @@ state-of-requires : tie.Need-state-of-requires Inv-loop μ-loop
 state-of-requires c κs = search needs
 
 row-end-requires : tie.Need-row-end-requires Inv-loop μ-loop
-row-end-requires c κs =
-    let s = c .before .before .before .before .before .before .before in
-    state-inside _ _ _ _ (s .pre .0 .listed) (among _ _ _ (omega arith) (s .pre .3)) (same-code _ _ _ (omega arith) (s .pre .3)) _ (c .state-of .ensures)
+row-end-requires c κs = state-inside _ _ _ (c .before .before .before .before .before .before .before .pre .0 .listed) (among _ _ _ _ (c .before .before .before .before .before .before .before .pre .1) (c .before .before .before .before .before .before .before .pre .2)) _ (c .state-of .ensures)
 
 state-of-requires-2 : tie.Need-state-of-requires-2 Inv-loop μ-loop
 state-of-requires-2 c κs = search needs
 
 row-start-requires : tie.Need-row-start-requires Inv-loop μ-loop
-row-start-requires c κs =
-    let s = c .before .before .before .before .before .before .before .before .before in
-    state-inside _ _ _ _ (s .pre .0 .listed) (among _ _ _ (omega arith) (s .pre .3)) (same-code _ _ _ (omega arith) (s .pre .3)) _ (c .state-of2 .ensures)
+row-start-requires c κs = state-inside _ _ _ (c .before .before .before .before .before .before .before .before .before .pre .0 .listed) (among _ _ _ _ (c .before .before .before .before .before .before .before .before .before .pre .1) (c .before .before .before .before .before .before .before .before .before .pre .2)) _ (c .state-of2 .ensures)
 
 loop-holds : tie.Need-loop-holds Inv-loop μ-loop
-loop-holds c =
-    let level = c .before .before .before .before in
-    let s = level .before .before .before .before .before .before in
-    meeting-begins _ _ _ _ _ _ _ _ _ _ _ _ (s .pre .0) (s .pre .1) (s .pre .2) (s .pre .3) (c .before .state-of2 .ensures) (c .before .before .before .state-of .ensures) (level .level-of .ensures) (c .row-start .ensures) (c .before .before .row-end .ensures)
+loop-holds c = meeting-begins _ _ _ _ _ _ _ _ _ _ _ _ (c .before .before .before .before .before .before .before .before .before .before .pre .0) (c .before .before .before .before .before .before .before .before .before .before .pre .1) (c .before .before .before .before .before .before .before .before .before .before .pre .2) (c .before .state-of2 .ensures) (c .before .before .before .state-of .ensures) (c .before .before .before .before .level-of .ensures) (c .row-start .ensures) (c .before .before .row-end .ensures)
+
+mul-target : tie.Need-mul-target Inv-loop μ-loop
+mul-target c = omega (arith, c .before .before .before .loop .inv .inside)
+
+shared-slice-read-target : tie.Need-shared-slice-read-target Inv-loop μ-loop
+shared-slice-read-target c = omega (arith, c .before .before .before .before .loop .inv .inside, c .before .before .before .before .before .before .before .before .before .before .before .before .before .before .before .pre .0 .size)
 
 target-requires : tie.Need-target-requires Inv-loop μ-loop
-target-requires c κs =
-    let at = c .before .before in
-    let s = at .before .before .before .before .before .before .before .before .before .before .before in
-    (omega (arith, at .loop .inv .inside, s .pre .0 .targets-size), at .loop .inv .leads _ (omega arith), s .pre .0 .marks-size, omega (arith, at .loop .inv .inside), s .pre .0 .levels)
+target-requires c κs = (c .before .before .before .before .loop .inv .leads _ (c .before .before .before .loop-test .taken), c .before .before .before .before .before .before .before .before .before .before .before .before .before .before .before .pre .0 .levels)
 
 meet-requires : tie.Need-meet-requires Inv-loop μ-loop
-meet-requires c κs = omega (arith, c .before .before .before .loop .inv .size, c .before .before .before .loop .inv .fits)
+meet-requires c κs = (c .before .before .before .before .before .loop .inv .numbered, rw (c .target .ensures) (target-inside (c .before .before .before .before .before .before .before .before .before .before .before .before .before .before .before .before .args .r) _ _ (c .before .before .before .before .before .before .before .before .before .before .before .before .before .before .before .before .pre .0 .levels) (c .before .before .before .before .before .loop .inv .leads _ (c .before .before .before .before .loop-test .taken))))
 
 enum-known-met : tie.Need-enum-known-met Inv-loop μ-loop
 enum-known-met c = search needs
@@ -64,16 +61,13 @@ enum-told : tie.Need-enum-told Inv-loop μ-loop
 enum-told c = search needs
 
 same-length : tie.Need-same-length Inv-loop μ-loop
-same-length c =
-    let at = c .before .before .before .before .before .before .before .before in
-    let s = at .before .before .before .before .before .before .before .before .before .before .before in
-    c .before .before .before .before .meet .kept .0 ∙ at .loop .inv .size ∙ sym (s .pre .1)
+same-length c = c .before .before .before .before .before .before .meet .kept .0 ∙ c .before .before .before .before .before .before .before .before .before .before .before .before .loop .inv .numbered .room ∙ sym (c .before .before .before .before .before .before .before .before .before .before .before .before .before .before .before .before .before .before .before .before .before .before .before .pre .1 .room)
+
+same-length-2 : tie.Need-same-length-2 Inv-loop μ-loop
+same-length-2 c = c .before .before .before .before .before .before .meet .kept .1 .0 ∙ c .before .before .before .before .before .before .before .before .before .before .before .before .loop .inv .numbered .size ∙ sym (c .before .before .before .before .before .before .before .before .before .before .before .before .before .before .before .before .before .before .before .before .before .before .before .pre .1 .size)
 
 returns : tie.Need-returns Inv-loop μ-loop
-returns c =
-    let met = c .before .before .before .before in
-    let at = met .before .before .before .before in
-    meeting-full _ _ _ _ _ _ _ _ _ _ (at .loop .i) (at .loop .inv) (omega arith) _ (met .before .target .ensures) (met .meet .result) (met .meet .last .0) (met .meet .ensures 24 _) (c .enum-told .given .1)
+returns c = meeting-full _ _ _ _ _ _ _ _ _ _ (c .before .before .before .before .before .before .before .before .before .before .before .before .loop .i) (c .before .before .before .before .before .before .before .before .before .before .before .before .loop .inv) (c .before .before .before .before .before .before .before .before .before .before .before .loop-test .taken) _ (c .before .before .before .before .before .before .before .target .ensures) (c .before .before .before .before .before .before .meet .result) (c .before .before .before .before .before .before .meet .last .0) (c .before .before .before .before .before .before .meet .last .1 .0) (c .before .before .before .before .before .before .meet .ensures) (c .enum-told .given .1)
 
 add-i : tie.Need-add-i Inv-loop μ-loop
 add-i c = search needs
@@ -82,13 +76,13 @@ loop-less : tie.Need-loop-less Inv-loop μ-loop
 loop-less c = search needs
 
 loop-again : tie.Need-loop-again Inv-loop μ-loop
-loop-again c =
-    let met = c .before .before .before .before .before in
-    let at = met .before .before .before .before in
-    meeting-steps _ _ _ _ _ _ _ _ _ _ (at .loop .i) (at .loop .inv) (omega arith) _ (met .before .target .ensures) (met .meet .result) (met .meet .last .0) (met .meet .ensures 24 _) (c .before .met .given .1) (met .meet .kept .0)
+loop-again c = meeting-steps _ _ _ _ _ _ _ _ _ _ (c .before .before .before .before .before .before .before .before .before .before .before .before .before .loop .i) (c .before .before .before .before .before .before .before .before .before .before .before .before .before .loop .inv) (c .before .before .before .before .before .before .before .before .before .before .before .before .loop-test .taken) _ (c .before .before .before .before .before .before .before .before .target .ensures) (c .before .before .before .before .before .before .before .meet .result) (c .before .before .before .before .before .before .before .meet .last .0) (c .before .before .before .before .before .before .before .meet .last .1 .0) (c .before .before .before .before .before .before .before .meet .ensures) (c .before .met .given .1)
 
-same-length-2 : tie.Need-same-length-2 Inv-loop μ-loop
-same-length-2 c = c .before .loop .inv .size ∙ sym (c .before .before .before .before .before .before .before .before .before .before .before .before .pre .1)
+same-length-3 : tie.Need-same-length-3 Inv-loop μ-loop
+same-length-3 c = c .before .loop .inv .numbered .room ∙ sym (c .before .before .before .before .before .before .before .before .before .before .before .before .pre .1 .room)
+
+same-length-4 : tie.Need-same-length-4 Inv-loop μ-loop
+same-length-4 c = c .before .loop .inv .numbered .size ∙ sym (c .before .before .before .before .before .before .before .before .before .before .before .before .pre .1 .size)
 
 returns-2 : tie.Need-returns-2 Inv-loop μ-loop
 returns-2 c = meeting-ends _ _ _ _ _ _ _ _ _ _ _ (c .before .loop .inv) (c .loop-test .left)
@@ -107,14 +101,18 @@ meet-row-spec =
     state-of-requires-2
     row-start-requires
     loop-holds
+    mul-target
+    shared-slice-read-target
     target-requires
     meet-requires
     enum-known-met
     enum-told
     same-length
+    same-length-2
     returns
     add-i
     loop-less
     loop-again
-    same-length-2
+    same-length-3
+    same-length-4
     returns-2)

@@ -32,7 +32,7 @@ same-length : tie.Need-same-length
 same-length c = search needs
 
 returns : tie.Need-returns
-returns c = state-stores _ _ _ _ _ _ (c .before .before .before .put-number .ensures) (c .flag .ensures)
+returns c = state-stores _ _ _ _ _ (c .before .before .before .before .before .before .before .args .accepting) (c .before .before .before .put-number .ensures) (c .flag .ensures)
 
 pub put-state-spec : {M : Type 1} → statement M
 put-state-spec =

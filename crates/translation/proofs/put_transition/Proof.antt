@@ -2,6 +2,7 @@
 -- Assumes nothing.
 use borrow.Author.Needs.{needs}
 use native.Mathlib.Omega.{arith}
+use Prim.Native.Nat.{_*_}
 use mathlib.Core.Path.{_∙_}
 use lib.ListN.{length-set}
 use Rattle.translation.proofs.Filling.{transition-stores}
@@ -11,14 +12,14 @@ use Rattle.translation.proofs.put_transition.Tie as tie
 mul-at : tie.Need-mul-at
 mul-at c = search needs
 
-cast-table : tie.Need-cast-table
-cast-table c = search needs
+must-of-requires : tie.Need-must-of-requires
+must-of-requires c κs = search needs
 
 slice-write-table : tie.Need-slice-write-table
 slice-write-table c = search needs
 
-cast-table-2 : tie.Need-cast-table-2
-cast-table-2 c = search needs
+must-not-of-requires : tie.Need-must-not-of-requires
+must-not-of-requires c κs = search needs
 
 add-table : tie.Need-add-table
 add-table c = search needs
@@ -36,16 +37,16 @@ same-length : tie.Need-same-length
 same-length c = c .before .before .put-number .kept .0 ∙ simp length-set
 
 returns : tie.Need-returns
-returns c = transition-stores _ _ _ _ _ (c .before .before .put-number .ensures)
+returns c = transition-stores (c .before .before .before .before .before .before .before .args .table .now) _ (c .before .before .before .before .before .before .before .args .k * 4) _ _ _ _ _ (c .before .before .before .before .before .must-of .ensures) (c .before .before .before .before .must-not-of .ensures) (c .before .before .put-number .ensures)
 
 pub put-transition-spec : {M : Type 1} → statement M
 put-transition-spec =
     tie.close
     (tie.spec
     mul-at
-    cast-table
+    must-of-requires
     slice-write-table
-    cast-table-2
+    must-not-of-requires
     add-table
     slice-write-table-2
     add-put-number

@@ -1,28 +1,27 @@
--- `translation::start_pairs` meets its contract: the first i codes are written (`Starting`).
+-- `translation::start_pairs` meets its contract: the first i codes are numbered (`Starting`).
 -- Assumes nothing.
 use borrow.Author.Needs.{needs}
+use native.Mathlib.Omega.{arith}
 use Prim.Native.Nat.{_-_}
-use Rattle.translation.proofs.Codes.{Starting, start-begins, start-steps, start-ends}
+use mathlib.Core.Path.{sym, _∙_}
+use Rattle.translation.proofs.Codes.{Starting, start-begins, start-new, start-steps, start-ends}
 use Rattle.translation.proofs.start_pairs.Statement.{statement}
 use Rattle.translation.proofs.start_pairs.Tie as tie
 
 abbrev Inv-loop : tie.InvT-loop
-Inv-loop pairs₀ n i₀ pairs i = Starting pairs₀ n pairs i
+Inv-loop pairs₀ index₀ n i₀ pairs index i = Starting n pairs index i
 
 abbrev μ-loop : tie.MeasureT-loop
-μ-loop pairs₀ n i₀ pairs i = n - i
+μ-loop pairs₀ index₀ n i₀ pairs index i = n - i
 
 loop-holds : tie.Need-loop-holds Inv-loop μ-loop
-loop-holds c = start-begins _ _
+loop-holds c = start-begins _ _ _ (c .before .before .pre .0)
 
 code-of-requires : tie.Need-code-of-requires Inv-loop μ-loop
 code-of-requires c κs = search needs
 
-mul-pairs : tie.Need-mul-pairs Inv-loop μ-loop
-mul-pairs c = search needs
-
-slice-write-pairs : tie.Need-slice-write-pairs Inv-loop μ-loop
-slice-write-pairs c = search needs
+add-pair-requires : tie.Need-add-pair-requires Inv-loop μ-loop
+add-pair-requires c κs = (c .before .before .before .before .loop .inv .numbered, omega arith, omega (arith, c .code-of .ensures), start-new _ _ _ _ (c .before .before .before .before .loop .inv) _ (c .before .before .before .before .before .before .before .pre .1) (c .before .before .before .loop-test .taken) (c .code-of .ensures))
 
 add-i : tie.Need-add-i Inv-loop μ-loop
 add-i c = search needs
@@ -31,15 +30,16 @@ loop-less : tie.Need-loop-less Inv-loop μ-loop
 loop-less c = search needs
 
 loop-again : tie.Need-loop-again Inv-loop μ-loop
-loop-again c =
-    let at = c .before .before in
-    start-steps _ _ _ (at .loop .i) _ (at .before .before .pre .1) (c .before .loop-test .taken) (at .loop .inv) (c .code-of .ensures)
+loop-again c = start-steps _ _ _ _ (c .before .before .before .before .before .before .before .before .before .loop .inv) _ _ _ (c .before .before .before .before .before .before .before .before .loop-test .taken) (c .before .before .before .before .before .code-of .ensures) (c .before .before .before .before .add-pair .ensures)
 
 same-length : tie.Need-same-length Inv-loop μ-loop
-same-length c = c .before .loop .inv .size
+same-length c = c .before .loop .inv .numbered .room ∙ sym (c .before .before .before .before .pre .0 .room)
+
+same-length-2 : tie.Need-same-length-2 Inv-loop μ-loop
+same-length-2 c = c .before .loop .inv .numbered .size ∙ sym (c .before .before .before .before .pre .0 .size)
 
 returns : tie.Need-returns Inv-loop μ-loop
-returns c = start-ends _ _ _ _ (c .loop-test .left) (c .before .loop .inv)
+returns c = start-ends _ _ _ _ (c .before .loop .inv) (c .loop-test .left)
 
 pub start-pairs-spec : {M : Type 1} → statement M
 start-pairs-spec =
@@ -49,10 +49,10 @@ start-pairs-spec =
     μ-loop
     loop-holds
     code-of-requires
-    mul-pairs
-    slice-write-pairs
+    add-pair-requires
     add-i
     loop-less
     loop-again
     same-length
+    same-length-2
     returns)

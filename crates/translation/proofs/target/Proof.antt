@@ -1,25 +1,32 @@
 -- `translation::target` meets its contract: a level is at most r.
 -- Assumes nothing.
 use borrow.Author.Needs.{needs}
-use native.Mathlib.Omega.{arith}
-use Rattle.translation.proofs.Levels.{next-most}
+use mathlib.Core.Path.{_∙_}
+use Rattle.translation.proofs.Levels.{level-fits}
 use Rattle.translation.proofs.target.Statement.{statement}
 use Rattle.translation.proofs.target.Tie as tie
 
 target-state-requires : tie.Need-target-state-requires
 target-state-requires c κs = search needs
 
+untils-of-requires : tie.Need-untils-of-requires
+untils-of-requires c κs = search needs
+
 next-level-requires : tie.Need-next-level-requires
 next-level-requires c κs = search needs
 
 code-of-requires : tie.Need-code-of-requires
-code-of-requires c κs =
-    let s = c .before .before .before .before in
-    (omega (arith, c .before .target-state .ensures), omega (arith, c .next-level .ensures, next-most (s .args .marks .now) (s .args .r) (s .args .i) (s .args .level)))
+code-of-requires c κs = (rw (c .before .before .target-state .ensures) (c .before .before .before .pre .0), rw (c .next-level .ensures, c .before .untils-of .ensures) (level-fits (c .before .before .before .args .r) (c .before .before .before .args .level) (c .before .before .before .args .transition) (c .before .before .before .pre .1)))
 
 returns : tie.Need-returns
-returns c = search needs
+returns c = c .code-of .ensures ∙ rw (c .before .before .before .target-state .ensures, c .before .next-level .ensures, c .before .before .untils-of .ensures)
 
 pub target-spec : {M : Type 1} → statement M
 target-spec =
-    tie.close (tie.spec target-state-requires next-level-requires code-of-requires returns)
+    tie.close
+    (tie.spec
+    target-state-requires
+    untils-of-requires
+    next-level-requires
+    code-of-requires
+    returns)

@@ -3,6 +3,7 @@
 use borrow.Author.Needs.{needs}
 use native.Mathlib.Omega.{arith}
 use Prim.Native.Nat.{_-_}
+use mathlib.Core.Path.{_∙_}
 use Rattle.translation.proofs.Writing.{Initials, initials-begin, initials-step, initials-end}
 use Rattle.translation.proofs.write_initial.Statement.{statement}
 use Rattle.translation.proofs.write_initial.Tie as tie
@@ -14,12 +15,10 @@ abbrev μ-loop : tie.MeasureT-loop
 μ-loop table₀ n i₀ table i = n - i
 
 loop-holds : tie.Need-loop-holds Inv-loop μ-loop
-loop-holds c = initials-begin _ _ (c .before .pre .0)
+loop-holds c = initials-begin _ _
 
 put-initial-requires : tie.Need-put-initial-requires Inv-loop μ-loop
-put-initial-requires c κs =
-    let at = c .before .before in
-    (omega (arith, at .loop .inv .size), omega (arith, at .before .before .pre .1))
+put-initial-requires c κs = (omega (arith, c .before .before .loop .inv .size, c .before .before .before .before .pre .0, c .before .before .before .before .pre .1), omega (arith, c .before .before .before .before .pre .0))
 
 add-i : tie.Need-add-i Inv-loop μ-loop
 add-i c = search needs
@@ -28,16 +27,19 @@ loop-less : tie.Need-loop-less Inv-loop μ-loop
 loop-less c = search needs
 
 loop-again : tie.Need-loop-again Inv-loop μ-loop
-loop-again c =
-    let put = c .before .before in
-    let at = put .before .before .before in
-    initials-step _ _ _ _ (at .loop .i) (at .before .before .pre .2) (omega arith) (at .loop .inv) (put .put-initial .kept .0) (put .put-initial .ensures)
+loop-again c = initials-step _ _ _ _ (c .before .before .before .before .before .loop .i) (omega (arith, c .before .before .before .before .before .before .before .pre .0, c .before .before .before .before .before .before .before .pre .1)) (c .before .before .before .before .loop-test .taken) (c .before .before .before .before .before .loop .inv) (c .before .before .put-initial .kept .0) (c .before .before .put-initial .ensures)
+
+mul-zero-behind : tie.Need-mul-zero-behind Inv-loop μ-loop
+mul-zero-behind c = search needs
+
+zero-behind-requires : tie.Need-zero-behind-requires Inv-loop μ-loop
+zero-behind-requires c κs = omega (arith, c .before .before .loop .inv .size, c .before .before .before .before .pre .0, c .before .before .before .before .pre .1)
 
 same-length : tie.Need-same-length Inv-loop μ-loop
-same-length c = c .before .loop .inv .size
+same-length c = c .before .before .zero-behind .kept .0 ∙ c .before .before .before .before .before .loop .inv .size
 
 returns : tie.Need-returns Inv-loop μ-loop
-returns c = initials-end _ _ _ _ (c .loop-test .left) (c .before .loop .inv)
+returns c = initials-end _ _ _ _ _ (c .before .before .before .before .loop-test .left) (c .before .before .before .before .before .loop .inv) (c .before .before .zero-behind .ensures)
 
 pub write-initial-spec : {M : Type 1} → statement M
 write-initial-spec =
@@ -50,5 +52,7 @@ write-initial-spec =
     add-i
     loop-less
     loop-again
+    mul-zero-behind
+    zero-behind-requires
     same-length
     returns)

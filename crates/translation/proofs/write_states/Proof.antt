@@ -2,9 +2,10 @@
 -- Assumes nothing.
 use borrow.Author.Needs.{needs}
 use native.Mathlib.Omega.{arith}
-use Prim.Native.Nat.{_-_}
-use mathlib.Core.Path.{refl}
+use Prim.Native.Nat.{ℕ, _-_}
+use mathlib.Core.Path.{_∙_}
 use lib.ListN.{length}
+use Rattle.sets.proofs.Members.{at-in}
 use Rattle.translation.proofs.Within.{state-inside}
 use Rattle.translation.proofs.Writing.{States, states-begin, state-room, states-step, states-end, count-rises, count-few}
 use Rattle.translation.proofs.write_states.Statement.{statement}
@@ -17,7 +18,7 @@ abbrev μ-loop : tie.MeasureT-loop
 μ-loop table₀ ends r pairs pair₀ table pair = length pairs - pair .0
 
 loop-holds : tie.Need-loop-holds Inv-loop μ-loop
-loop-holds c = states-begin _ _ _ _ (c .before .before .before .pre .0)
+loop-holds c = states-begin _ _ _ _
 
 mul-code : tie.Need-mul-code Inv-loop μ-loop
 mul-code c = search needs
@@ -29,26 +30,22 @@ state-of-requires : tie.Need-state-of-requires Inv-loop μ-loop
 state-of-requires c κs = search needs
 
 row-start-requires : tie.Need-row-start-requires Inv-loop μ-loop
-row-start-requires c κs = state-inside _ _ _ _ (c .before .before .before .before .before .before .before .before .pre .1) (c .before .before .if1 .taken) refl _ (c .state-of .ensures)
+row-start-requires c κs = state-inside _ _ _ (c .before .before .before .before .before .before .before .before .pre .0) (at-in {A = ℕ} 0 (c .before .before .before .before .before .before .before .before .args .pairs .now) _ (c .before .before .if1 .taken)) _ (c .state-of .ensures)
 
 state-of-requires-2 : tie.Need-state-of-requires-2 Inv-loop μ-loop
 state-of-requires-2 c κs = search needs
 
 row-end-requires : tie.Need-row-end-requires Inv-loop μ-loop
-row-end-requires c κs = state-inside _ _ _ _ (c .before .before .before .before .before .before .before .before .before .before .pre .1) (c .before .before .before .before .if1 .taken) refl _ (c .state-of2 .ensures)
+row-end-requires c κs = state-inside _ _ _ (c .before .before .before .before .before .before .before .before .before .before .pre .0) (at-in {A = ℕ} 0 (c .before .before .before .before .before .before .before .before .before .before .args .pairs .now) _ (c .before .before .before .before .if1 .taken)) _ (c .state-of2 .ensures)
 
 sub-put-state : tie.Need-sub-put-state Inv-loop μ-loop
-sub-put-state c =
-    let at = c .before .before .before .before .before .before .before .before in
-    count-rises _ _ _ (at .before .before .before .before .pre .1) (omega arith) (c .before .before .before .before .state-of .ensures) (c .before .before .state-of2 .ensures) (c .before .before .before .row-start .ensures) (c .before .row-end .ensures)
+sub-put-state c = count-rises _ _ _ (c .before .before .before .before .before .before .before .before .before .before .before .before .pre .0) (at-in {A = ℕ} 0 (c .before .before .before .before .before .before .before .before .before .before .before .before .args .pairs .now) _ (c .before .before .before .before .before .before .if1 .taken)) (c .before .before .before .before .state-of .ensures) (c .before .before .state-of2 .ensures) (c .before .before .before .row-start .ensures) (c .before .row-end .ensures)
 
 level-of-requires : tie.Need-level-of-requires Inv-loop μ-loop
 level-of-requires c κs = search needs
 
 put-state-requires : tie.Need-put-state-requires Inv-loop μ-loop
-put-state-requires c κs =
-    let at = c .before .before .before .before .before .before .before .before .before in
-    (state-room _ _ _ _ _ _ (at .loop .inv) (omega arith) (at .before .before .before .before .pre .2), omega (arith, count-few _ _ _ (at .before .before .before .before .pre .1) (omega arith) (c .before .before .before .before .before .state-of .ensures) (c .before .before .before .state-of2 .ensures) (c .before .before .before .before .row-start .ensures) (c .before .before .row-end .ensures)))
+put-state-requires c κs = (state-room _ _ _ _ _ _ (c .before .before .before .before .before .before .before .before .before .loop .inv) (c .before .before .before .before .before .before .before .if1 .taken) (c .before .before .before .before .before .before .before .before .before .before .before .before .before .pre .1), omega (arith, count-few _ _ _ (c .before .before .before .before .before .before .before .before .before .before .before .before .before .pre .0) (at-in {A = ℕ} 0 (c .before .before .before .before .before .before .before .before .before .before .before .before .before .args .pairs .now) _ (c .before .before .before .before .before .before .before .if1 .taken)) (c .before .before .before .before .before .state-of .ensures) (c .before .before .before .state-of2 .ensures) (c .before .before .before .before .row-start .ensures) (c .before .before .row-end .ensures)))
 
 add-t10 : tie.Need-add-t10 Inv-loop μ-loop
 add-t10 c = search needs
@@ -57,18 +54,19 @@ loop-less : tie.Need-loop-less Inv-loop μ-loop
 loop-less c = search needs
 
 loop-again : tie.Need-loop-again Inv-loop μ-loop
-loop-again c =
-    let put = c .before .before .before in
-    let end = put .before .before .before in
-    let start = end .before .before in
-    let at = start .before .before .before .before .before in
-    states-step _ _ _ _ _ _ (at .loop .inv) (omega arith) (at .before .before .before .before .pre .2) _ _ _ _ _ _ (start .before .state-of .ensures) (end .before .state-of2 .ensures) (put .before .level-of .ensures) (start .row-start .ensures) (end .row-end .ensures) (put .put-state .kept .0) (put .put-state .ensures)
+loop-again c = states-step _ _ _ _ _ _ (c .before .before .before .before .before .before .before .before .before .before .before .before .before .loop .inv) (c .before .before .before .before .before .before .before .before .before .before .before .if1 .taken) (c .before .before .before .before .before .before .before .before .before .before .before .before .before .before .before .before .before .pre .1) _ _ _ _ _ _ (c .before .before .before .before .before .before .before .before .before .state-of .ensures) (c .before .before .before .before .before .before .before .state-of2 .ensures) (c .before .before .before .before .level-of .ensures) (c .before .before .before .before .before .before .before .before .row-start .ensures) (c .before .before .before .before .before .before .row-end .ensures) (c .before .before .before .put-state .kept .0) (c .before .before .before .put-state .ensures)
+
+mul-zero-behind : tie.Need-mul-zero-behind Inv-loop μ-loop
+mul-zero-behind c = omega (arith, c .before .before .before .before .before .before .before .pre .1)
+
+zero-behind-requires : tie.Need-zero-behind-requires Inv-loop μ-loop
+zero-behind-requires c κs = omega (arith, c .before .before .before .loop .inv .size, c .before .before .before .before .before .before .before .pre .1)
 
 same-length : tie.Need-same-length Inv-loop μ-loop
-same-length c = c .before .before .loop .inv .size
+same-length c = c .before .before .zero-behind .kept .0 ∙ c .before .before .before .before .before .before .loop .inv .size
 
 returns : tie.Need-returns Inv-loop μ-loop
-returns c = states-end _ _ _ _ _ _ (c .before .before .loop .inv) (c .if1 .left)
+returns c = states-end _ _ _ _ _ _ (c .before .before .before .before .before .before .loop .inv) _ (c .before .before .before .before .if1 .left) (c .before .before .zero-behind .ensures)
 
 pub write-states-spec : {M : Type 1} → statement M
 write-states-spec =
@@ -89,5 +87,7 @@ write-states-spec =
     add-t10
     loop-less
     loop-again
+    mul-zero-behind
+    zero-behind-requires
     same-length
     returns)

@@ -1,0 +1,44 @@
+-- `translation::meet` meets its contract: seen, full, or new with the next number.
+-- Assumes nothing.
+use borrow.Author.Needs.{needs}
+use native.Mathlib.Omega.{arith}
+use Rattle.translation.proofs.Meeting.{met-seen, met-full, met-next}
+use Rattle.translation.proofs.meet.Statement.{statement}
+use Rattle.translation.proofs.meet.Tie as tie
+
+slice-read-if1 : tie.Need-slice-read-if1
+slice-read-if1 c = search needs
+
+returns : tie.Need-returns
+returns c = met-seen _ _ _ _ (c .before .before .before .before .pre .0) (c .before .before .before .before .pre .1) _ (c .if1 .taken)
+
+returns-2 : tie.Need-returns-2
+returns-2 c = met-full _ _ _ _ (c .before .before .before .before .before .pre .0) (c .before .before .before .before .before .pre .1) _ (c .before .if1 .left) (c .if2 .taken)
+
+add-pair-requires : tie.Need-add-pair-requires
+add-pair-requires c κs = (c .before .before .before .before .before .before .before .pre .0, omega arith, c .before .before .before .before .before .before .before .pre .1, c .before .before .before .if1 .left)
+
+add-t14 : tie.Need-add-t14
+add-t14 c = search needs
+
+same-length : tie.Need-same-length
+same-length c = search needs
+
+same-length-2 : tie.Need-same-length-2
+same-length-2 c = search needs
+
+returns-3 : tie.Need-returns-3
+returns-3 c = met-next _ _ _ _ (c .before .before .before .before .before .before .before .before .before .before .before .before .pre .0) (c .before .before .before .before .before .before .before .before .before .before .before .before .pre .1) _ (c .before .before .before .before .before .before .before .before .if1 .left) (omega arith) _ _ (c .before .before .before .before .add-pair .ensures)
+
+pub meet-spec : {M : Type 1} → statement M
+meet-spec =
+    tie.close
+    (tie.spec
+    slice-read-if1
+    returns
+    returns-2
+    add-pair-requires
+    add-t14
+    same-length
+    same-length-2
+    returns-3)
