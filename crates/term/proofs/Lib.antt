@@ -3,3 +3,5 @@ pub mod Carries
 pub mod Packing
 pub mod ByKind
 pub mod Sizes
+pub mod Unpacking
+pub mod Rows
