@@ -3,5 +3,6 @@ pub mod Members
 pub mod Bits
 pub mod Lists
 pub mod Inserts
+pub mod Rising
 pub mod Stores
 pub mod Folds

@@ -1,6 +1,7 @@
 -- What the proofs of several functions, and of the crates above, cite.
 pub mod Carries
 pub mod Packing
+pub mod Rising
 pub mod ByKind
 pub mod Sizes
 pub mod Unpacking

@@ -126,7 +126,7 @@ set-joins c d =
     let b : packSet d ≡ d * 65536 + 0 = omega arith in
     rw (a, b, or-block 16 c d 0 0 (omega arith) (omega arith)) (omega arith)
 
-set-drops : (c : ℕ) → consistentN (packSet c) ≡ true
+pub set-drops : (c : ℕ) → consistentN (packSet c) ≡ true
 set-drops c =
     let b : packSet c % 256 ≡ 0 = omega arith in
     rw (b, and-zero-r)
