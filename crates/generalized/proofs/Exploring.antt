@@ -1,4 +1,5 @@
 -- A walk that numbers what it meets, step by step: a search, a meeting, the targets of a state, a state.
+-- Assumes nothing.
 use mathlib.Core.Path.{_≡_, refl, sym, ap, _∙_}
 use mathlib.Core.List.{List, [], _∷_, _++_, append-nil, append-assoc}
 use mathlib.Core.Bool.{Bool, true, false}

@@ -3,11 +3,10 @@
 use borrow.Author.Needs.{needs}
 use native.Mathlib.Omega.{arith}
 use native.Mathlib.Numerals.{add-one}
-use native.Mathlib.Nat.{two-pow-succ}
 use mathlib.Core.Path.{_≡_, refl, sym, ap, _∙_}
-use mathlib.Core.Bool.{Bool, true, false, cond}
+use mathlib.Core.Bool.{Bool, cond}
 use mathlib.Core.List.{List}
-use Prim.Native.Nat.{ℕ, suc, _+_, _-_, _*_, _^_, _≤_, _<_}
+use Prim.Native.Nat.{ℕ, _+_, _-_, _*_, _^_, _≤_, _<_}
 use lib.ListN.{length, getD, length-take}
 use lib.Seq.{getD-take}
 use Rattle.formula.specs.Limits.{maxNodes, maxUntils}
@@ -22,18 +21,18 @@ use Rattle.acceptance.specs.Acceptance.{fulfilsNext, bitsOf, fulfilment}
 use Rattle.acceptance.specs.Memory.{Known, fulfilsN}
 use Rattle.acceptance.proofs.Gathering.{untils-few, untils-below}
 use Rattle.acceptance.proofs.Tests.{fulfils-number}
+use Rattle.acceptance.proofs.Bits.{bits-small}
 use Rattle.acceptance.proofs.fulfilment.Statement.{statement}
 use Rattle.acceptance.proofs.fulfilment.Tie as tie
 
 -- a loop over count untils that stands at k
 record Fulfilling (rule : List ℕ) (count t byte k : ℕ) : Type 0 where
   within : k ≤ count
-  small : byte < 2 ^ k
   done : byte ≡ bitsOf (λ j. fulfilsNext rule j (unpack t)) k
 
 fulfil-begins : (rule : List ℕ) (count t : ℕ) → Fulfilling rule count t 0 0
 unfolding bitsOf
-fulfil-begins rule count t = record { within = omega arith; small = omega arith; done = refl }
+fulfil-begins rule count t = record { within = omega arith; done = refl }
 
 module _ {rule table nodes : List ℕ} {count : ℕ} (known : Known rule table nodes count) where
   count-fits : count ≤ length nodes
@@ -67,15 +66,7 @@ module _ {rule table nodes : List ℕ} {count : ℕ} (known : Known rule table n
 
     fulfil-steps : {t byte after : ℕ} {b : Bool} → Fulfilling rule count t byte k → b ≡ fulfilsN (getD nodes k 0) (rowOf table (getD nodes k 0)) t → after ≡ byte + cond b (2 ^ k) 0 → Fulfilling rule count t after (k + 1)
     unfolding bitsOf
-    fulfil-steps {t} {byte} {after} {b} inv is e = record {
-      within = omega arith;
-      small = rw add-one (bit b e);
-      done = rw (add-one, ← next t is) (omega (arith, e, inv .done));
-    }
-      where
-        bit : (b : Bool) → after ≡ byte + cond b (2 ^ k) 0 → after < 2 ^ suc k
-        bit true q = omega (arith, inv .small, two-pow-succ k)
-        bit false q = omega (arith, inv .small, two-pow-succ k)
+    fulfil-steps {t} inv is e = record { within = omega arith; done = rw (add-one, ← next t is) (omega (arith, e, inv .done)) }
 
 abbrev Inv-loop : tie.InvT-loop
 Inv-loop rule table nodes count t byte₀ k₀ byte k = Fulfilling rule count t byte k
@@ -105,7 +96,7 @@ fulfils-node-requires c κs =
 with-bit-requires : tie.Need-with-bit-requires Inv-loop μ-loop
 with-bit-requires c κs =
     let at = c .before .before .before in
-    (few (at .before .before .before .before .pre) (at .loop .k) (c .before .before .loop-test .taken), at .loop .inv .small)
+    (few (at .before .before .before .before .pre) (at .loop .k) (c .before .before .loop-test .taken), rw (at .loop .inv .done) (bits-small _ (at .loop .k)))
 
 add-k : tie.Need-add-k Inv-loop μ-loop
 add-k c = search needs
