@@ -4,4 +4,5 @@ pub mod Checks
 pub mod Places
 pub mod Untils
 pub mod Accepted
+pub mod Parents
 pub mod Trees

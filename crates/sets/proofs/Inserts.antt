@@ -1,12 +1,13 @@
--- Inserting, begun at a place.
+-- Inserting, begun at a place, and how long a list becomes.
+-- Assumes nothing.
 use mathlib.Core.Path.{_≡_, refl, ap}
 use mathlib.Core.List.{List, [], _∷_}
 use mathlib.Core.Bool.{Bool, true, false, cond}
-use Prim.Native.Nat.{ℕ, zero, suc, _+_, _≤_, _<_}
-use native.Mathlib.Nat.{not-suc-le-zero, le-of-suc-le-suc}
+use Prim.Native.Nat.{ℕ, zero, suc, _+_, _*_, _≤_, _<_}
+use native.Mathlib.Nat.{not-suc-le-zero, le-of-suc-le-suc, suc-mul}
 use native.Mathlib.Omega.{arith}
 use lib.ListN.{length, getD}
-use Rattle.sets.specs.Sets.{insert, union, insertAt}
+use Rattle.sets.specs.Sets.{insert, union, insertJoin, insertJoins, insertProduct, insertAt}
 
 module _ {A : Type 0} (less : A → A → Bool) where
   -- what stands before i stays, and t is inserted after
@@ -70,3 +71,23 @@ module _ {A : Type 0} (less : A → A → Bool) where
   unfolding union
   union-shorter [] ys = omega arith
   union-shorter (x ∷ xs) ys = omega (arith, insert-shorter x (union less xs ys), union-shorter xs ys)
+
+  module _ (joined : A → A → A) (consistent : A → Bool) where
+    join-shorter : (x y : A) (ws : List A) → length (insertJoin less joined consistent x y ws) ≤ suc (length ws)
+    unfolding insertJoin
+    join-shorter x y ws = go (consistent (joined x y))
+      where
+        go : (b : Bool) → length (cond b (insert less (joined x y) ws) ws) ≤ suc (length ws)
+        go true = insert-shorter (joined x y) ws
+        go false = omega arith
+
+    joins-shorter : (x : A) (ys ws : List A) → length (insertJoins less joined consistent x ys ws) ≤ length ys + length ws
+    unfolding insertJoins
+    joins-shorter x [] ws = omega arith
+    joins-shorter x (y ∷ ys) ws = omega (arith, join-shorter x y (insertJoins less joined consistent x ys ws), joins-shorter x ys ws)
+
+    pub product-shorter : (xs ys ws : List A) → length (insertProduct less joined consistent xs ys ws) ≤ length xs * length ys + length ws
+    unfolding insertProduct
+    product-shorter [] ys ws = omega arith
+    product-shorter (x ∷ xs) ys ws =
+        omega (arith, joins-shorter x ys (insertProduct less joined consistent xs ys ws), product-shorter xs ys ws, suc-mul (length xs) (length ys))

@@ -4,5 +4,9 @@ pub mod Packing
 pub mod Rising
 pub mod ByKind
 pub mod Sizes
+pub mod Bounds
+pub mod Reached
+pub mod Descending
+pub mod Keeping
 pub mod Unpacking
 pub mod Rows

@@ -1,5 +1,5 @@
 -- The bridge from terms and cover sets to their numbers: the numbers rise as the terms do, and each operation on lists
--- goes over.
+-- goes over. Assumes nothing.
 use mathlib.Core.Path.{_≡_, refl, sym, ap}
 use mathlib.Core.List.{List, [], _∷_, map}
 use mathlib.Core.Bool.{Bool, true, false, cond}
@@ -10,6 +10,7 @@ use lib.Bits.{bitAnd, bitOr, or-block, and-block, or-lt, and-zero-r}
 use lib.Pow.{pow-lt}
 use borrow.Author.Tests.{lt-ltb, le-ltb, ltb-true, ltb-false}
 use Rattle.sets.specs.Sets.{insert, union, insertJoin, insertJoins, insertProduct, consistentN, insertN, unionN, insertJoinN, insertJoinsN, insertProductN}
+use Rattle.formula.specs.Limits.{propositions}
 use Rattle.formula.specs.Formula.{Formula, bottom, top, proposition, negatedProposition, conjunction, disjunction, next, until, release, InRange}
 use Rattle.term.specs.Term.{Term, term, lessThen, less, joined, consistent, product, unions, cover, terms}
 use Rattle.term.specs.Packed.{pack, packSet}
@@ -167,8 +168,8 @@ pub terms-numbers : (f : Formula) → InRange f → Numbers of-terms (terms f) (
 unfolding terms InRange
 terms-numbers bottom m = none
 terms-numbers top m = owing-numbers (0 ∷ [])
-terms-numbers (proposition n p) m = more (term (2 ^ p) 0 0) (record { must = pow-lt {j = 8} m; mustNot = omega arith }) none
-terms-numbers (negatedProposition n p) m = more (term 0 (2 ^ p) 0) (record { must = omega arith; mustNot = pow-lt {j = 8} m }) none
+terms-numbers (proposition n p) m = more (term (2 ^ p) 0 0) (record { must = pow-lt {j = propositions} m; mustNot = omega arith }) none
+terms-numbers (negatedProposition n p) m = more (term 0 (2 ^ p) 0) (record { must = omega arith; mustNot = pow-lt {j = propositions} m }) none
 terms-numbers (conjunction a b) m = canonical of-terms (product-numbers of-terms (terms-numbers a (m .0)) (terms-numbers b (m .1)))
 terms-numbers (disjunction a b) m = canonical of-terms (union-numbers of-terms (terms-numbers a (m .0)) (terms-numbers b (m .1)))
 terms-numbers (next n a) m = owing-numbers (cover a)

@@ -8,6 +8,7 @@ use lib.Bits.{bitOr, and-zero-r}
 use lib.Pow.{pow-lt}
 use Rattle.sets.specs.Sets.{insertProductN}
 use Rattle.sets.proofs.Rising.{Rising, Consistent, union-rises, product-rises, product-zero}
+use Rattle.formula.specs.Limits.{propositions}
 use Rattle.formula.specs.Formula.{Formula, bottom, top, proposition, negatedProposition, conjunction, disjunction, next, until, release, InRange}
 use Rattle.term.specs.Term.{term, cover, terms}
 use Rattle.term.specs.Packed.{pack, packSet}
@@ -52,7 +53,7 @@ terms-rise (proposition n p) m =
     rw q (one-rises _ (asking (2 ^ p)))
 terms-rise (negatedProposition n p) m =
     let q : pack (term 0 (2 ^ p) 0) ≡ 2 ^ p = omega arith in
-    rw q (one-rises _ (forbidding (2 ^ p) (pow-lt {j = 8} m)))
+    rw q (one-rises _ (forbidding (2 ^ p) (pow-lt {j = propositions} m)))
 terms-rise (conjunction a b) m =
     rw (pack-conjunction 0 a b (m .0) (m .1)) (product-rises Consistent kept 0 0 _ _ _ (terms-rise a (m .0)) (terms-rise b (m .1)) tt)
 terms-rise (disjunction a b) m =

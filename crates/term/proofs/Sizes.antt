@@ -1,36 +1,49 @@
--- A node that is ready for its terms, and what counts of 64 or fewer say of number 20.
+-- A node that a descent may begin at, and number 20 by the sizes of its terms and of its cover.
+-- Assumes nothing.
 use mathlib.Core.Path.{_≡_, refl}
 use mathlib.Core.List.{List}
 use mathlib.Core.Bool.{Bool, true, false, _&&_}
-use Prim.Native.Nat.{ℕ, _≤_, _<_}
+use Prim.Native.Nat.{ℕ, suc, _≤_, _<_}
 use native.Mathlib.Omega.{arith}
-use lib.ListN.{length, length-map}
+use lib.ListN.{length}
 use lib.Dec.{leb}
-use borrow.Author.Tests.{leb-true, le-leb, lt-leb}
+use borrow.Author.Tests.{leb-true, le-leb}
 use Rattle.answer.specs.Result.{fine, refused, require, lowest}
-use Rattle.formula.specs.Rule.{nodeCount}
+use Rattle.formula.specs.Limits.{maxNodes}
+use Rattle.formula.specs.Rule.{nodeCount, root}
 use Rattle.formula.specs.Rule
 use Rattle.formula.specs.Formula.{tree, InRange}
-use Rattle.answer.proofs.Lowest.{not-fine, lowest-each, lowest-below}
+use Rattle.answer.proofs.Lowest.{not-fine, fine-first, fine-second, lowest-each, lowest-below}
 use Rattle.formula.proofs.Accepted.{Node, accepted-fine}
 use Rattle.formula.proofs.Trees.{tree-in-range}
-use Rattle.term.specs.declared.Terms.{Terms}
+use Rattle.term.specs.Limits.{maxTerms}
 use Rattle.term.specs.Term.{terms, cover}
 use Rattle.term.specs.Size.{sizeCheck, checked, Ready}
-use Rattle.term.specs.Packed.{IsTerms, IsCover, pack, packSet}
+use Rattle.term.specs.Descent.{Over}
 
 pub record Few (rule : List ℕ) (k : ℕ) : Type 0 where
-  pub terms : length (terms (tree rule k)) ≤ 64
-  pub cover : length (cover (tree rule k)) ≤ 64
+  pub terms : length (terms (tree rule k)) ≤ maxTerms
+  pub cover : length (cover (tree rule k)) ≤ maxTerms
+
+-- the tests of 20 at node k
+abbrev fewTerms : List ℕ → ℕ → Bool
+fewTerms rule k = leb (length (terms (tree rule k))) maxTerms
+
+abbrev fewSets : List ℕ → ℕ → Bool
+fewSets rule k = leb (length (cover (tree rule k))) maxTerms
 
 pub few-fine : (rule : List ℕ) (k : ℕ) → sizeCheck rule k ≡ fine → Few rule k
 unfolding sizeCheck
-few-fine rule k e = go (leb (length (terms (tree rule k))) 64) (leb (length (cover (tree rule k))) 64) refl refl e
+few-fine rule k e = go (fewTerms rule k) (fewSets rule k) refl refl e
   where
-    go : (b c : Bool) → leb (length (terms (tree rule k))) 64 ≡ b → leb (length (cover (tree rule k))) 64 ≡ c → require (b && c) 20 k ≡ fine → Few rule k
+    go : (b c : Bool) → fewTerms rule k ≡ b → fewSets rule k ≡ c → require (b && c) 20 k ≡ fine → Few rule k
     go true true p q e = record { terms = leb-true _ _ p; cover = leb-true _ _ q }
     go true false p q e = not-fine e
     go false c p q e = not-fine e
+
+pub fine-few : (rule : List ℕ) (k : ℕ) → Few rule k → fine ≡ sizeCheck rule k
+unfolding sizeCheck
+fine-few rule k few = rw (le-leb (length (terms (tree rule k))) maxTerms (few .terms), le-leb (length (cover (tree rule k))) maxTerms (few .cover))
 
 module _ (rule : List ℕ) (n : ℕ) (ready : Ready rule n) where
   ready-node : (k : ℕ) → k ≤ n → Node rule k
@@ -39,48 +52,41 @@ module _ (rule : List ℕ) (n : ℕ) (ready : Ready rule n) where
   pub own-node : Node rule n
   own-node = ready-node n (omega arith)
 
-  pub ready-small : n < 32
+  pub ready-small : n < maxNodes
   ready-small = omega (arith, ready .inside, accepted-fine rule (ready .accepted) .most)
 
   pub ready-below : (k : ℕ) → k < n → Ready rule k
-  ready-below k lt = record { accepted = ready .accepted; inside = omega (arith, ready .inside); below = lowest-below (sizeCheck rule) n (ready .below) k (omega arith) }
+  ready-below k lt = record { accepted = ready .accepted; inside = omega (arith, ready .inside) }
 
   pub ready-in-range : (k : ℕ) → k ≤ n → InRange (tree rule k)
   ready-in-range k le = tree-in-range rule k (omega (arith, ready .inside)) (λ j l. ready-node j (omega arith))
 
-  few-below : (k : ℕ) → k < n → Few rule k
-  few-below k lt = few-fine rule k (lowest-each (sizeCheck rule) n (ready .below) k lt)
+-- a rule that 1 to 7 and 20 let pass
+module _ (rule : List ℕ) (passed : checked rule ≡ fine) where
+  pub bytes-fine : Rule.checked rule ≡ fine
+  unfolding checked
+  bytes-fine = fine-first (Rule.checked rule) _ passed
 
-  -- a child's terms and cover fit their places
-  pub terms-fit : {r : Terms} (k : ℕ) → k < n → IsTerms r (terms (tree rule k)) → r .count ≤ 64
-  terms-fit k lt is = omega (arith, is .count, few-below k lt .terms, length-map (terms (tree rule k)) pack)
+  pub sizes-fine : lowest (sizeCheck rule) (nodeCount rule) ≡ fine
+  unfolding checked
+  sizes-fine = fine-second (Rule.checked rule) _ passed
 
-  pub cover-fits : {r : Terms} (k : ℕ) → k < n → IsCover r (cover (tree rule k)) → r .count ≤ 64
-  cover-fits k lt is = omega (arith, is .count, few-below k lt .cover, length-map (cover (tree rule k)) packSet)
+pub root-ready : (rule : List ℕ) → Rule.checked rule ≡ fine → Ready rule (root rule)
+root-ready rule bytes = record { accepted = bytes; inside = omega (arith, accepted-fine rule bytes .some) }
 
--- the counts of node k against number 20
-module _ (rule : List ℕ) (k : ℕ) (t : Terms) (it : IsTerms t (terms (tree rule k))) where
-  pub many-terms : 64 < t .count → refused 20 k ≡ sizeCheck rule k
-  unfolding sizeCheck
-  many-terms lt = rw (lt-leb (length (terms (tree rule k))) 64 (omega (arith, it .count, length-map (terms (tree rule k)) pack)))
+-- a node up to n that is a 20
+module _ (rule : List ℕ) (n : ℕ) where
+  pub over-above : (k : ℕ) → k ≤ n → Over rule k → Over rule n
+  over-above k le over e = over (lowest-below (sizeCheck rule) (suc n) e (suc k) (omega arith))
 
-  module _ (few : t .count ≤ 64) (c : Terms) (ic : IsCover c (cover (tree rule k))) where
-    terms-few : leb (length (terms (tree rule k))) 64 ≡ true
-    terms-few = le-leb (length (terms (tree rule k))) 64 (omega (arith, it .count, length-map (terms (tree rule k)) pack))
+  pub over-many : (Few rule n → ⊥) → Over rule n
+  over-many many e = many (few-fine rule n (lowest-each (sizeCheck rule) (suc n) e n (omega arith)))
 
-    pub many-sets : 64 < c .count → refused 20 k ≡ sizeCheck rule k
-    unfolding sizeCheck
-    many-sets lt = rw (terms-few, lt-leb (length (cover (tree rule k))) 64 (omega (arith, ic .count, length-map (cover (tree rule k)) packSet)))
-
-    pub few-both : c .count ≤ 64 → fine ≡ sizeCheck rule k
-    unfolding sizeCheck
-    few-both le = rw (terms-few, le-leb (length (cover (tree rule k))) 64 (omega (arith, ic .count, length-map (cover (tree rule k)) packSet)))
-
--- 1 to 7 come before 20
-pub bytes-refused : (rule : List ℕ) {number place : ℕ} → refused number place ≡ Rule.checked rule → refused number place ≡ checked rule
-unfolding checked
-bytes-refused rule e = rw (← e)
-
-pub sizes-left : (rule : List ℕ) → Rule.checked rule ≡ fine → lowest (sizeCheck rule) (nodeCount rule) ≡ checked rule
-unfolding checked
-sizes-left rule e = rw e
+  -- it is n, if none below n is one
+  pub over-own : lowest (sizeCheck rule) n ≡ fine → Over rule n → refused 20 n ≡ sizeCheck rule n
+  unfolding sizeCheck lowest
+  over-own below over = go (fewTerms rule n && fewSets rule n) refl
+    where
+      go : (b : Bool) → (fewTerms rule n && fewSets rule n) ≡ b → refused 20 n ≡ require b 20 n
+      go true e = absurd (over (rw (below, e) refl))
+      go false e = refl

@@ -4,3 +4,5 @@ pub mod Term
 pub mod Size
 pub mod Packed
 pub mod Table
+pub mod Descent
+pub mod Bound

@@ -1,9 +1,10 @@
--- How terms lie in memory: each as one number, those of a node in 64 places with a count.
+-- How terms lie in memory: each as one number, those of a node in maxTerms places with a count.
 use Prim.Native.Nat.{ℕ, suc, _+_, _*_, _/_, _%_, _≤_, min}
 use mathlib.Core.Path.{_≡_}
 use mathlib.Core.List.{List, map}
 use lib.ListN.{take, length}
 use Rattle.term.specs.declared.Terms.{Terms}
+use Rattle.term.specs.Limits.{maxTerms}
 use Rattle.term.specs.Term.{Term, term}
 
 -- obligations, must and mustNot from the top: the order of terms is the order of their numbers
@@ -29,7 +30,7 @@ pub record Carries (capacity : ℕ) (places : List ℕ) (n : ℕ) (ws : List ℕ
 -- the value in which a node's terms, or its cover, are handed on: 64 places and how many of them are used (01,
 -- Duties, covers and terms, sentence 10)
 abbrev pub IsPacked : Terms → List ℕ → Type 0
-IsPacked ts ws = Carries 64 (ts .items) (ts .count) ws
+IsPacked ts ws = Carries maxTerms (ts .items) (ts .count) ws
 
 abbrev pub IsTerms : Terms → List Term → Type 0
 IsTerms r ts = IsPacked r (map pack ts)

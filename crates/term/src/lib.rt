@@ -1,17 +1,24 @@
 // Covers and terms of a rule's nodes, each by recursion into the node's children, and refusal 20. A term is packed
-// into one number, so that the order of terms is the order of numbers and a join is one `|`.
+// into one number, so that the order of terms is the order of numbers and a join is one `|`. One descent from the
+// root keeps the terms of all nodes in a table, a row for each node.
 use answer::Checked;
 ghost use mathlib.Core.Path.{_≡_};
 ghost use mathlib.Core.List.{List, [], _∷_};
-ghost use Prim.Native.Nat.{ℕ, _*_, _^_, _≤_, _<_};
+ghost use Prim.Native.Nat.{ℕ, suc, _*_, _^_, _≤_, _<_, min};
+ghost use lib.ListN.{length};
 ghost use Rattle.sets.specs.Sets.{unionN, insertProductN};
 ghost use Rattle.answer.specs.Result.{fine, lowest, answer};
 ghost use Rattle.formula.specs.Rule.{nodeCount};
 ghost use Rattle.formula.specs.Rule;
-ghost use Rattle.formula.specs.Formula.{Formula, build, tree, InRange};
+ghost use Rattle.formula.specs.Limits.{maxNodes, propositions};
+ghost use Rattle.formula.specs.Formula.{Formula, build, tree, formula, InRange};
+ghost use Rattle.term.specs.Limits.{maxTerms, tablePlaces};
 ghost use Rattle.term.specs.Term.{cover, terms};
 ghost use Rattle.term.specs.Size.{sizeCheck, checked, Ready};
 ghost use Rattle.term.specs.Packed.{IsPacked, IsTerms, IsCover};
+ghost use Rattle.term.specs.Table.{Rows};
+ghost use Rattle.term.specs.Descent.{Kept, FoundCover, StoresRow, Keeps};
+ghost use Rattle.term.specs.Bound.{coverBound, BoundedBelow};
 
 // The number of document 01 by which a rule with too many terms or cover sets is refused.
 pub const TOO_MANY_TERMS: u8 = 20;
@@ -19,13 +26,19 @@ pub const TOO_MANY_TERMS: u8 = 20;
 // The most terms of a node, and the most sets of its cover, that 20 lets pass.
 pub const MAX_TERMS: usize = 64;
 
+// A node's row in the table: how many terms it has, then these.
+pub const ROW_PLACES: usize = MAX_TERMS + 1;
+
+// A row for each node.
+pub const TABLE_PLACES: usize = formula::MAX_NODES * ROW_PLACES;
+
 // A packed term: obligations * 65536 + must * 256 + must_not.
 pub type Term = u64;
 
-// A node's terms, rising. A count of 65 says that there are more than 64.
+// A node's terms, rising. A count above MAX_TERMS says that there are more than that.
 pub struct Terms {
     pub count: usize,
-    pub items: [Term; 64],
+    pub items: [Term; MAX_TERMS],
 }
 
 fn bit(n: usize) -> u64
@@ -40,7 +53,7 @@ fn none() -> Terms
 {
     Terms {
         count: 0,
-        items: [0; 64],
+        items: [0; MAX_TERMS],
     }
 }
 
@@ -49,18 +62,18 @@ fn one(t: Term) -> Terms
 {
     Terms {
         count: 1,
-        items: [t; 64],
+        items: [t; MAX_TERMS],
     }
 }
 
 // The joins of each of a and each of b.
 fn product(a: Terms, b: Terms) -> Terms
-    requires { ⌜ (a .count ≤ 64) × (b .count ≤ 64) ⌝ }
+    requires { ⌜ (a .count ≤ maxTerms) × (b .count ≤ maxTerms) ⌝ }
     ensures { λ r. ⌜ ((us vs : List ℕ) → IsPacked a us → IsPacked b vs → IsPacked r (insertProductN us vs [])) ⌝ }
 {
     let na = a.count;
     let nb = b.count;
-    let mut out = [0u64; 64];
+    let mut out = [0u64; MAX_TERMS];
     let n = sets::product(&mut out, 0, &a.items, na, &b.items, nb);
     Terms {
         count: n,
@@ -70,7 +83,7 @@ fn product(a: Terms, b: Terms) -> Terms
 
 // a together with b.
 fn union(a: Terms, b: Terms) -> Terms
-    requires { ⌜ (a .count ≤ 64) × (b .count ≤ 64) ⌝ }
+    requires { ⌜ (a .count ≤ maxTerms) × (b .count ≤ maxTerms) ⌝ }
     ensures { λ r. ⌜ ((us vs : List ℕ) → IsPacked a us → IsPacked b vs → IsPacked r (unionN us vs)) ⌝ }
 {
     let na = a.count;
@@ -85,13 +98,13 @@ fn union(a: Terms, b: Terms) -> Terms
 
 // b together with the joins of own and each of a.
 fn until(a: Terms, b: Terms, own: Term) -> Terms
-    requires { ⌜ (a .count ≤ 64) × (b .count ≤ 64) ⌝ }
+    requires { ⌜ (a .count ≤ maxTerms) × (b .count ≤ maxTerms) ⌝ }
     ensures { λ r. ⌜ ((us vs : List ℕ) → IsPacked a us → IsPacked b vs → IsPacked r (unionN vs (insertProductN us (own ∷ []) []))) ⌝ }
 {
     let na = a.count;
     let nb = b.count;
     let owns = [own; 1];
-    let mut out = [0u64; 64];
+    let mut out = [0u64; MAX_TERMS];
     let n = sets::product(&mut out, 0, &a.items, na, &owns, 1);
     let m = sets::union(&mut out, n, &b.items, nb);
     Terms {
@@ -100,16 +113,16 @@ fn until(a: Terms, b: Terms, own: Term) -> Terms
     }
 }
 
-// The joins of each of b and each of a together with own: that list may have 65 members.
+// The joins of each of b and each of a together with own: that list may have one member more than MAX_TERMS.
 fn release(a: Terms, b: Terms, own: Term) -> Terms
-    requires { ⌜ (a .count ≤ 64) × (b .count ≤ 64) ⌝ }
+    requires { ⌜ (a .count ≤ maxTerms) × (b .count ≤ maxTerms) ⌝ }
     ensures { λ r. ⌜ ((us vs : List ℕ) → IsPacked a us → IsPacked b vs → IsPacked r (insertProductN vs (unionN us (own ∷ [])) [])) ⌝ }
 {
     let na = a.count;
     let nb = b.count;
-    let mut more = [own; 65];
+    let mut more = [own; MAX_TERMS + 1];
     let n = sets::union(&mut more, 1, &a.items, na);
-    let mut out = [0u64; 64];
+    let mut out = [0u64; MAX_TERMS];
     let m = sets::product(&mut out, 0, &b.items, nb, &more, n);
     Terms {
         count: m,
@@ -119,7 +132,7 @@ fn release(a: Terms, b: Terms, own: Term) -> Terms
 
 // The obligation of node n alone, packed.
 fn owe(n: usize) -> Term
-    requires { ⌜ n < 32 ⌝ }
+    requires { ⌜ n < maxNodes ⌝ }
     ensures { λ r. ⌜ r ≡ 2 ^ n * 65536 ⌝ }
 {
     bit(n) * 65536
@@ -127,7 +140,7 @@ fn owe(n: usize) -> Term
 
 // The cover of a node n that is no and, no or; a kind that there is not has none.
 fn cover_leaf(kind: u8, n: usize) -> Terms
-    requires { ⌜ (n < 32) × ((kind ≡ 4) → ⊥) × ((kind ≡ 5) → ⊥) ⌝ }
+    requires { ⌜ (n < maxNodes) × ((kind ≡ 4) → ⊥) × ((kind ≡ 5) → ⊥) ⌝ }
     ensures { λ r. ⌜ ((p : ℕ) (f g : Formula) → IsCover r (cover (build kind n p f g))) ⌝ }
 {
     if kind == formula::FALSE {
@@ -142,11 +155,20 @@ fn cover_leaf(kind: u8, n: usize) -> Terms
     one(owe(n))
 }
 
-// The cover of an and, an or, by those of its children.
+// The cover of an and, an or, by those of its children; a count above MAX_TERMS is handed on.
 fn cover_pair(kind: u8, a: Terms, b: Terms) -> Terms
-    requires { ⌜ (a .count ≤ 64) × (b .count ≤ 64) × (3 < kind) × (kind < 6) ⌝ }
-    ensures { λ r. ⌜ ((n p : ℕ) (f g : Formula) → IsCover a (cover f) → IsCover b (cover g) → IsCover r (cover (build kind n p f g))) ⌝ }
+    requires { ⌜ (3 < kind) × (kind < 6) ⌝ }
+    ensures { λ r. ⌜ (r .count ≤ maxTerms → (a .count ≤ maxTerms) × (b .count ≤ maxTerms)) ⌝ }
+    ensures { λ r. ⌜ (a .count ≤ maxTerms → b .count ≤ maxTerms → (n p : ℕ) (f g : Formula) → IsCover a (cover f) → IsCover b (cover g) → IsCover r (cover (build kind n p f g))) ⌝ }
 {
+    let na = a.count;
+    if MAX_TERMS < na {
+        return a;
+    }
+    let nb = b.count;
+    if MAX_TERMS < nb {
+        return b;
+    }
     if kind == formula::AND {
         product(a, b)
     } else {
@@ -155,9 +177,9 @@ fn cover_pair(kind: u8, a: Terms, b: Terms) -> Terms
 }
 
 // The cover of node n, as packed terms with no propositions.
-pub fn cover_of(rule: &[u8], n: usize) -> Terms
+fn cover_of(rule: &[u8], n: usize) -> Terms
     requires { ⌜ Ready (now rule) n ⌝ }
-    ensures { λ r. ⌜ IsCover r (cover (tree (now (rule .entry)) n)) ⌝ }
+    ensures { λ r. ⌜ FoundCover (now (rule .entry)) n r ⌝ }
 {
     let kind = formula::kind_of(rule, n);
     if kind < formula::AND {
@@ -173,7 +195,7 @@ pub fn cover_of(rule: &[u8], n: usize) -> Terms
 
 // The terms of a node of kind 0 to 3 whose left byte is p.
 fn terms_leaf(kind: u8, p: usize) -> Terms
-    requires { ⌜ (kind < 4) × (1 < kind → p < 8) ⌝ }
+    requires { ⌜ (kind < 4) × (1 < kind → p < propositions) ⌝ }
     ensures { λ r. ⌜ ((n : ℕ) (f g : Formula) → IsTerms r (terms (build kind n p f g))) ⌝ }
 {
     if kind == formula::FALSE {
@@ -188,11 +210,21 @@ fn terms_leaf(kind: u8, p: usize) -> Terms
     one(bit(p))
 }
 
-// The terms of an and, an or, an until, a release by those of its children; a kind that there is not has none.
+// The terms of an and, an or, an until, a release by those of its children; a count above MAX_TERMS is handed on. A kind that
+// there is not has none.
 fn terms_pair(kind: u8, n: usize, a: Terms, b: Terms) -> Terms
-    requires { ⌜ (a .count ≤ 64) × (b .count ≤ 64) × (n < 32) × (3 < kind) × ((kind ≡ 6) → ⊥) ⌝ }
-    ensures { λ r. ⌜ ((p : ℕ) (f g : Formula) → InRange f → InRange g → IsTerms a (terms f) → IsTerms b (terms g) → IsTerms r (terms (build kind n p f g))) ⌝ }
+    requires { ⌜ (n < maxNodes) × (3 < kind) × ((kind ≡ 6) → ⊥) ⌝ }
+    ensures { λ r. ⌜ (r .count ≤ maxTerms → (a .count ≤ maxTerms) × (b .count ≤ maxTerms)) ⌝ }
+    ensures { λ r. ⌜ (a .count ≤ maxTerms → b .count ≤ maxTerms → (p : ℕ) (f g : Formula) → InRange f → InRange g → IsTerms a (terms f) → IsTerms b (terms g) → IsTerms r (terms (build kind n p f g))) ⌝ }
 {
+    let na = a.count;
+    if MAX_TERMS < na {
+        return a;
+    }
+    let nb = b.count;
+    if MAX_TERMS < nb {
+        return b;
+    }
     if kind == formula::AND {
         return product(a, b);
     }
@@ -209,33 +241,108 @@ fn terms_pair(kind: u8, n: usize, a: Terms, b: Terms) -> Terms
     }
 }
 
-// The terms of node n.
-pub fn terms_of(rule: &[u8], n: usize) -> Terms
-    requires { ⌜ Ready (now rule) n ⌝ }
-    ensures { λ r. ⌜ IsTerms r (terms (tree (now (rule .entry)) n)) ⌝ }
+// The row of node n: the count of its terms, and these where they fit.
+fn store_row(table: &mut [u64], n: usize, ts: Terms)
+    requires { ⌜ (n < maxNodes) × (length (now table) ≡ tablePlaces) ⌝ }
+    ensures { λ _. ⌜ StoresRow (now (table .entry)) n ts (now (table .exit)) ⌝ }
+{
+    let at = n * ROW_PLACES;
+    let count = ts.count;
+    table[at] = count as u64;
+    if MAX_TERMS < count {
+        return;
+    }
+    let mut k = 0;
+    while k < count {
+        table[at + 1 + k] = ts.items[k];
+        k += 1;
+    }
+}
+
+// The terms of node n, and in the table the rows of n and of all nodes below it.
+fn keep_terms(rule: &[u8], n: usize, table: &mut [u64]) -> Terms
+    requires { ⌜ Ready (now rule) n × (length (now table) ≡ tablePlaces) ⌝ }
+    ensures { λ r. ⌜ Keeps (now (rule .entry)) n (now (table .entry)) r (now (table .exit)) ⌝ }
 {
     let kind = formula::kind_of(rule, n);
     let left = formula::left_of(rule, n);
     if kind < formula::AND {
-        return terms_leaf(kind, left);
+        let leaf = terms_leaf(kind, left);
+        store_row(table, n, leaf);
+        return leaf;
     }
+    let a = keep_terms(rule, left, table);
     if kind == formula::NEXT {
-        return cover_of(rule, left);
+        let sets = cover_of(rule, left);
+        store_row(table, n, sets);
+        return sets;
     }
-    let a = terms_of(rule, left);
-    let b = terms_of(rule, formula::right_of(rule, n));
-    terms_pair(kind, n, a, b)
+    let b = keep_terms(rule, formula::right_of(rule, n), table);
+    let pair = terms_pair(kind, n, a, b);
+    store_row(table, n, pair);
+    pair
 }
 
-// 20 for node n, the nodes below which are no 20.
-fn check_size(rule: &[u8], n: usize) -> Checked
-    requires { ⌜ Ready (now rule) n ⌝ }
+// x, or one more than MAX_TERMS for all above it.
+fn clip(x: usize) -> usize
+    ensures { λ r. ⌜ r ≡ min (suc maxTerms) x ⌝ }
+{
+    if MAX_TERMS < x { MAX_TERMS + 1 } else { x }
+}
+
+// The bound of the cover of a node above kind 3, of an and, an or by those of its children.
+fn bound_pair(kind: u8, a: usize, b: usize) -> usize
+    requires { ⌜ (a ≤ suc maxTerms) × (b ≤ suc maxTerms) ⌝ }
+    ensures { λ r. ⌜ ((n p : ℕ) (f g : Formula) → a ≡ coverBound f → b ≡ coverBound g → r ≡ coverBound (build kind n p f g)) ⌝ }
+{
+    if kind == formula::AND {
+        return clip(a * b);
+    }
+    if kind == formula::OR {
+        return clip(a + b);
+    }
+    1
+}
+
+// The bound of the cover of node n, how many sets it has at most, by the bounds of the nodes below n.
+fn cover_bound(rule: &[u8], n: usize, bounds: &[usize; formula::MAX_NODES]) -> usize
+    requires { ⌜ Ready (now rule) n × BoundedBelow (now rule) n (now bounds) ⌝ }
+    ensures { λ r. ⌜ r ≡ coverBound (tree (now (rule .entry)) n) ⌝ }
+{
+    let kind = formula::kind_of(rule, n);
+    if kind < formula::AND {
+        return 1;
+    }
+    let a = bounds[formula::left_of(rule, n)];
+    let b = bounds[formula::right_of(rule, n)];
+    bound_pair(kind, a, b)
+}
+
+// The bounds of the covers of all n nodes.
+fn cover_bounds(rule: &[u8], n: usize) -> [usize; formula::MAX_NODES]
+    requires { ⌜ (n ≡ nodeCount (now rule)) × (Rule.checked (now rule) ≡ fine) ⌝ }
+    ensures { λ r. ⌜ BoundedBelow (now (rule .entry)) n r ⌝ }
+{
+    let mut bounds = [0usize; formula::MAX_NODES];
+    let mut i = 0;
+    while i < n {
+        bounds[i] = cover_bound(rule, i, &bounds);
+        i += 1;
+    }
+    bounds
+}
+
+// 20 for node n, the nodes below which are no 20. Its cover is worked out only where the bound does not settle it.
+fn check_size(rule: &[u8], n: usize, table: &[u64], bound: usize) -> Checked
+    requires { ⌜ Ready (now rule) n × (lowest (sizeCheck (now rule)) n ≡ fine) × (length (now table) ≡ tablePlaces) × Kept (now rule) (now table) n × (bound ≡ coverBound (tree (now rule) n)) ⌝ }
     ensures { λ r. ⌜ answer r ≡ sizeCheck (now (rule .entry)) n ⌝ }
 {
-    let terms = terms_of(rule, n);
-    let count = terms.count;
-    if MAX_TERMS < count {
+    let terms = table[n * ROW_PLACES] as usize;
+    if MAX_TERMS < terms {
         return Checked::Refused(TOO_MANY_TERMS, n);
+    }
+    if bound <= MAX_TERMS {
+        return Checked::Accepted;
     }
     let cover = cover_of(rule, n);
     let sets = cover.count;
@@ -246,13 +353,14 @@ fn check_size(rule: &[u8], n: usize) -> Checked
 }
 
 // 20 for all n nodes.
-pub fn check_sizes(rule: &[u8], n: usize) -> Checked
-    requires { ⌜ (n ≡ nodeCount (now rule)) × (Rule.checked (now rule) ≡ fine) ⌝ }
+fn check_sizes(rule: &[u8], n: usize, table: &[u64]) -> Checked
+    requires { ⌜ (n ≡ nodeCount (now rule)) × (Rule.checked (now rule) ≡ fine) × (length (now table) ≡ tablePlaces) × ((k : ℕ) → k < n → Kept (now rule) (now table) k) ⌝ }
     ensures { λ r. ⌜ answer r ≡ lowest (sizeCheck (now (rule .entry))) n ⌝ }
 {
+    let bounds = cover_bounds(rule, n);
     let mut i = 0;
     while i < n {
-        let size = check_size(rule, i);
+        let size = check_size(rule, i, table, bounds[i]);
         if let Checked::Refused(number, place) = size {
             return Checked::Refused(number, place);
         }
@@ -261,13 +369,21 @@ pub fn check_sizes(rule: &[u8], n: usize) -> Checked
     Checked::Accepted
 }
 
-// Refusals 1 to 7 and 20 of any bytes.
-pub fn check(rule: &[u8]) -> Checked
-    ensures { λ r. ⌜ answer r ≡ checked (now (rule .entry)) ⌝ }
+// The terms of all nodes in the table, or 20 at the lowest node that has too many.
+pub fn tabulate(rule: &[u8], table: &mut [u64]) -> Checked
+    requires { ⌜ (Rule.checked (now rule) ≡ fine) × (length (now table) ≡ tablePlaces) ⌝ }
+    ensures { λ r. ⌜ answer r ≡ lowest (sizeCheck (now (rule .entry))) (nodeCount (now (rule .entry))) ⌝ }
+    ensures { λ r. ⌜ (answer r ≡ fine → Rows (now (rule .entry)) (now (table .exit)) (nodeCount (now (rule .entry)))) ⌝ }
 {
-    let bytes = formula::check(rule);
-    if let Checked::Refused(number, place) = bytes {
-        return Checked::Refused(number, place);
-    }
-    check_sizes(rule, rule.len() / 3)
+    let n = rule.len() / 3;
+    keep_terms(rule, n - 1, table);
+    check_sizes(rule, n, table)
+}
+
+// The cover of the root: the sets of obligations that the walk begins with.
+pub fn root_cover(rule: &[u8]) -> Terms
+    requires { ⌜ checked (now rule) ≡ fine ⌝ }
+    ensures { λ r. ⌜ IsCover r (cover (formula (now (rule .entry)))) ⌝ }
+{
+    cover_of(rule, rule.len() / 3 - 1)
 }

@@ -12,7 +12,8 @@ use Rattle.formula.proofs.left_of.Reads as left-of-reads
 use Rattle.formula.proofs.right_of.Reads as right-of-reads
 use Rattle.term.specs.Term.{cover}
 use Rattle.term.specs.Packed.{IsCover}
-use Rattle.term.proofs.Sizes.{own-node, ready-small, ready-below, cover-fits}
+use Rattle.term.proofs.Sizes.{own-node, ready-small, ready-below}
+use Rattle.term.proofs.Descending.{found-cover, pair-cover}
 use Rattle.term.proofs.cover_of.Reads as cover-of
 use Rattle.term.proofs.cover_of.Kinds as cover-of-kinds
 use Rattle.term.proofs.+cover_of.Lts-cover_of as cover-of-lts
@@ -46,7 +47,7 @@ cover-of-returns : (t : ℕ) → cover-of-lts.Need-returns (claims t) (cover-of-
 cover-of-returns t c =
     let k = c .before .before in
     let ready = k .before .before .pre .1 in
-    leaf-in _ _ (ready .inside) (own-node _ _ ready) (λ f. IsCover (c .cover-leaf .result) (cover f)) _ (k .kind-of .ensures) _ refl (c .cover-leaf .ensures _)
+    found-cover _ _ (leaf-in _ _ (ready .inside) (own-node _ _ ready) (λ f. IsCover (c .cover-leaf .result) (cover f)) _ (k .kind-of .ensures) _ refl (c .cover-leaf .ensures _))
 
 cover-of-cover-leaf-requires-2 : (t : ℕ) → cover-of-lts.Need-cover-leaf-requires-2 (claims t) (cover-of-at t) cover-of.Post
 cover-of-cover-leaf-requires-2 t c κs =
@@ -57,7 +58,7 @@ cover-of-returns-2 : (t : ℕ) → cover-of-lts.Need-returns-2 (claims t) (cover
 cover-of-returns-2 t c =
     let k = c .before .before .before in
     let ready = k .before .before .pre .1 in
-    leaf-in _ _ (ready .inside) (own-node _ _ ready) (λ f. IsCover (c .cover-leaf2 .result) (cover f)) _ (k .kind-of .ensures) _ refl (c .cover-leaf2 .ensures _)
+    found-cover _ _ (leaf-in _ _ (ready .inside) (own-node _ _ ready) (λ f. IsCover (c .cover-leaf2 .result) (cover f)) _ (k .kind-of .ensures) _ refl (c .cover-leaf2 .ensures _))
 
 cover-of-left-of-requires : (t : ℕ) → cover-of-lts.Need-left-of-requires (claims t) (cover-of-at t) cover-of.Post
 cover-of-left-of-requires t c κs = search needs
@@ -80,14 +81,7 @@ cover-of-cover-of-requires-2 t c κs =
     (omega arith, ready-below _ _ ready _ b)
 
 cover-of-cover-pair-requires : (t : ℕ) → cover-of-lts.Need-cover-pair-requires (claims t) (cover-of-at t) cover-of.Post
-cover-of-cover-pair-requires t c κs =
-    let l = c .before .before in
-    let k = l .before .before .before .before in
-    let ready = k .before .before .pre .1 in
-    let node = own-node _ _ ready in
-    let bl = left-below _ _ (ready .inside) node _ (k .kind-of .ensures) (omega arith) _ (l .before .left-of .ensures) in
-    let br = right-below _ _ (ready .inside) node _ (k .kind-of .ensures) (omega arith) _ (c .before .right-of .ensures) in
-    (cover-fits _ _ ready _ bl (l .cover-of .ensures), cover-fits _ _ ready _ br (c .cover-of2 .ensures), omega arith, omega arith)
+cover-of-cover-pair-requires t c κs = search needs
 
 cover-of-returns-3 : (t : ℕ) → cover-of-lts.Need-returns-3 (claims t) (cover-of-at t) cover-of.Post
 cover-of-returns-3 t c =
@@ -95,8 +89,13 @@ cover-of-returns-3 t c =
     let l = r .before .before in
     let k = l .before .before .before .before in
     let ready = k .before .before .pre .1 in
-    pair-in _ _ (ready .inside) (own-node _ _ ready) (λ f. IsCover (c .cover-pair .result) (cover f)) _ (k .kind-of .ensures) _ _ (l .before .left-of .ensures) (r .before .right-of .ensures) (omega arith)
-    (c .cover-pair .ensures _ _ _ _ (l .cover-of .ensures) (r .cover-of2 .ensures))
+    let node = own-node _ _ ready in
+    let bl = left-below _ _ (ready .inside) node _ (k .kind-of .ensures) (omega arith) _ (l .before .left-of .ensures) in
+    let br = right-below _ _ (ready .inside) node _ (k .kind-of .ensures) (omega arith) _ (r .before .right-of .ensures) in
+    pair-cover _ _ _ _ bl br (c .cover-pair .ensures .0) (l .cover-of .ensures) (r .cover-of2 .ensures)
+    (λ p q a b.
+    pair-in _ _ (ready .inside) node (λ f. IsCover (c .cover-pair .result) (cover f)) _ (k .kind-of .ensures) _ _ (l .before .left-of .ensures) (r .before .right-of .ensures) (omega arith)
+    (c .cover-pair .ensures .1 p q _ _ _ _ a b))
 
 pub +cover-of-spec : {M : Type 1} → statement M
 +cover-of-spec = close μ-cover-of λ t. cover-of-lts.spec (claims t)

@@ -1,4 +1,4 @@
--- `term::cover_pair` meets its contract: packing carries unions over.
+-- `term::cover_pair` meets its contract: packing carries unions over, and what is over is handed on.
 -- Assumes nothing.
 use borrow.Author.Needs.{needs}
 use native.Mathlib.Omega.{arith}
@@ -6,17 +6,28 @@ use Rattle.term.proofs.ByKind.{cover-and, cover-or}
 use Rattle.term.proofs.cover_pair.Statement.{statement}
 use Rattle.term.proofs.cover_pair.Tie as tie
 
+returns : tie.Need-returns
+returns c = (λ le. absurd (omega arith), λ p. absurd (omega arith))
+
+returns-2 : tie.Need-returns-2
+returns-2 c = (λ le. absurd (omega arith), λ p q. absurd (omega arith))
+
 product-requires : tie.Need-product-requires
 product-requires c κs = search needs
 
 union-requires : tie.Need-union-requires
 union-requires c κs = search needs
 
-returns : tie.Need-returns
-returns c = λ n m f g a b. rw (cover-and n m f g _ (c .before .if1 .taken)) (c .product .ensures _ _ a b)
+returns-3 : tie.Need-returns-3
+returns-3 c =
+    let e = c .before .before in
+    (λ le. (e .before .if1 .left, e .if2 .left), λ p q n m f g a b. rw (cover-and n m f g _ (c .before .if3 .taken)) (c .product .ensures _ _ a b))
 
-returns-2 : tie.Need-returns-2
-returns-2 c = λ n m f g a b. rw (cover-or n m f g (c .before .before .args .kind) (omega arith)) (c .union .ensures _ _ a b)
+returns-4 : tie.Need-returns-4
+returns-4 c =
+    let e = c .before .before in
+    (λ le. (e .before .if1 .left, e .if2 .left), λ p q n m f g a b. rw (cover-or n m f g (e .before .before .args .kind) (omega arith)) (c .union .ensures _ _ a b))
 
 pub cover-pair-spec : {M : Type 1} → statement M
-cover-pair-spec = tie.close (tie.spec product-requires union-requires returns returns-2)
+cover-pair-spec =
+    tie.close (tie.spec returns returns-2 product-requires union-requires returns-3 returns-4)

@@ -3,6 +3,7 @@
 use borrow.Author.Needs.{needs}
 use native.Mathlib.Omega.{arith}
 use lib.Pow.{pow-lt}
+use Rattle.formula.specs.Limits.{maxNodes}
 use Rattle.term.proofs.owe.Statement.{statement}
 use Rattle.term.proofs.owe.Tie as tie
 
@@ -10,7 +11,7 @@ bit-requires : tie.Need-bit-requires
 bit-requires c κs = search needs
 
 mul-result : tie.Need-mul-result
-mul-result c = record { fits = omega (arith, c .bit .ensures, pow-lt {j = 32} (c .before .pre)) }
+mul-result c = record { fits = omega (arith, c .bit .ensures, pow-lt {j = maxNodes} (c .before .pre)) }
 
 returns : tie.Need-returns
 returns c = search needs

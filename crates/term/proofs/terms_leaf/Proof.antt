@@ -2,6 +2,7 @@
 -- Assumes nothing.
 use borrow.Author.Needs.{needs}
 use native.Mathlib.Omega.{arith}
+use Rattle.formula.specs.Limits.{propositions}
 use Rattle.term.proofs.ByKind.{of-false, of-true, of-proposition, of-negated-proposition}
 use lib.Pow.{pow-lt}
 use Rattle.term.proofs.terms_leaf.Statement.{statement}
@@ -23,7 +24,7 @@ bit-requires : tie.Need-bit-requires
 bit-requires c κs = omega (arith, c .before .before .before .pre .1 (omega arith))
 
 mul-one : tie.Need-mul-one
-mul-one c = record { fits = omega (arith, c .bit .ensures, pow-lt {j = 8} (c .before .before .before .before .pre .1 (omega arith))) }
+mul-one c = record { fits = omega (arith, c .bit .ensures, pow-lt {j = propositions} (c .before .before .before .before .pre .1 (omega arith))) }
 
 one-requires-2 : tie.Need-one-requires-2
 one-requires-2 c κs = search needs

@@ -1,0 +1,37 @@
+-- `term::tabulate` meets its contract: the descent from the root keeps the rows of all nodes, then 20 is looked for.
+-- Assumes nothing.
+use borrow.Author.Needs.{needs}
+use native.Mathlib.Omega.{arith}
+use mathlib.Core.Path.{refl, sym, _∙_}
+use Rattle.formula.proofs.Accepted.{accepted-fine}
+use Rattle.term.proofs.Sizes.{root-ready}
+use Rattle.term.proofs.Reached.{reached-whole}
+use Rattle.term.proofs.Keeping.{rows-fine}
+use Rattle.term.proofs.tabulate.Statement.{statement}
+use Rattle.term.proofs.tabulate.Tie as tie
+
+sub-keep-terms : tie.Need-sub-keep-terms
+sub-keep-terms c = omega (arith, accepted-fine _ (c .before .before .pre .0) .some)
+
+keep-terms-requires : tie.Need-keep-terms-requires
+keep-terms-requires c κs = (root-ready _ (c .before .before .before .pre .0), search needs)
+
+check-sizes-requires : tie.Need-check-sizes-requires
+check-sizes-requires c κs =
+    let k = c .before .before .before in
+    let s = k .before .before .before .before in
+    (refl, s .pre .0, search needs, λ j lt. k .keep-terms .ensures .reached j (reached-whole _ (s .pre .0) j lt))
+
+same-length : tie.Need-same-length
+same-length c = search needs
+
+returns : tie.Need-returns
+returns c =
+    let k = c .before .before .before .before in
+    let s = k .before .before .before .before in
+    (c .check-sizes .ensures, λ e. rows-fine _ _ _ (λ j lt. k .keep-terms .ensures .reached j (reached-whole _ (s .pre .0) j lt)) (sym (c .check-sizes .ensures) ∙ e))
+
+pub tabulate-spec : {M : Type 1} → statement M
+tabulate-spec =
+    tie.close
+    (tie.spec sub-keep-terms keep-terms-requires check-sizes-requires same-length returns)
