@@ -92,7 +92,7 @@ fn fulfils_node(table: &[u64], f: usize, t: u64) -> bool
     requires { ⌜ (f < maxNodes) × (f * rowPlaces + 1 + getD (now table) (f * rowPlaces) 0 ≤ length (now table)) ⌝ }
     ensures { λ r. ⌜ r ≡ fulfilsN f (rowOf (now (table .entry)) f) t ⌝ }
 {
-    let row = f * (term::MAX_TERMS + 1);
+    let row = f * term::ROW_PLACES;
     let count = table[row] as usize;
     let from = row + 1;
     fulfils(f, &table[from..from + count], t)

@@ -12,13 +12,14 @@ use Rattle.sets.specs.Sets.{In}
 use Rattle.sets.proofs.Members.{append-in}
 use Rattle.term.specs.Term.{Term}
 use Rattle.term.specs.Size.{checked}
+use Rattle.term.proofs.Sizes.{bytes-fine}
 use Rattle.term.proofs.Packing.{Numbers, none, more, Bytes, of-terms}
 use Rattle.acceptance.specs.Acceptance.{fulfilment}
 use Rattle.acceptance.proofs.Bits.{fulfilment-byte}
 use Rattle.generalized.specs.Explore.{find}
 use Rattle.generalized.specs.Generalized.{transitions}
 use Rattle.generalized.specs.Memory.{kept, keptTarget, keptUntils, keptMust, keptMustNot, allTransitions}
-use Rattle.generalized.proofs.Passed.{bytes, in-range}
+use Rattle.generalized.proofs.Passed.{in-range}
 use Rattle.generalized.proofs.Products.{partial-packed}
 
 numbers-bytes : {ts : List Term} {ns : List ℕ} → Numbers of-terms ts ns → (t : Term) → In t ts → Bytes t
@@ -42,7 +43,7 @@ pub record Parts (rule states : List ℕ) (t : Term) : Type 0 where
 pub kept-parts : (rule : List ℕ) → checked rule ≡ fine → (xs states : List ℕ) (t : Term) → In t (allTransitions rule xs) → Parts rule states t
 kept-parts rule passed xs states t h =
     let small = all-bytes rule passed xs t h in
-    let byte = fulfilment-byte rule (bytes rule passed) t in
+    let byte = fulfilment-byte rule (bytes-fine rule passed) t in
     record {
       target = omega (arith, small .must, small .mustNot, byte);
       untils = omega (arith, small .must, small .mustNot, byte);

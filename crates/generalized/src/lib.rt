@@ -134,7 +134,7 @@ fn times(table: &[u64], k: usize, product: &mut [u64], count: usize, next: &mut 
     requires { ⌜ (k < maxNodes) × (count ≤ maxProduct) × (length (now product) ≡ maxProduct) × (length (now next) ≡ maxProduct) × Factor (now table) k ⌝ }
     ensures { λ r. ⌜ Stores (now (product .exit)) r (insertProductN (take count (now (product .entry))) (rowOf (now (table .entry)) k) []) ⌝ }
 {
-    let row = k * (term::MAX_TERMS + 1);
+    let row = k * term::ROW_PLACES;
     let n = table[row] as usize;
     let from = row + 1;
     // a product with the one term 0 is the other factor
@@ -243,7 +243,7 @@ fn start(rule: &[u8], states: &mut [u64]) -> usize
     requires { ⌜ (checked (now rule) ≡ fine) × (length (now states) ≡ maxGeneralizedStates) ⌝ }
     ensures { λ r. ⌜ (take r (now (states .exit)) ≡ cover (formula (now (rule .entry)))) × (r ≤ maxTerms) ⌝ }
 {
-    let sets = term::cover_of(rule, rule.len() / 3 - 1);
+    let sets = term::root_cover(rule);
     let count = sets.count;
     let mut i = 0;
     while i < count {

@@ -20,9 +20,6 @@ part table f t n is e =
     let count : f * rowPlaces + 1 + n - (f * rowPlaces + 1) ≡ getD table (f * rowPlaces) 0 = omega arith in
     rw (count, from) at is
 
-add-row : tie.Need-add-row
-add-row c = search needs
-
 mul-row : tie.Need-mul-row
 mul-row c = search needs
 
@@ -62,7 +59,6 @@ pub fulfils-node-spec : {M : Type 1} → statement M
 fulfils-node-spec =
     tie.close
     (tie.spec
-    add-row
     mul-row
     mul-count
     shared-slice-read-count

@@ -49,9 +49,6 @@ module _ (table : List ℕ) (k n : ℕ) (factor : Factor table k) (is : n ≡ ge
     back le e =
         rw (← row) (front (take more next) product more (omega arith) (length-take-le more next (omega arith)) (items-are h (omega arith)) e)
 
-add-row : tie.Need-add-row
-add-row c = search needs
-
 mul-row : tie.Need-mul-row
 mul-row c = search needs
 
@@ -146,7 +143,6 @@ pub times-spec : {M : Type 1} → statement M
 times-spec =
     tie.close
     (tie.spec
-    add-row
     mul-row
     mul-n
     shared-slice-read-n

@@ -5,7 +5,7 @@ use native.Mathlib.Omega.{arith}
 use Prim.Native.Nat.{_-_}
 use mathlib.Core.Path.{_∙_}
 use Rattle.generalized.specs.Limits.{maxGeneralizedStates}
-use Rattle.generalized.proofs.Passed.{bytes}
+use Rattle.term.proofs.Sizes.{bytes-fine}
 use Rattle.generalized.proofs.Walking.{Walking, walk-begins, walk-refused, walk-steps, walk-ends}
 use Rattle.generalized.proofs.walk.Statement.{statement}
 use Rattle.generalized.proofs.walk.Tie as tie
@@ -17,7 +17,7 @@ abbrev μ-loop : tie.MeasureT-loop
 μ-loop rule table states₀ transitions₀ ends₀ untils initial size₀ place₀ states transitions ends size place = maxGeneralizedStates - place .0
 
 untils-of-requires : tie.Need-untils-of-requires Inv-loop μ-loop
-untils-of-requires c κs = bytes _ (c .before .before .before .before .before .pre .0)
+untils-of-requires c κs = bytes-fine _ (c .before .before .before .before .before .pre .0)
 
 start-requires : tie.Need-start-requires Inv-loop μ-loop
 start-requires c κs =
@@ -35,7 +35,7 @@ walk-state-requires c κs =
     let at = c .before .before .before .before .before in
     let untils = at .before .before .before .before .before in
     let s = untils .before .before .before .before .before .before in
-    (s .pre .0, record { accepted = bytes _ (s .pre .0); places = s .pre .1; rows = s .pre .2; untils = untils .untils-of .ensures }, c .before .before .if1 .taken, at .loop .inv .room)
+    (s .pre .0, record { accepted = bytes-fine _ (s .pre .0); places = s .pre .1; rows = s .pre .2; untils = untils .untils-of .ensures }, c .before .before .if1 .taken, at .loop .inv .room)
 
 enum-known-step : tie.Need-enum-known-step Inv-loop μ-loop
 enum-known-step c = search needs
