@@ -1,4 +1,4 @@
 -- What the proofs of several functions, and of the crates above, cite.
-pub mod Untils
-pub mod Fulfilment
-pub mod Rows
+pub mod Gathering
+pub mod Tests
+pub mod Bits

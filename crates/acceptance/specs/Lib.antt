@@ -1,3 +1,3 @@
--- Which transitions of the first walk fulfil which until: the generalized automaton's acceptance sets.
+-- Which untils of a rule a term fulfils, and how that lies in memory.
 pub mod Acceptance
-pub mod Marks
+pub mod Memory

@@ -70,3 +70,15 @@ pub fn copy(target: &mut [u8], source: &[u8], n: usize)
         k += 1;
     }
 }
+
+// The first n words of source in the first places of target.
+pub fn copy_words(target: &mut [u64], source: &[u64], n: usize)
+    requires { ⌜ (n ≤ length (now target)) × (n ≤ length (now source)) ⌝ }
+    ensures { λ _. ⌜ now (target .exit) ≡ take n (now (source .entry)) ++ drop n (now (target .entry)) ⌝ }
+{
+    let mut i = 0;
+    while i < n {
+        target[i] = source[i];
+        i += 1;
+    }
+}

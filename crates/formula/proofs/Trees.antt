@@ -7,10 +7,11 @@ use native.Mathlib.Decide.{decLt}
 use native.Mathlib.Omega.{arith}
 use lib.ListN.{length, getD, take, length-append}
 use lib.Seq.{getD-take, take-append-le, take-take, take-all, getD-append-seam}
+use Rattle.answer.specs.Result.{fine}
 use Rattle.formula.specs.Limits.{propositions}
-use Rattle.formula.specs.Rule.{nodeCount, kindAt, leftAt, rightAt}
+use Rattle.formula.specs.Rule.{nodeCount, kindAt, leftAt, rightAt, checked}
 use Rattle.formula.specs.Formula.{Formula, bottom, proposition, build, trees, tree, InRange}
-use Rattle.formula.proofs.Accepted.{Node}
+use Rattle.formula.proofs.Accepted.{Node, accepted-fine}
 
 -- the trees below stay
 kept : (rest : List ℕ) (below : List Formula) → take (length below) (trees below rest) ≡ below
@@ -107,3 +108,6 @@ in-range-to rule (suc bound) n lt inside nodes =
 -- the tree of node n has no other propositions than there are, if 3 to 5 let all nodes up to n pass
 pub tree-in-range : (rule : List ℕ) (n : ℕ) → n < nodeCount rule → ((k : ℕ) → k ≤ n → Node rule k) → InRange (tree rule n)
 tree-in-range rule n inside nodes = in-range-to rule (suc n) n (omega arith) inside nodes
+
+pub accepted-in-range : (rule : List ℕ) → checked rule ≡ fine → (n : ℕ) → n < nodeCount rule → InRange (tree rule n)
+accepted-in-range rule passed n inside = tree-in-range rule n inside (λ k le. accepted-fine rule passed .nodes k (omega arith))

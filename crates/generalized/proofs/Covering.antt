@@ -1,4 +1,5 @@
 -- The root's cover, put into the table as the first states.
+-- Assumes nothing.
 use mathlib.Core.Path.{_≡_, refl, sym, ap, _∙_}
 use mathlib.Core.List.{List, [], _∷_, map, map-append}
 use Prim.Native.Nat.{ℕ, _+_, _≤_, _<_}
@@ -7,9 +8,10 @@ use native.Mathlib.Omega.{arith}
 use lib.ListN.{length, getD, take, set, length-map, length-set}
 use lib.Seq.{take-suc, take-suc-set}
 use Rattle.term.specs.declared.Terms.{Terms}
-use Rattle.term.specs.Packed.{packSet, IsCover}
+use Rattle.term.specs.Limits.{maxTerms}
+use Rattle.term.specs.Packed.{packSet, obligationsN, IsCover}
 use Rattle.term.proofs.Carries.{carried}
-use Rattle.generalized.specs.Memory.{obligationsN}
+use Rattle.generalized.specs.Limits.{maxGeneralizedStates}
 
 unpacked : (cs : List ℕ) → map obligationsN (map packSet cs) ≡ cs
 unpacked [] = refl
@@ -20,19 +22,19 @@ unpacked (c ∷ cs) =
 -- a loop that puts the cover cs, packed in sets, into states and stands at i
 pub record Covering (cs : List ℕ) (sets : Terms) (states : List ℕ) (i : ℕ) : Type 0 where
   pub within : i ≤ sets .count
-  pub few : sets .count ≤ 64
+  pub few : sets .count ≤ maxTerms
   pub is : take (sets .count) (sets .items) ≡ map packSet cs
-  pub room : length states ≡ 128
+  pub room : length states ≡ maxGeneralizedStates
   pub listed : take i states ≡ map obligationsN (take i (sets .items))
 
 module _ (cs : List ℕ) (sets : Terms) (states : List ℕ) where
-  pub cover-begins : IsCover sets cs → length cs ≤ 64 → length states ≡ 128 → Covering cs sets states 0
+  pub cover-begins : IsCover sets cs → length cs ≤ maxTerms → length states ≡ maxGeneralizedStates → Covering cs sets states 0
   cover-begins is few room =
-      let fits : sets .count ≤ 64 = omega (arith, is .count, length-map cs packSet) in
+      let fits : sets .count ≤ maxTerms = omega (arith, is .count, length-map cs packSet) in
       record { within = omega arith; few = fits; is = carried is fits; room = room; listed = refl }
 
   module _ (i : ℕ) (inv : Covering cs sets states i) where
-    pub cover-steps : length (sets .items) ≡ 64 → i < sets .count → Covering cs sets (set states i (obligationsN (getD (sets .items) i 0))) (i + 1)
+    pub cover-steps : length (sets .items) ≡ maxTerms → i < sets .count → Covering cs sets (set states i (obligationsN (getD (sets .items) i 0))) (i + 1)
     cover-steps places lt = record {
       within = omega arith;
       few = inv .few;

@@ -3,8 +3,9 @@ pub mod Lists
 pub mod Exploring
 pub mod Explored
 pub mod Passed
-pub mod Table
+pub mod Numbers
 pub mod Products
 pub mod Meeting
 pub mod Covering
 pub mod Walking
+pub mod Kept

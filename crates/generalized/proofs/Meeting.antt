@@ -1,97 +1,123 @@
--- A loop that meets the targets of a state one after another and adds its transitions to the table.
-use mathlib.Core.Path.{_≡_, sym, _∙_}
-use mathlib.Core.List.{List, [], _∷_, _++_, map, append-nil, append-assoc}
+-- A loop that meets the targets of a state one after another and puts its transitions into the table.
+-- Assumes nothing.
+use mathlib.Core.Path.{_≡_, refl, sym, ap, _∙_}
+use mathlib.Core.List.{List, [], _∷_, map, map-append}
 use Prim.Native.Nat.{ℕ, suc, _+_, _≤_, _<_}
 use native.Mathlib.Nat.{add-zero}
 use native.Mathlib.Numerals.{add-one}
 use native.Mathlib.Omega.{arith}
-use lib.ListN.{length, getD, take, drop, set, length-append, length-set, drop-of-length-le}
-use lib.Seq.{length-take-le, take-suc, take-suc-set}
+use lib.ListN.{length, getD, take, drop, set, length-drop, length-map, length-set, drop-of-length-le}
+use lib.Seq.{getD-take, length-take-le, take-suc, take-suc-set, take-set-le, drop-set-add}
 use lib.Dec.{eqb}
 use borrow.Author.Tests.{lt-ltb, le-ltb}
-use Rattle.answer.specs.Result.{Result, refused, fine}
+use Rattle.answer.specs.Result.{refused, fine}
+use Rattle.sets.proofs.Members.{map-at}
+use Rattle.term.specs.Term.{term}
+use Rattle.term.specs.Packed.{obligationsN, unpack}
+use Rattle.acceptance.specs.Acceptance.{fulfilment}
+use Rattle.generalized.specs.Limits.{maxGeneralizedStates, maxGeneralizedTransitions}
 use Rattle.generalized.specs.declared.Met.{Met}
-use Rattle.generalized.specs.declared.Met.the-variants.{Count, Full}
-use Rattle.generalized.specs.declared.Walked.the-variants.{Counts}
-use Rattle.generalized.specs.Explore.{meet, meetAll}
+use Rattle.generalized.specs.declared.Met.the-variants.{Number, Full}
+use Rattle.generalized.specs.Explore.{meet}
 use Rattle.generalized.specs.Generalized.{transitionCheck}
-use Rattle.generalized.specs.Memory.{obligationsN, Meets, Adds}
+use Rattle.generalized.specs.Memory.{keptN, kept, Listed, Numbered, Meets, Room, meetTargets, Added}
 use Rattle.generalized.proofs.Lists.{drop-next}
 use Rattle.generalized.proofs.Exploring.{all-refused, all-full, all-next, all-met}
+use Rattle.generalized.proofs.Numbers.{listed-on, listed-none, listed-one, listed-both}
 
--- the targets of the transitions ws of the state at place, met when total transitions and the states xs are there
-abbrev pub meetTargets : (place : ℕ) (ws : List ℕ) (total : ℕ) (xs : List ℕ) → Result (List ℕ)
-meetTargets place ws total xs = meetAll eqb 128 23 transitionCheck place (map obligationsN ws) total xs
+-- the first count of bytes tell which untils of a rule the first count of ts fulfil
+abbrev Told : (rule ts bytes : List ℕ) (count : ℕ) → Type 0
+Told rule ts bytes count = take count bytes ≡ map (fulfilment rule) (map unpack (take count ts))
 
--- a loop over the first count of items that stands at i: the rest of them, met now, comes to what all come to, and
--- those before i are in the table
-pub record Meeting (items : List ℕ) (count place : ℕ) (states₀ : List ℕ) (n : ℕ) (terms₀ : List ℕ) (total : ℕ) (states terms : List ℕ) (seen i : ℕ) : Type 0 where
+-- a loop over the first count of ts that stands at i: the rest of them, met now, comes to what all come to, and those
+-- before i are in the table behind the total that were there before
+pub record Meeting (ts bytes : List ℕ) (count place : ℕ) (states₀ : List ℕ) (n : ℕ) (before : List ℕ) (total : ℕ) (states transitions : List ℕ) (seen i : ℕ) : Type 0 where
   pub within : i ≤ count
-  pub few : count ≤ length items
-  pub numbers : length states ≡ 128
-  pub seen-fits : seen ≤ 128
-  pub begun : total ≤ length terms₀
-  pub room : length terms ≡ 1024
-  pub fits : total + i ≤ 1024
-  pub left : meetTargets place (drop i (take count items)) (total + i) (take seen states) ≡ meetTargets place (take count items) total (take n states₀)
-  pub listed : take (total + i) terms ≡ take total terms₀ ++ take i items
+  pub room : Room seen (total + i) states transitions
+  pub left : meetTargets place (map unpack (drop i (take count ts))) (total + i) (take seen states) ≡ meetTargets place (map unpack (take count ts)) total (take n states₀)
+  pub same : take total transitions ≡ take total before
+  pub listed : (rule : List ℕ) → Told rule ts bytes count → Listed rule (take seen states) (map unpack (take i ts)) (take i (drop total transitions))
 
-module _ (items : List ℕ) (count place : ℕ) (states₀ : List ℕ) (n : ℕ) (terms₀ : List ℕ) (total : ℕ) where
-  pub meeting-begins : count ≤ length items → length states₀ ≡ 128 → n ≤ 128 → length terms₀ ≡ 1024 → total ≤ 1024
-      → Meeting items count place states₀ n terms₀ total states₀ terms₀ n 0
-  meeting-begins few numbers fits room begun = record {
+module _ (ts bytes : List ℕ) (count place : ℕ) (states₀ : List ℕ) (n : ℕ) (before : List ℕ) (total : ℕ) where
+  pub meeting-begins : Room n total states₀ before → Meeting ts bytes count place states₀ n before total states₀ before n 0
+  meeting-begins room = record {
     within = omega arith;
-    few = few;
-    numbers = numbers;
-    seen-fits = fits;
-    begun = omega arith;
-    room = room;
-    fits = omega arith;
+    room = rw add-zero room;
     left = rw add-zero;
-    listed = rw (add-zero, append-nil);
+    same = refl;
+    listed = λ rule told. listed-none;
   }
 
-  module _ (states terms : List ℕ) (seen i : ℕ) (inv : Meeting items count place states₀ n terms₀ total states terms seen i) where
-    pub meeting-ends : count ≤ i → Adds (meetTargets place (take count items) total (take n states₀)) (take total terms₀ ++ take count items) (Counts seen (total + count)) states terms
-    meeting-ends ge =
+  module _ (few : count ≤ length ts) (states transitions : List ℕ) (seen i : ℕ) (inv : Meeting ts bytes count place states₀ n before total states transitions seen i) where
+    pub meeting-ends : count ≤ i → (rule : List ℕ) → Told rule ts bytes count
+        → Added rule (map unpack (take count ts)) total before (meetTargets place (map unpack (take count ts)) total (take n states₀)) seen (total + count) states transitions
+    meeting-ends ge rule told =
         let same : i ≡ count = omega (arith, inv .within) in
-        let size : length (take count items) ≡ count = length-take-le count items (inv .few) in
-        let none : drop i (take count items) ≡ [] = drop-of-length-le (take count items) {i = i} (omega arith) in
-        let left = rw none at (inv .left) in (
-          sym left ∙ all-met eqb 128 23 transitionCheck place (total + i) (take seen states),
-          inv .seen-fits,
-          rw length-append (omega (arith, length-take-le total terms₀ (inv .begun))),
-          omega (arith, inv .fits),
-          rw same at (inv .listed),
-        )
+        let size : length (take count ts) ≡ count = length-take-le count ts few in
+        let none : drop i (take count ts) ≡ [] = drop-of-length-le (take count ts) {i = i} (omega arith) in
+        let left = rw none at (inv .left) in
+        let all : length (map unpack (take count ts)) ≡ count = length-map (take count ts) unpack ∙ size in
+        record {
+          are = sym left ∙ all-met eqb maxGeneralizedStates 23 transitionCheck place (total + i) (take seen states);
+          few = inv .room .few;
+          counted = rw all;
+          fits = omega (arith, inv .room .fits);
+          same = inv .same;
+          listed = rw all (rw same at (inv .listed rule told));
+        }
 
     module _ (lt : i < count) where
-      left-is : meetTargets place (getD items i 0 ∷ drop (suc i) (take count items)) (total + i) (take seen states) ≡ meetTargets place (take count items) total (take n states₀)
-      left-is = rw (drop-next 0 items count i (inv .few) lt) at (inv .left)
+      abbrev t : ℕ
+      t = getD ts i 0
 
-      pub meeting-late : 1024 ≤ total + i → meetTargets place (take count items) total (take n states₀) ≡ refused 22 place
-      meeting-late ge = sym left-is ∙ all-refused eqb 128 23 transitionCheck place _ _ (total + i) (take seen states) (rw (le-ltb (total + i) 1024 ge))
+      left-is : meetTargets place (unpack t ∷ map unpack (drop (suc i) (take count ts))) (total + i) (take seen states) ≡ meetTargets place (map unpack (take count ts)) total (take n states₀)
+      left-is = rw (drop-next 0 ts count i few lt) at (inv .left)
 
-      module _ (room : total + i < 1024) (met : Met) (after : List ℕ) (meets : Meets 23 place (meet eqb (length states) 23 place (obligationsN (getD items i 0)) (take seen states)) met after) where
+      pub meeting-late : maxGeneralizedTransitions ≤ total + i → meetTargets place (map unpack (take count ts)) total (take n states₀) ≡ refused 22 place
+      meeting-late ge = sym left-is ∙ all-refused eqb maxGeneralizedStates 23 transitionCheck place _ _ (total + i) (take seen states) (rw (le-ltb (total + i) maxGeneralizedTransitions ge))
+
+      module _ (free : total + i < maxGeneralizedTransitions) (result : Met) (after : List ℕ)
+          (meets : Meets 23 place (obligationsN t) (take seen states) (meet eqb (length states) 23 place (obligationsN t) (take seen states)) result after) where
         in-time : transitionCheck place (total + i) ≡ fine
-        in-time = rw (lt-ltb (total + i) 1024 room)
+        in-time = rw (lt-ltb (total + i) maxGeneralizedTransitions free)
 
-        pub meeting-full : met ≡ Full → meetTargets place (take count items) total (take n states₀) ≡ refused 23 place
-        meeting-full e = sym left-is ∙ all-full eqb 128 23 transitionCheck place _ _ (total + i) (take seen states) in-time (rw (e, inv .numbers) at meets)
+        pub meeting-full : result ≡ Full → meetTargets place (map unpack (take count ts)) total (take n states₀) ≡ refused 23 place
+        meeting-full e = sym left-is ∙ all-full eqb maxGeneralizedStates 23 transitionCheck place _ _ (total + i) (take seen states) in-time (rw (e, inv .room .states-room) at meets)
 
-        pub meeting-steps : {more : ℕ} → met ≡ Count more → length after ≡ length states
-            → Meeting items count place states₀ n terms₀ total after (set terms (total + i) (getD items i 0)) more (i + 1)
-        meeting-steps {more} e size =
-            let known = rw (e, inv .numbers) at meets in
-            let up : total + (i + 1) ≡ suc (total + i) = omega arith in
-            record {
-              within = omega arith;
-              few = inv .few;
-              numbers = size ∙ inv .numbers;
-              seen-fits = omega (arith, known .1, inv .numbers);
-              begun = inv .begun;
-              room = length-set terms (total + i) (getD items i 0) ∙ inv .room;
-              fits = omega arith;
-              left = rw (up, add-one) (sym (all-next eqb 128 23 transitionCheck place _ _ (total + i) (take seen states) in-time (known .0)) ∙ left-is);
-              listed = rw (up, add-one, take-suc-set terms (total + i) (getD items i 0) (omega (arith, inv .room)), inv .listed, take-suc items i 0 (omega (arith, inv .few))) (append-assoc (take total terms₀) (take i items) (getD items i 0 ∷ []));
-            }
+        module _ (target more : ℕ) (told-number : result ≡ Number target more) (size : length after ≡ length states) where
+          met : Numbered (obligationsN t) (take seen states) (meet eqb (length states) 23 place (obligationsN t) (take seen states)) target more after
+          met = rw told-number at meets
+
+          pub target-small : target < maxGeneralizedStates
+          target-small = omega (arith, met .inside, met .fits, inv .room .states-room)
+
+          byte-is : count ≤ length bytes → (rule : List ℕ) → Told rule ts bytes count → getD bytes i 0 ≡ fulfilment rule (unpack t)
+          byte-is bytes-few rule told =
+              let size : length (take count ts) ≡ count = length-take-le count ts few in
+              sym (getD-take count bytes i 0 lt)
+              ∙ ap (λ (xs : List ℕ). getD xs i 0) told
+              ∙ map-at (fulfilment rule) (term 0 0 0) 0 (map unpack (take count ts)) i (omega (arith, length-map (take count ts) unpack))
+              ∙ ap (fulfilment rule) (map-at unpack 0 (term 0 0 0) (take count ts) i (omega arith) ∙ ap unpack (getD-take count ts i 0 lt))
+
+          pub meeting-steps : count ≤ length bytes → {x : ℕ} → x ≡ keptN target (getD bytes i 0) (unpack t .must) (unpack t .mustNot)
+              → Meeting ts bytes count place states₀ n before total after (set transitions (total + i) x) more (i + 1)
+          meeting-steps bytes-few {x} e =
+              let up : total + (i + 1) ≡ suc (total + i) = omega arith in
+              let here : length (take more after) ≡ more = length-take-le more after (met .fits) in
+              let known = rw (inv .room .states-room) at (met .are) in
+              record {
+                within = omega arith;
+                room = record {
+                  states-room = size ∙ inv .room .states-room;
+                  few = omega (arith, met .fits, inv .room .states-room);
+                  transitions-room = length-set transitions (total + i) x ∙ inv .room .transitions-room;
+                  fits = omega arith;
+                };
+                left = rw (up, add-one) (sym (all-next eqb maxGeneralizedStates 23 transitionCheck place _ _ (total + i) (take seen states) in-time known) ∙ left-is);
+                same = take-set-le total transitions (total + i) x (omega arith) ∙ inv .same;
+                listed = λ rule told.
+                    let is : x ≡ kept rule (take more after) (unpack t) = e ∙ rw (met .found, byte-is bytes-few rule told) in
+                    let last = listed-one {rule = rule} {xs = take more after} (unpack t) (omega (arith, here, met .found, met .inside)) in
+                    rw (add-one, drop-set-add total transitions i x, take-suc-set (drop total transitions) i x (omega (arith, length-drop total transitions, inv .room .transitions-room)), take-suc ts i 0 (omega arith), map-append unpack (take i ts) (t ∷ []), is)
+                    (listed-both (listed-on _ _ (met .first) (inv .listed rule told)) last);
+              }

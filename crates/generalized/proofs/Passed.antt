@@ -6,45 +6,36 @@ use Prim.Native.Nat.{ℕ, suc, _≤_, _<_}
 use native.Mathlib.Omega.{arith}
 use lib.ListN.{length}
 use borrow.Author.Tests.{leb-true}
-use Rattle.answer.specs.Result.{fine, lowest}
-use Rattle.formula.specs.Rule.{root, nodeCount}
-use Rattle.formula.specs.Rule
-use Rattle.formula.specs.Formula.{tree, formula, InRange}
-use Rattle.answer.proofs.Lowest.{fine-first, fine-second, lowest-each, lowest-below}
+use Rattle.answer.specs.Result.{fine}
+use Rattle.answer.proofs.Lowest.{lowest-each}
 use Rattle.answer.proofs.Results.{require-fine}
+use Rattle.formula.specs.Limits.{maxNodes}
+use Rattle.formula.specs.Rule.{nodeCount, root}
+use Rattle.formula.specs.Formula.{tree, formula, InRange}
 use Rattle.formula.proofs.Accepted.{accepted-fine}
-use Rattle.term.specs.Term.{cover}
+use Rattle.formula.proofs.Trees.{accepted-in-range}
 use Rattle.term.specs.Limits.{maxTerms}
-use Rattle.term.specs.Size.{sizeCheck, checked, Ready}
-use Rattle.term.proofs.Sizes.{Few, few-fine, ready-in-range}
+use Rattle.term.specs.Term.{cover}
+use Rattle.term.specs.Size.{sizeCheck, checked}
+use Rattle.term.proofs.Sizes.{Few, few-fine, bytes-fine, sizes-fine}
 use Rattle.generalized.specs.Limits.{maxProduct}
 use Rattle.generalized.specs.Generalized.{partialProduct, transitions, productCheck}
 
 module _ (rule : List ℕ) (passed : checked rule ≡ fine) where
-  bytes : Rule.checked rule ≡ fine
-  unfolding checked
-  bytes = fine-first (Rule.checked rule) _ passed
-
-  sizes : lowest (sizeCheck rule) (nodeCount rule) ≡ fine
-  unfolding checked
-  sizes = fine-second (Rule.checked rule) _ passed
-
   pub some-nodes : 0 < nodeCount rule
-  some-nodes = accepted-fine rule bytes .some
+  some-nodes = accepted-fine rule (bytes-fine rule passed) .some
 
-  pub most-nodes : nodeCount rule ≤ 32
-  most-nodes = omega (arith, accepted-fine rule bytes .most)
+  pub most-nodes : nodeCount rule ≤ maxNodes
+  most-nodes = omega (arith, accepted-fine rule (bytes-fine rule passed) .most)
 
   module _ (k : ℕ) (lt : k < nodeCount rule) where
-    pub ready : Ready rule k
-    ready = record { accepted = bytes; inside = lt; below = lowest-below (sizeCheck rule) (nodeCount rule) sizes k (omega arith) }
-
     pub few : Few rule k
-    few = few-fine rule k (lowest-each (sizeCheck rule) (nodeCount rule) sizes k lt)
+    few = few-fine rule k (lowest-each (sizeCheck rule) (nodeCount rule) (sizes-fine rule passed) k lt)
 
     pub in-range : InRange (tree rule k)
-    in-range = ready-in-range rule k ready k (omega arith)
+    in-range = accepted-in-range rule (bytes-fine rule passed) k lt
 
+  -- the root's cover, with which the walk begins
   pub initial-few : length (cover (formula rule)) ≤ maxTerms
   unfolding formula
   initial-few = few (root rule) (omega (arith, some-nodes)) .cover

@@ -1,24 +1,35 @@
 -- The partial products of a state, as numbers, and what their counts say of number 21.
-use mathlib.Core.Path.{_≡_, refl, sym}
+-- Assumes nothing.
+use mathlib.Core.Path.{_≡_, sym, ap, _∙_}
 use mathlib.Core.Bool.{Bool, true, false}
 use mathlib.Core.List.{List, [], _∷_, map}
-use Prim.Native.Nat.{ℕ, zero, suc, _+_, _*_, _≤_, _<_, min}
+use Prim.Native.Nat.{ℕ, zero, suc, _+_, _≤_, _<_, min}
 use native.Mathlib.Numerals.{add-one}
 use native.Mathlib.Omega.{arith}
-use lib.ListN.{length, getD, take, drop, length-map}
+use lib.ListN.{length, take, set, length-map, length-set}
+use lib.Seq.{length-take-le, take-suc-set}
 use lib.Dec.{leb}
 use borrow.Author.Tests.{le-leb, lt-leb}
-use Rattle.answer.specs.Result.{Check, require}
+use Rattle.answer.specs.Result.{Check, require, fine}
+use Rattle.answer.proofs.Lowest.{Passing, pass-begins, pass-steps, pass-fails, pass-ends}
+use Rattle.formula.specs.Limits.{maxNodes}
 use Rattle.formula.specs.Rule.{nodeCount}
 use Rattle.formula.specs.Formula.{tree, InRange}
-use Rattle.answer.proofs.Lowest.{Passing, pass-begins, pass-steps, pass-fails, pass-ends}
 use Rattle.sets.specs.Bits.{has}
+use Rattle.sets.specs.Sets.{Stores, insertProductN}
+use Rattle.sets.proofs.Stores.{items-are}
+use Rattle.term.specs.Limits.{tablePlaces}
 use Rattle.term.specs.Term.{Term, terms}
+use Rattle.term.specs.Size.{checked}
 use Rattle.term.specs.Packed.{pack}
+use Rattle.term.specs.Table.{rowOf, Row}
 use Rattle.term.proofs.Packing.{Numbers, of-terms, numbers-are, canonical, product-numbers, owing-numbers, terms-numbers}
-use Rattle.generalized.specs.declared.Many.{Many}
+use Rattle.term.proofs.Rising.{product-one}
+use Rattle.term.proofs.Rows.{row-is, row-fits}
+use Rattle.generalized.specs.Limits.{maxProduct}
 use Rattle.generalized.specs.Generalized.{times, partialProduct, transitions, productCheck}
-use Rattle.generalized.specs.Memory.{Row, IsMany, timesN, Product}
+use Rattle.generalized.specs.Memory.{Factor, Product}
+use Rattle.generalized.proofs.Passed.{most-nodes, few, in-range}
 
 -- ts are terms whose must and mustNot are bytes
 abbrev pub Packed : List Term → Type 0
@@ -28,81 +39,103 @@ times-packed : (b : Bool) {ts us : List Term} → Packed ts → Packed us → Pa
 times-packed true p t = canonical of-terms (product-numbers of-terms p t)
 times-packed false p t = p
 
-times-pack : (b : Bool) {ts us : List Term} → Packed ts → Packed us → map pack (times b ts us) ≡ timesN b (map pack ts) (map pack us)
-times-pack true p t = sym (numbers-are of-terms (product-numbers of-terms p t))
-times-pack false p t = refl
-
 pub partial-packed : (rule : List ℕ) (state n : ℕ) → ((k : ℕ) → k < n → InRange (tree rule k)) → Packed (partialProduct rule state n)
 unfolding partialProduct
 partial-packed rule state zero ranges = owing-numbers (0 ∷ [])
 partial-packed rule state (suc n) ranges =
     times-packed (has state n) (partial-packed rule state n (λ k lt. ranges k (omega arith))) (terms-numbers (tree rule n) (ranges n (omega arith)))
 
+-- a node's row can be multiplied with
+pub factor-of : (rule table : List ℕ) (k : ℕ) → checked rule ≡ fine → length table ≡ tablePlaces → k < nodeCount rule → Row rule table k → Factor table k
+factor-of rule table k passed size lt row = record {
+  inside = omega (arith, row-fits row size (omega (arith, most-nodes rule passed)));
+  few = omega (arith, row .count, few rule passed k lt .terms);
+  alone = rw (row-is row) (product-one (tree rule k) (in-range rule passed k lt));
+}
+
 -- 21 for the product over the obligations up to n
 abbrev partialCheck : List ℕ → (state place : ℕ) → ℕ → Check
-partialCheck rule state place n = require (leb (length (partialProduct rule state (suc n))) 128) 21 place
+partialCheck rule state place n = require (leb (length (partialProduct rule state (suc n))) maxProduct) 21 place
 
--- a loop over n nodes that stands at k: p is the product over the obligations below k, and none before was over 128
-pub record Multiplying (rule : List ℕ) (state n : ℕ) (p : Many) (k : ℕ) : Type 0 where
-  pub small : n ≤ 32
+-- a loop over n nodes that stands at k: the first count of items are the product over the obligations below k, and none
+-- before was over
+pub record Multiplying (rule : List ℕ) (state n : ℕ) (items next : List ℕ) (count k : ℕ) : Type 0 where
+  pub small : n ≤ maxNodes
   pub within : k ≤ n
-  pub fits : p .count ≤ 128
-  pub carries : IsMany p (map pack (partialProduct rule state k))
+  pub room : length items ≡ maxProduct
+  pub beside : length next ≡ maxProduct
+  pub fits : count ≤ maxProduct
+  pub are : take count items ≡ map pack (partialProduct rule state k)
   pub passed : (place : ℕ) → Passing (partialCheck rule state place) n k
 
 module _ (rule : List ℕ) (state n : ℕ) where
-  pub multiply-begins : (p : Many) → n ≤ 32 → p .count ≡ 1 → take (p .count) (p .items) ≡ 0 ∷ [] → Multiplying rule state n p 0
+  pub multiply-begins : (items next : List ℕ) → n ≤ maxNodes → length items ≡ maxProduct → length next ≡ maxProduct → Multiplying rule state n (set items 0 0) next 1 0
   unfolding partialProduct
-  multiply-begins p le one is = record {
+  multiply-begins items next le room beside = record {
     small = le;
     within = omega arith;
+    room = length-set items 0 0 ∙ room;
+    beside = beside;
     fits = omega arith;
-    carries = record { count = omega arith; items = λ _. is };
+    are = take-suc-set items 0 0 (omega arith);
     passed = λ place. pass-begins _ n;
   }
 
-  module _ (ranges : (j : ℕ) → j < n → InRange (tree rule j)) (items counts : List ℕ) (p r : Many) (k : ℕ) (lt : k < n) (row : Row rule items counts k) (inv : Multiplying rule state n p k)
-      (turn : (us : List ℕ) → IsMany p us → IsMany r (timesN (has state k) us (take (getD counts k 0) (drop (k * 64) items)))) where
-    row-is : take (getD counts k 0) (drop (k * 64) items) ≡ map pack (terms (tree rule k))
-    row-is = rw (row .count) (row .terms)
-
-    next : IsMany r (map pack (partialProduct rule state (suc k)))
+  module _ (items next : List ℕ) (count k : ℕ) (lt : k < n) (inv : Multiplying rule state n items next count k) where
+    -- a node that is no obligation changes nothing
+    pub multiply-skips : has state k ≡ false → Multiplying rule state n items next count (k + 1)
     unfolding partialProduct
-    next =
-        rw (times-pack (has state k) (partial-packed rule state k (λ j l. ranges j (omega arith))) (terms-numbers (tree rule k) (ranges k lt)), ← row-is)
-        (turn _ (inv .carries))
+    multiply-skips e =
+        let same : partialProduct rule state (suc k) ≡ partialProduct rule state k = rw e in
+        let size : length (partialProduct rule state (suc k)) ≡ count =
+        ap length same ∙ sym (length-map (partialProduct rule state k) pack) ∙ sym (ap length (inv .are)) ∙ length-take-le count items (omega (arith, inv .room, inv .fits)) in
+        record {
+          small = inv .small;
+          within = omega arith;
+          room = inv .room;
+          beside = inv .beside;
+          fits = inv .fits;
+          are = rw (add-one, same) (inv .are);
+          passed = λ place. pass-steps _ n k lt (inv .passed place) (rw (le-leb (length (partialProduct rule state (suc k))) maxProduct (omega (arith, size, inv .fits))));
+        }
 
-    next-count : r .count ≡ min 129 (length (partialProduct rule state (suc k)))
-    next-count = omega (arith, next .count, length-map (partialProduct rule state (suc k)) pack)
+    module _ (ranges : (j : ℕ) → j < n → InRange (tree rule j)) (table : List ℕ) (row : Row rule table k) (own : has state k ≡ true)
+        (after : List ℕ) (r : ℕ) (size : length after ≡ length items) (turn : Stores after r (insertProductN (take count items) (rowOf table k) [])) where
+      next-is : Stores after r (map pack (partialProduct rule state (suc k)))
+      unfolding partialProduct
+      next-is =
+          let packed : map pack (times true (partialProduct rule state k) (terms (tree rule k))) ≡ insertProductN (map pack (partialProduct rule state k)) (map pack (terms (tree rule k))) [] =
+          sym (numbers-are of-terms (product-numbers of-terms (partial-packed rule state k (λ j l. ranges j (omega arith))) (terms-numbers (tree rule k) (ranges k lt)))) in
+          rw (own, packed, ← inv .are, ← row-is row) turn
 
-    pub multiply-steps : r .count ≤ 128 → Multiplying rule state n r (k + 1)
-    multiply-steps le = record {
-      small = inv .small;
-      within = omega arith;
-      fits = le;
-      carries = rw add-one next;
-      passed = λ place. pass-steps _ n k lt (inv .passed place) (rw (le-leb (length (partialProduct rule state (suc k))) 128 (omega (arith, next-count))));
-    }
+      next-count : r ≡ min (suc maxProduct) (length (partialProduct rule state (suc k)))
+      next-count = omega (arith, next-is .count, size, inv .room, length-map (partialProduct rule state (suc k)) pack)
 
-    pub multiply-over : n ≡ nodeCount rule → 128 < r .count → Product rule state r
-    unfolding productCheck
-    multiply-over e over = record {
-      checked = λ le. absurd (omega arith);
-      terms = λ le. absurd (omega arith);
-      over = λ _ place. rw (← e) (sym (pass-fails (partialCheck rule state place) n k lt (inv .passed place) (rw (lt-leb (length (partialProduct rule state (suc k))) 128 (omega (arith, next-count))))));
-    }
+      pub multiply-steps : {beside : List ℕ} → length beside ≡ length next → r ≤ maxProduct → Multiplying rule state n after beside r (k + 1)
+      multiply-steps same le = record {
+        small = inv .small;
+        within = omega arith;
+        room = size ∙ inv .room;
+        beside = same ∙ inv .beside;
+        fits = le;
+        are = rw add-one (items-are next-is (omega (arith, size, inv .room)));
+        passed = λ place. pass-steps _ n k lt (inv .passed place) (rw (le-leb (length (partialProduct rule state (suc k))) maxProduct (omega (arith, next-count))));
+      }
 
-  -- a node that is no obligation changes nothing
-  pub multiply-skips : (ranges : (j : ℕ) → j < n → InRange (tree rule j)) (items counts : List ℕ) (p : Many) (k : ℕ) → k < n → Row rule items counts k → Multiplying rule state n p k
-      → has state k ≡ false → Multiplying rule state n p (k + 1)
-  multiply-skips ranges items counts p k lt row inv e = multiply-steps ranges items counts p p k lt row inv (λ us is. rw e is) (inv .fits)
+      pub multiply-over : n ≡ nodeCount rule → maxProduct < r → Product rule state after r
+      unfolding productCheck
+      multiply-over e over = record {
+        checked = λ le. absurd (omega arith);
+        terms = λ le. absurd (omega arith);
+        over = λ _ place. rw (← e) (sym (pass-fails (partialCheck rule state place) n k lt (inv .passed place) (rw (lt-leb (length (partialProduct rule state (suc k))) maxProduct (omega (arith, next-count))))));
+      }
 
-  pub multiply-ends : (p : Many) (k : ℕ) → n ≡ nodeCount rule → n ≤ k → Multiplying rule state n p k → Product rule state p
+  pub multiply-ends : (items next : List ℕ) (count k : ℕ) → n ≡ nodeCount rule → n ≤ k → Multiplying rule state n items next count k → Product rule state items count
   unfolding productCheck transitions
-  multiply-ends p k e ge inv =
+  multiply-ends items next count k e ge inv =
       let same : k ≡ nodeCount rule = omega (arith, inv .within) in
       record {
         checked = λ _ place. rw (← e) (sym (pass-ends (partialCheck rule state place) n k ge (inv .passed place)));
-        terms = λ _. rw (← same) (inv .carries);
+        terms = λ _. rw (← same) (inv .are);
         over = λ lt. absurd (omega (arith, inv .fits));
       }

@@ -2,11 +2,9 @@
 -- sets, its transitions terms.
 use Prim.Native.Nat.{ℕ, zero, suc}
 use mathlib.Core.List.{List, [], _∷_, map}
-use mathlib.Core.Bool.{Bool, true, false, not, _&&_, _||_}
+use mathlib.Core.Bool.{Bool, true, false}
 use lib.ListN.{length}
 use lib.Dec.{eqb, leb, ltb}
-use lib.Bits.{bitOr}
-use Rattle.sets.specs.Sets.{any}
 use Rattle.answer.specs.Result.{Result, Check, require, lowest}
 use Rattle.formula.specs.Rule.{nodeCount}
 use Rattle.formula.specs.Formula.{tree, formula}
@@ -50,18 +48,3 @@ targets rule state = map (λ t. t .obligations) (transitions rule state)
 unfoldable pub generalized : List ℕ → Result (List ℕ)
 generalized rule =
     explore eqb 128 23 transitionCheck 0 (targets rule) (productCheck rule) 128 0 0 (cover (formula rule))
-
--- x is within y, as sets
-abbrev pub within : ℕ → ℕ → Bool
-within x y = eqb (bitOr x y) y
-
--- u, a term of the until f, shows that t fulfils f: part by part u is within t, and u does not owe f again (01, First
--- walk and second walk, sentence 10)
-unfoldable pub shows : (f : ℕ) (t u : Term) → Bool
-shows f t u =
-    within (u .must) (t .must) && (within (u .mustNot) (t .mustNot) && (within (u .obligations) (t .obligations) && not (has (u .obligations) f)))
-
--- whether t fulfils the until f (document 01: is good for it): t does not owe f, or a term of f shows that it does
--- fulfil it (01, First walk and second walk, sentence 10)
-unfoldable pub fulfils : List ℕ → (f : ℕ) → Term → Bool
-fulfils rule f t = not (has (t .obligations) f) || any (shows f t) (terms (tree rule f))

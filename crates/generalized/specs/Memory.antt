@@ -1,81 +1,137 @@
--- How the first walk lies in memory: the terms of each node in a row of 64 places, the states' obligation sets by
--- number, the transitions of all states one after another, packed, and where each state's end.
-use Prim.Native.Nat.{ℕ, suc, _*_, _/_, _<_, _≤_}
+-- How the first walk lies in memory: the states' obligation sets by number, the transitions of all states one after
+-- another, each as one number, and where each state's end.
+use Prim.Native.Nat.{ℕ, suc, _+_, _*_, _/_, _%_, _<_, _≤_}
 use mathlib.Core.Path.{_≡_}
 use mathlib.Core.List.{List, [], _∷_, _++_, map}
-use mathlib.Core.Bool.{Bool, true, false}
 use lib.ListN.{length, getD, take, drop}
 use lib.Dec.{eqb}
-use Rattle.sets.specs.Sets.{insertProductN}
+use Rattle.sets.specs.Sets.{In, insertProductN}
 use Rattle.answer.specs.Result.{Result, accepted, refused, andThen, fine}
-use Rattle.formula.specs.Formula.{tree}
-use Rattle.term.specs.Term.{Term}
-use Rattle.term.specs.Term
-use Rattle.term.specs.Packed.{pack, Carries}
-use Rattle.generalized.specs.declared.Many.{Many}
+use Rattle.formula.specs.Formula.{formula}
+use Rattle.term.specs.Limits.{rowPlaces}
+use Rattle.term.specs.Term.{Term, cover}
+use Rattle.term.specs.Packed.{pack}
+use Rattle.term.specs.Table.{rowOf}
+use Rattle.acceptance.specs.Acceptance.{fulfilment}
+use Rattle.generalized.specs.Limits.{maxProduct, maxGeneralizedTransitions, maxGeneralizedStates}
 use Rattle.generalized.specs.declared.Met.{Met}
-use Rattle.generalized.specs.declared.Met.the-variants.{Count, Full}
+use Rattle.generalized.specs.declared.Met.the-variants.{Number, Full}
+use Rattle.generalized.specs.declared.Step.{Step}
+use Rattle.generalized.specs.declared.Step.the-variants.{On, Stop}
 use Rattle.generalized.specs.declared.Walked.{Walked}
 use Rattle.generalized.specs.declared.Walked.the-variants.{Counts, Refused}
-use Rattle.generalized.specs.Explore.{meetAll}
-use Rattle.generalized.specs.Generalized.{transitions, productCheck, transitionCheck, targets, generalized}
+use Rattle.generalized.specs.Explore.{find, meetAll}
+use Rattle.generalized.specs.Generalized.{transitions, productCheck, transitionCheck, generalized}
 
--- row k of items, with its count, has the terms of node k
-pub record Row (rule items counts : List ℕ) (k : ℕ) : Type 0 where
-  pub count : getD counts k 0 ≡ length (Term.terms (tree rule k))
-  pub terms : take (length (Term.terms (tree rule k))) (drop (k * 64) items) ≡ map pack (Term.terms (tree rule k))
+-- ---- the transitions of a state
 
--- the rows of the first n nodes
-abbrev pub Rows : (rule items counts : List ℕ) (n : ℕ) → Type 0
-Rows rule items counts n = (k : ℕ) → k < n → Row rule items counts k
+-- row k of the table of terms as a factor: it lies within the table, a product has places for it, and it is itself
+-- the product with the term that asks and owes nothing
+pub record Factor (table : List ℕ) (k : ℕ) : Type 0 where
+  pub inside : k * rowPlaces + 1 + getD table (k * rowPlaces) 0 ≤ length table
+  pub few : getD table (k * rowPlaces) 0 ≤ maxProduct
+  pub alone : insertProductN (0 ∷ []) (rowOf table k) [] ≡ rowOf table k
 
--- the value that holds a partial product: 128 places and how many of them are used
-abbrev pub IsMany : Many → List ℕ → Type 0
-IsMany ts ws = Carries 128 (ts .items) (ts .count) ws
+-- the first count of items are a state's transitions, unless a partial product is too large; then count is above that
+pub record Product (rule : List ℕ) (state : ℕ) (items : List ℕ) (count : ℕ) : Type 0 where
+  pub checked : count ≤ maxProduct → (place : ℕ) → productCheck rule place state ≡ fine
+  pub terms : count ≤ maxProduct → take count items ≡ map pack (transitions rule state)
+  pub over : maxProduct < count → (place : ℕ) → productCheck rule place state ≡ refused 21 place
 
--- one step of a partial product, on packed terms
-abbrev pub timesN : Bool → List ℕ → List ℕ → List ℕ
-timesN true ts us = insertProductN ts us []
-timesN false ts us = ts
+-- ---- a transition in the table
 
--- a state's transitions, unless a partial product is over 128 terms; then a count above that
-pub record Product (rule : List ℕ) (state : ℕ) (r : Many) : Type 0 where
-  pub checked : r .count ≤ 128 → (place : ℕ) → productCheck rule place state ≡ fine
-  pub terms : r .count ≤ 128 → IsMany r (map pack (transitions rule state))
-  pub over : 128 < r .count → (place : ℕ) → productCheck rule place state ≡ refused 21 place
+-- four bytes, from the top: the number of its target, the untils that it fulfils, must and mustNot
+abbrev pub keptN : (target untils must mustNot : ℕ) → ℕ
+keptN target untils must mustNot = ((target * 256 + untils) * 256 + must) * 256 + mustNot
 
--- the obligations of a packed term
-abbrev pub obligationsN : ℕ → ℕ
-obligationsN t = t / 65536
+-- t when the states are numbered
+abbrev pub kept : (rule states : List ℕ) → Term → ℕ
+kept rule states t = keptN (find eqb (t .obligations) states) (fulfilment rule t) (t .must) (t .mustNot)
 
--- what a meeting comes to: those met are the first n of items, or there is one too many
-abbrev pub Meets : (full place : ℕ) (met : Result (List ℕ)) → Met → (items : List ℕ) → Type 0
-Meets full place met (Count n) items = (met ≡ accepted (take n items)) × (n ≤ length items)
-Meets full place met Full items = met ≡ refused full place
+-- the parts of such a number
+abbrev pub keptTarget : ℕ → ℕ
+keptTarget x = x / 16777216
 
--- states met and transitions ws in the table: how many of each, or the refusal
-abbrev pub Adds : (met : Result (List ℕ)) (ws : List ℕ) → Walked → (states terms : List ℕ) → Type 0
-Adds met ws (Counts n m) states terms = (met ≡ accepted (take n states)) × (n ≤ 128) × (m ≡ length ws) × (m ≤ 1024) × (take m terms ≡ ws)
-Adds met ws (Refused number place) states terms = met ≡ refused number place
+abbrev pub keptUntils : ℕ → ℕ
+keptUntils x = x / 65536 % 256
+
+abbrev pub keptMust : ℕ → ℕ
+keptMust x = x / 256 % 256
+
+abbrev pub keptMustNot : ℕ → ℕ
+keptMustNot x = x % 256
+
+-- ts in the table when the states xs are numbered: ns are their numbers, and each leads to one of xs
+pub record Listed (rule xs : List ℕ) (ts : List Term) (ns : List ℕ) : Type 0 where
+  pub numbers : ns ≡ map (kept rule xs) ts
+  pub found : (t : Term) → In t ts → find eqb (t .obligations) xs < length xs
+
+-- ---- a state walked
+
+-- x, met when xs were there: its number, and that count are in items then, xs the first of them
+pub record Numbered (x : ℕ) (xs : List ℕ) (met : Result (List ℕ)) (number count : ℕ) (items : List ℕ) : Type 0 where
+  pub are : met ≡ accepted (take count items)
+  pub fits : count ≤ length items
+  pub first : take (length xs) (take count items) ≡ xs
+  pub found : number ≡ find eqb x (take count items)
+  pub inside : number < count
+
+abbrev pub Meets : (full place x : ℕ) (xs : List ℕ) (met : Result (List ℕ)) → Met → (items : List ℕ) → Type 0
+Meets full place x xs met (Number number count) items = Numbered x xs met number count items
+Meets full place x xs met Full items = met ≡ refused full place
+
+-- places for all states and transitions, n and m of which are taken
+pub record Room (n m : ℕ) (states transitions : List ℕ) : Type 0 where
+  pub states-room : length states ≡ maxGeneralizedStates
+  pub few : n ≤ maxGeneralizedStates
+  pub transitions-room : length transitions ≡ maxGeneralizedTransitions
+  pub fits : m ≤ maxGeneralizedTransitions
+
+-- the targets of the transitions ts of the state at place, met when count transitions and the states xs are there
+abbrev pub meetTargets : (place : ℕ) (ts : List Term) (count : ℕ) (xs : List ℕ) → Result (List ℕ)
+meetTargets place ts count xs =
+    meetAll eqb maxGeneralizedStates 23 transitionCheck place (map (λ t. t .obligations) ts) count xs
+
+-- the transitions of the state at place among xs
+abbrev pub transitionsAt : (rule xs : List ℕ) (place : ℕ) → List Term
+transitionsAt rule xs place = transitions rule (getD xs place 0)
 
 -- the walk of the state at place, when count transitions and the states xs are there
 abbrev pub walkState : (rule : List ℕ) (place count : ℕ) (xs : List ℕ) → Result (List ℕ)
 walkState rule place count xs =
-    andThen (productCheck rule place (getD xs place 0)) (λ _. meetAll eqb 128 23 transitionCheck place (targets rule (getD xs place 0)) count xs)
+    andThen (productCheck rule place (getD xs place 0)) (λ _. meetTargets place (transitionsAt rule xs place) count xs)
+
+-- ts added to the total transitions that were in the table before: n states and m transitions are there then
+pub record Added (rule : List ℕ) (ts : List Term) (total : ℕ) (before : List ℕ) (met : Result (List ℕ)) (n m : ℕ) (states after : List ℕ) : Type 0 where
+  pub are : met ≡ accepted (take n states)
+  pub few : n ≤ maxGeneralizedStates
+  pub counted : m ≡ total + length ts
+  pub fits : m ≤ maxGeneralizedTransitions
+  pub same : take total after ≡ take total before
+  pub listed : Listed rule (take n states) ts (take (length ts) (drop total after))
+
+abbrev pub Adds : (rule : List ℕ) (ts : List Term) (total : ℕ) (before : List ℕ) (met : Result (List ℕ)) → Step → (states after : List ℕ) → Type 0
+Adds rule ts total before met (On n m) states after = Added rule ts total before met n m states after
+Adds rule ts total before met (Stop number place) states after = met ≡ refused number place
+
+-- ---- the whole walk
 
 -- the transitions of the states xs, one after another
 unfoldable pub allTransitions : (rule xs : List ℕ) → List Term
 allTransitions rule [] = []
 allTransitions rule (x ∷ xs) = transitions rule x ++ allTransitions rule xs
 
--- the tables when the states before place are walked and xs are numbered
-pub record Tables (rule xs : List ℕ) (place : ℕ) (states terms ends : List ℕ) : Type 0 where
-  pub numbered : take (length xs) states ≡ xs
-  pub listed : take (length (allTransitions rule (take place xs))) terms ≡ map pack (allTransitions rule (take place xs))
-  pub ending : (k : ℕ) → k < place → getD ends k 0 ≡ length (allTransitions rule (take (suc k) xs))
+-- the tables of a walk that has n states, the first of them initial ones, and m transitions
+pub record Tables (rule : List ℕ) (initial n m : ℕ) (states transitions ends : List ℕ) : Type 0 where
+  pub are : generalized rule ≡ accepted (take n states)
+  pub few : n ≤ maxGeneralizedStates
+  pub begun : initial ≡ length (cover (formula rule))
+  pub counted : m ≡ length (allTransitions rule (take n states))
+  pub fits : m ≤ maxGeneralizedTransitions
+  pub listed : take m transitions ≡ map (kept rule (take n states)) (allTransitions rule (take n states))
+  pub ending : (k : ℕ) → k < n → getD ends k 0 ≡ length (allTransitions rule (take (suc k) (take n states)))
 
 -- the first walk's answer: how many states and transitions there are, with the tables, or the refusal
-abbrev pub Walks : (rule : List ℕ) → Walked → (states terms ends : List ℕ) → Type 0
-Walks rule (Counts n m) states terms ends =
-    (generalized rule ≡ accepted (take n states)) × (n ≤ 128) × (m ≡ length (allTransitions rule (take n states))) × (m ≤ 1024) × Tables rule (take n states) n states terms ends
-Walks rule (Refused number place) states terms ends = generalized rule ≡ refused number place
+abbrev pub Walks : (rule : List ℕ) → Walked → (states transitions ends : List ℕ) → Type 0
+Walks rule (Counts initial n m) states transitions ends = Tables rule initial n m states transitions ends
+Walks rule (Refused number place) states transitions ends = generalized rule ≡ refused number place

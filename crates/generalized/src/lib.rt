@@ -1,22 +1,26 @@
-// The first walk: the generalized automaton of a rule. Its states are obligation sets, its transitions packed terms;
-// they stand in tables that the caller lends.
-use term::Terms;
+// The first walk: the generalized automaton of a rule. Its states are obligation sets, its transitions terms; they
+// stand in tables that the caller lends, each transition with the number of its target and the untils that it fulfils.
+use acceptance::Untils;
 ghost use mathlib.Core.Path.{_≡_};
-ghost use mathlib.Core.List.{List, _++_, map};
-ghost use Prim.Native.Nat.{ℕ, _+_, _*_, _≤_, _<_};
-ghost use lib.ListN.{length, getD, take, drop, set};
-ghost use lib.Seq.{paste};
+ghost use mathlib.Core.List.{List, [], map};
+ghost use Prim.Native.Nat.{ℕ, _≤_, _<_};
+ghost use lib.ListN.{length, take, set};
 ghost use lib.Dec.{eqb};
 ghost use Rattle.answer.specs.Result.{fine};
+ghost use Rattle.formula.specs.Limits.{maxNodes};
 ghost use Rattle.formula.specs.Rule.{nodeCount};
 ghost use Rattle.formula.specs.Formula.{formula};
-ghost use Rattle.sets.specs.Bits.{has};
+ghost use Rattle.sets.specs.Sets.{Stores, insertProductN};
+ghost use Rattle.term.specs.Limits.{maxTerms, tablePlaces};
 ghost use Rattle.term.specs.Term.{cover};
 ghost use Rattle.term.specs.Size.{checked};
-ghost use Rattle.term.specs.Packed.{pack};
-ghost use Rattle.generalized.specs.Explore.{find, meet, meetAll};
-ghost use Rattle.generalized.specs.Generalized.{transitions, transitionCheck};
-ghost use Rattle.generalized.specs.Memory.{Rows, IsMany, timesN, Product, obligationsN, Meets, Adds, walkState, Walks};
+ghost use Rattle.term.specs.Packed.{unpack};
+ghost use Rattle.term.specs.Table.{rowOf, Rows};
+ghost use Rattle.acceptance.specs.Acceptance.{fulfilment};
+ghost use Rattle.acceptance.specs.Memory.{Known};
+ghost use Rattle.generalized.specs.Limits.{maxProduct, maxGeneralizedStates, maxGeneralizedTransitions};
+ghost use Rattle.generalized.specs.Explore.{find, meet};
+ghost use Rattle.generalized.specs.Memory.{Factor, Product, keptN, keptTarget, keptUntils, keptMust, keptMustNot, Meets, Room, meetTargets, transitionsAt, walkState, Adds, Walks};
 
 // The numbers of document 01 by which the first walk is refused.
 pub const PRODUCT_TOO_LARGE: u8 = 21;
@@ -35,61 +39,67 @@ pub const MAX_STATES: usize = 128;
 // A state's number in the first walk; the automaton's states have numbers of another type.
 pub struct GeneralizedState(pub usize);
 
-// A partial product, rising. A count of 129 says that it has more than 128 terms.
-pub struct Many {
-    pub count: usize,
-    pub items: [u64; 128],
+// How far a walk is: the states that are numbered and the transitions that are in the table.
+struct Extent {
+    states: usize,
+    transitions: usize,
 }
 
-// What a meeting comes to: how many are in the list then, or that there is no place for one more.
-pub enum Met {
-    Count(usize),
+// What a meeting comes to: the number of the one met and how many are in the list then, or that there is no place for
+// one more.
+enum Met {
+    Number(usize, usize),
     Full,
 }
 
-// The answer of the walk: the counts of states and transitions, or a refusal's number and place.
+// What walking a state comes to: how many states and transitions there are then, or a refusal's number and place.
+enum Step {
+    On(usize, usize),
+    Stop(u8, usize),
+}
+
+// The answer of the walk: the counts of initial states, states and transitions, or a refusal's number and place.
 pub enum Walked {
-    Counts(usize, usize),
+    Counts(usize, usize, usize),
     Refused(u8, usize),
 }
 
-// Whether n is in the set.
-pub fn has(set: u64, n: usize) -> bool
-    requires { ⌜ n < 64 ⌝ }
-    ensures { λ r. ⌜ r ≡ has set n ⌝ }
+// A transition for the table: the number of its target, the untils that it fulfils, and the letters of t.
+fn keep(target: usize, untils: u8, t: u64) -> u64
+    requires { ⌜ target < maxGeneralizedStates ⌝ }
+    ensures { λ r. ⌜ r ≡ keptN target untils (unpack t .must) (unpack t .mustNot) ⌝ }
 {
-    (set >> n) & 1 == 1
+    (target as u64 * 256 + untils as u64) * 65536 + t % 65536
 }
 
-// A node's terms, stored from place `at` on.
-fn store(items: &mut [u64], at: usize, terms: Terms)
-    requires { ⌜ at + 64 ≤ length (now items) ⌝ }
-    ensures { λ _. ⌜ now (items .exit) ≡ paste (now (items .entry)) at (terms .items) 64 ⌝ }
+// The parts of a transition in the table: the state that it leads to, the untils that it fulfils, a bit each, and the
+// propositions that a letter must have and must not have.
+pub fn target_of(x: u64) -> GeneralizedState
+    ensures { λ s. ⌜ s .0 ≡ keptTarget x ⌝ }
 {
-    let mut j = 0;
-    while j < 64 {
-        items[at + j] = terms.items[j];
-        j += 1;
-    }
+    GeneralizedState((x / 16777216) as usize)
 }
 
-// The terms of the n nodes, a row of 64 places for each.
-fn tabulate(rule: &[u8], n: usize, items: &mut [u64], counts: &mut [usize])
-    requires { ⌜ (n ≡ nodeCount (now rule)) × (checked (now rule) ≡ fine) × (length (now items) ≡ 2048) × (length (now counts) ≡ 32) ⌝ }
-    ensures { λ _. ⌜ Rows (now (rule .entry)) (now (items .exit)) (now (counts .exit)) n ⌝ }
+pub fn fulfilled_by(x: u64) -> u8
+    ensures { λ r. ⌜ r ≡ keptUntils x ⌝ }
 {
-    let mut k = 0;
-    while k < n {
-        let terms = term::terms_of(rule, k);
-        counts[k] = terms.count;
-        store(items, k * 64, terms);
-        k += 1;
-    }
+    (x / 65536 % 256) as u8
 }
 
-// The place of x in a list, the first n of items, or n. It is no state's number yet: `state_number` here and `pair_number`
-// of the second walk make one of it, each of its own type.
-pub fn find(items: &[u64], n: usize, x: u64) -> usize
+pub fn must_of(x: u64) -> u8
+    ensures { λ r. ⌜ r ≡ keptMust x ⌝ }
+{
+    (x / 256 % 256) as u8
+}
+
+pub fn must_not_of(x: u64) -> u8
+    ensures { λ r. ⌜ r ≡ keptMustNot x ⌝ }
+{
+    (x % 256) as u8
+}
+
+// The place of x in a list, the first n of items, or n.
+fn find(items: &[u64], n: usize, x: u64) -> usize
     requires { ⌜ n ≤ length (now items) ⌝ }
     ensures { λ r. ⌜ r ≡ find eqb x (take n (now (items .entry))) ⌝ }
 {
@@ -104,135 +114,136 @@ pub fn find(items: &[u64], n: usize, x: u64) -> usize
 }
 
 // x in a list, the first n of items: an unseen one is put behind them, if there is a place.
-pub fn meet(items: &mut [u64], n: usize, x: u64) -> Met
+fn meet(items: &mut [u64], n: usize, x: u64) -> Met
     requires { ⌜ n ≤ length (now items) ⌝ }
-    ensures { λ r. ⌜ ((full place : ℕ) → Meets full place (meet eqb (length (now (items .entry))) full place x (take n (now (items .entry)))) r (now (items .exit))) ⌝ }
+    ensures { λ r. ⌜ ((full place : ℕ) → Meets full place x (take n (now (items .entry))) (meet eqb (length (now (items .entry))) full place x (take n (now (items .entry)))) r (now (items .exit))) ⌝ }
 {
     let k = find(items, n, x);
     if k < n {
-        return Met::Count(n);
+        return Met::Number(k, n);
     }
     if items.len() <= n {
         return Met::Full;
     }
     items[n] = x;
-    Met::Count(n + 1)
+    Met::Number(n, n + 1)
 }
 
-// The number of the state with these obligations among the first n.
-pub fn state_number(states: &[u64], n: usize, obligations: u64) -> GeneralizedState
-    requires { ⌜ n ≤ length (now states) ⌝ }
-    ensures { λ s. ⌜ s .0 ≡ find eqb obligations (take n (now (states .entry))) ⌝ }
+// The first count of product times the terms of node k, which stand in its row of the table; how many there are then.
+fn times(table: &[u64], k: usize, product: &mut [u64], count: usize, next: &mut [u64]) -> usize
+    requires { ⌜ (k < maxNodes) × (count ≤ maxProduct) × (length (now product) ≡ maxProduct) × (length (now next) ≡ maxProduct) × Factor (now table) k ⌝ }
+    ensures { λ r. ⌜ Stores (now (product .exit)) r (insertProductN (take count (now (product .entry))) (rowOf (now (table .entry)) k) []) ⌝ }
 {
-    GeneralizedState(find(states, n, obligations))
-}
-
-// p times the terms of node k, which stand in its row, if k is an obligation of the state.
-fn times_node(items: &[u64], count: usize, state: u64, k: usize, p: Many) -> Many
-    requires { ⌜ (length (now items) ≡ 2048) × (k < 32) × (p .count ≤ 128) × (count ≤ 64) ⌝ }
-    ensures { λ r. ⌜ ((us : List ℕ) → IsMany p us → IsMany r (timesN (has state k) us (take count (drop (k * 64) (now (items .entry)))))) ⌝ }
-{
-    if has(state, k) {
-        let np = p.count;
-        let from = k * 64;
-        let mut out = [0u64; 128];
-        let n = sets::product(&mut out, 0, &p.items, np, &items[from..from + count], count);
-        Many {
-            count: n,
-            items: out,
-        }
-    } else {
-        p
+    let row = k * term::ROW_PLACES;
+    let n = table[row] as usize;
+    let from = row + 1;
+    // a product with the one term 0 is the other factor
+    if count == 1 && product[0] == 0 {
+        answer::copy_words(product, &table[from..from + n], n);
+        return n;
     }
+    let more = sets::product(next, 0, product, count, &table[from..from + n], n);
+    if MAX_PRODUCT < more {
+        return more;
+    }
+    answer::copy_words(product, next, more);
+    more
 }
 
-// The transitions of a state: the product over its obligations among the n nodes, up to the first one that is over.
-fn state_terms(rule: &[u8], n: usize, items: &[u64], counts: &[usize; 32], state: u64) -> Many
-    requires { ⌜ (length (now items) ≡ 2048) × (n ≡ nodeCount (now rule)) × (checked (now rule) ≡ fine) × Rows (now rule) (now items) (now counts) n ⌝ }
-    ensures { λ r. ⌜ Product (now (rule .entry)) state r ⌝ }
+// The transitions of a state: the product over its obligations, up to the first one that is over.
+fn state_terms(
+    rule: &[u8],
+    table: &[u64],
+    state: u64,
+    product: &mut [u64],
+    next: &mut [u64],
+) -> usize
+    requires { ⌜ (checked (now rule) ≡ fine) × (length (now table) ≡ tablePlaces) × Rows (now rule) (now table) (nodeCount (now rule)) × (length (now product) ≡ maxProduct) × (length (now next) ≡ maxProduct) ⌝ }
+    ensures { λ r. ⌜ Product (now (rule .entry)) state (now (product .exit)) r ⌝ }
 {
-    let mut p = Many {
-        count: 1,
-        items: [0; 128],
-    };
+    let n = rule.len() / 3;
+    product[0] = 0;
+    let mut count = 1;
     let mut k = 0;
     while k < n {
-        // the product is large and goes by value: nodes that are no obligations are passed over
-        if !has(state, k) {
+        if !sets::has(state, k) {
             k += 1;
             continue;
         }
-        p = times_node(items, counts[k], state, k, p);
-        if MAX_PRODUCT < p.count {
-            return p;
+        count = times(table, k, product, count, next);
+        if MAX_PRODUCT < count {
+            return count;
         }
         k += 1;
     }
-    p
+    count
 }
 
-// The transitions ts of the state at place, met one after another and added to the total that are in the table;
-// n states are numbered.
+// The first count of ts, transitions of the state at place, met one after another and put into the table with the
+// untils that the bytes tell.
 fn meet_all(
-    ts: Many,
+    ts: &[u64],
+    bytes: &[u8],
+    count: usize,
     place: GeneralizedState,
     states: &mut [u64],
-    n: usize,
-    terms: &mut [u64],
-    total: usize,
-) -> Walked
-    requires { ⌜ (ts .count ≤ 128) × (length (now states) ≡ 128) × (n ≤ 128) × (length (now terms) ≡ 1024) × (total ≤ 1024) ⌝ }
-    ensures { λ r. ⌜ ((ws : List ℕ) → IsMany ts ws → Adds (meetAll eqb 128 23 transitionCheck (place .0) (map obligationsN ws) total (take n (now (states .entry)))) (take total (now (terms .entry)) ++ ws) r (now (states .exit)) (now (terms .exit))) ⌝ }
+    transitions: &mut [u64],
+    before: Extent,
+) -> Step
+    requires { ⌜ (count ≤ length (now ts)) × (count ≤ length (now bytes)) × Room (before .states) (before .transitions) (now states) (now transitions) ⌝ }
+    ensures { λ r. ⌜ ((rule : List ℕ) → take count (now (bytes .entry)) ≡ map (fulfilment rule) (map unpack (take count (now (ts .entry)))) → Adds rule (map unpack (take count (now (ts .entry)))) (before .transitions) (now (transitions .entry)) (meetTargets (place .0) (map unpack (take count (now (ts .entry)))) (before .transitions) (take (before .states) (now (states .entry)))) r (now (states .exit)) (now (transitions .exit))) ⌝ }
 {
-    let count = ts.count;
-    let mut seen = n;
+    let total = before.transitions;
+    let mut seen = before.states;
     let mut i = 0;
     while i < count {
         if MAX_TRANSITIONS <= total + i {
-            return Walked::Refused(TOO_MANY_TRANSITIONS, place.0);
+            return Step::Stop(TOO_MANY_TRANSITIONS, place.0);
         }
-        let t = ts.items[i];
+        let t = ts[i];
         let met = meet(states, seen, t / 65536);
-        let Met::Count(more) = met else {
-            return Walked::Refused(TOO_MANY_STATES, place.0);
+        let Met::Number(target, more) = met else {
+            return Step::Stop(TOO_MANY_STATES, place.0);
         };
-        terms[total + i] = t;
+        transitions[total + i] = keep(target, bytes[i], t);
         seen = more;
         i += 1;
     }
-    Walked::Counts(seen, total + count)
+    Step::On(seen, total + count)
 }
 
-// The state at place walked: its transitions found, or 21, and met.
+// The state at place walked: its transitions worked out, or 21, then the untils that they fulfil, then met.
 fn walk_state(
     rule: &[u8],
-    items: &[u64],
-    counts: &[usize; 32],
+    table: &[u64],
+    untils: Untils,
     place: GeneralizedState,
     states: &mut [u64],
-    n: usize,
-    terms: &mut [u64],
-    total: usize,
-) -> Walked
-    requires { ⌜ (length (now items) ≡ 2048) × (checked (now rule) ≡ fine) × Rows (now rule) (now items) (now counts) (nodeCount (now rule)) × (place .0 < n) × (length (now states) ≡ 128) × (n ≤ 128) × (length (now terms) ≡ 1024) × (total ≤ 1024) ⌝ }
-    ensures { λ r. ⌜ Adds (walkState (now (rule .entry)) (place .0) total (take n (now (states .entry)))) (take total (now (terms .entry)) ++ map pack (transitions (now (rule .entry)) (getD (now (states .entry)) (place .0) 0))) r (now (states .exit)) (now (terms .exit)) ⌝ }
+    transitions: &mut [u64],
+    before: Extent,
+) -> Step
+    requires { ⌜ (checked (now rule) ≡ fine) × Known (now rule) (now table) (untils .nodes) (untils .count) × (place .0 < before .states) × Room (before .states) (before .transitions) (now states) (now transitions) ⌝ }
+    ensures { λ r. ⌜ Adds (now (rule .entry)) (transitionsAt (now (rule .entry)) (now (states .entry)) (place .0)) (before .transitions) (now (transitions .entry)) (walkState (now (rule .entry)) (place .0) (before .transitions) (take (before .states) (now (states .entry)))) r (now (states .exit)) (now (transitions .exit)) ⌝ }
 {
     let at = place.0;
     let state = states[at];
-    let ts = state_terms(rule, rule.len() / 3, items, counts, state);
-    let count = ts.count;
+    let mut product = [0u64; MAX_PRODUCT];
+    let mut next = [0u64; MAX_PRODUCT];
+    let count = state_terms(rule, table, state, &mut product, &mut next);
     if MAX_PRODUCT < count {
-        return Walked::Refused(PRODUCT_TOO_LARGE, at);
+        return Step::Stop(PRODUCT_TOO_LARGE, at);
     }
-    meet_all(ts, place, states, n, terms, total)
+    let mut bytes = [0u8; MAX_PRODUCT];
+    acceptance::fulfil(rule, table, untils, &product, count, &mut bytes);
+    meet_all(&product, &bytes, count, place, states, transitions, before)
 }
 
 // The root's cover as the first states; their count.
 fn start(rule: &[u8], states: &mut [u64]) -> usize
-    requires { ⌜ (checked (now rule) ≡ fine) × (length (now states) ≡ 128) ⌝ }
-    ensures { λ r. ⌜ (take r (now (states .exit)) ≡ cover (formula (now (rule .entry)))) × (r ≤ 64) ⌝ }
+    requires { ⌜ (checked (now rule) ≡ fine) × (length (now states) ≡ maxGeneralizedStates) ⌝ }
+    ensures { λ r. ⌜ (take r (now (states .exit)) ≡ cover (formula (now (rule .entry)))) × (r ≤ maxTerms) ⌝ }
 {
-    let sets = term::cover_of(rule, rule.len() / 3 - 1);
+    let sets = term::root_cover(rule);
     let count = sets.count;
     let mut i = 0;
     while i < count {
@@ -251,27 +262,40 @@ fn put_end(ends: &mut [usize], place: GeneralizedState, end: usize)
     ends[at] = end;
 }
 
-// The first walk of a rule that 1 to 7 and 20 let pass: its states by number, their transitions one after another,
-// and where each state's end.
-pub fn walk(rule: &[u8], states: &mut [u64], terms: &mut [u64], ends: &mut [usize]) -> Walked
-    requires { ⌜ (checked (now rule) ≡ fine) × (length (now states) ≡ 128) × (length (now terms) ≡ 1024) × (length (now ends) ≡ 128) ⌝ }
-    ensures { λ r. ⌜ Walks (now (rule .entry)) r (now (states .exit)) (now (terms .exit)) (now (ends .exit)) ⌝ }
+// The first walk of a rule that 1 to 7 and 20 let pass, from its table of terms: its states by number, their
+// transitions one after another, and where each state's end.
+pub fn walk(
+    rule: &[u8],
+    table: &[u64],
+    states: &mut [u64],
+    transitions: &mut [u64],
+    ends: &mut [usize],
+) -> Walked
+    requires { ⌜ (checked (now rule) ≡ fine) × (length (now table) ≡ tablePlaces) × Rows (now rule) (now table) (nodeCount (now rule)) × (length (now states) ≡ maxGeneralizedStates) × (length (now transitions) ≡ maxGeneralizedTransitions) × (length (now ends) ≡ maxGeneralizedStates) ⌝ }
+    ensures { λ r. ⌜ Walks (now (rule .entry)) r (now (states .exit)) (now (transitions .exit)) (now (ends .exit)) ⌝ }
 {
-    let mut items = [0u64; 2048];
-    let mut counts = [0usize; 32];
-    tabulate(rule, rule.len() / 3, &mut items, &mut counts);
-    let mut n = start(rule, states);
-    let mut total = 0;
+    let untils = acceptance::untils_of(rule);
+    let initial = start(rule, states);
+    let mut size = Extent {
+        states: initial,
+        transitions: 0,
+    };
     let mut place = GeneralizedState(0);
-    while place.0 < n {
-        let step = walk_state(rule, &items, &counts, place, states, n, terms, total);
-        let Walked::Counts(more, end) = step else {
-            return step;
-        };
-        put_end(ends, place, end);
-        n = more;
-        total = end;
-        place = GeneralizedState(place.0 + 1);
+    while place.0 < size.states {
+        let step = walk_state(rule, table, untils, place, states, transitions, size);
+        match step {
+            Step::On(n, m) => {
+                put_end(ends, place, m);
+                size = Extent {
+                    states: n,
+                    transitions: m,
+                };
+                place = GeneralizedState(place.0 + 1);
+            }
+            Step::Stop(number, at) => {
+                return Walked::Refused(number, at);
+            }
+        }
     }
-    Walked::Counts(n, total)
+    Walked::Counts(initial, size.states, size.transitions)
 }

@@ -2,8 +2,9 @@
 // one above the slice's length says that the set has more members than there are places; it stays so whatever
 // is inserted after it, and what the slice then holds is not said.
 ghost use mathlib.Core.Path.{_≡_};
-ghost use Prim.Native.Nat.{_≤_};
+ghost use Prim.Native.Nat.{_≤_, _<_};
 ghost use lib.ListN.{length, take};
+ghost use Rattle.sets.specs.Bits.{has};
 ghost use Rattle.sets.specs.Sets.{Stores, Updates, insertAt, consistentN, insertN, unionN, insertJoinN, insertJoinsN, insertProductN};
 
 // t at place i, and what stood there and after it one place on.
@@ -113,4 +114,12 @@ pub fn union(items: &mut [u64], count: usize, xs: &[u64], nx: usize) -> usize
         n = insert(items, n, xs[i]);
     }
     n
+}
+
+// Whether n is in the set of the bits of a number.
+pub fn has(set: u64, n: usize) -> bool
+    requires { ⌜ n < 64 ⌝ }
+    ensures { λ r. ⌜ r ≡ has set n ⌝ }
+{
+    (set >> n) & 1 == 1
 }

@@ -8,3 +8,5 @@ pub mod Bounds
 pub mod Reached
 pub mod Descending
 pub mod Keeping
+pub mod Unpacking
+pub mod Rows

@@ -1,15 +1,22 @@
 -- How terms lie in memory: each as one number, those of a node in maxTerms places with a count.
-use Prim.Native.Nat.{ℕ, suc, _+_, _*_, _≤_, min}
+use Prim.Native.Nat.{ℕ, suc, _+_, _*_, _/_, _%_, _≤_, min}
 use mathlib.Core.Path.{_≡_}
 use mathlib.Core.List.{List, map}
 use lib.ListN.{take, length}
 use Rattle.term.specs.declared.Terms.{Terms}
 use Rattle.term.specs.Limits.{maxTerms}
-use Rattle.term.specs.Term.{Term}
+use Rattle.term.specs.Term.{Term, term}
 
 -- obligations, must and mustNot from the top: the order of terms is the order of their numbers
 abbrev pub pack : Term → ℕ
 pack t = t .obligations * 65536 + t .must * 256 + t .mustNot
+
+-- the obligations of a packed term, and the whole term
+abbrev pub obligationsN : ℕ → ℕ
+obligationsN t = t / 65536
+
+abbrev pub unpack : ℕ → Term
+unpack t = term (t / 256 % 256) (t % 256) (obligationsN t)
 
 -- a cover set is packed as the term that asks it of the next letter
 abbrev pub packSet : ℕ → ℕ

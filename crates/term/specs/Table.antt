@@ -8,6 +8,10 @@ use Rattle.term.specs.Limits.{rowPlaces}
 use Rattle.term.specs.Term
 use Rattle.term.specs.Packed.{pack}
 
+-- the numbers in row k, as many as the row begins with
+abbrev pub rowOf : (table : List ℕ) (k : ℕ) → List ℕ
+rowOf table k = take (getD table (k * rowPlaces) 0) (drop (suc (k * rowPlaces)) table)
+
 -- the row of node k
 pub record Row (rule table : List ℕ) (k : ℕ) : Type 0 where
   pub count : getD table (k * rowPlaces) 0 ≡ length (Term.terms (tree rule k))

@@ -9,7 +9,7 @@ use mathlib.Core.List.{List, _++_, append-nil}
 use Prim.Native.Nat.{ℕ, _+_, _≤_, _<_}
 use lib.ListN.{length, take, set}
 use lib.Seq.{take-suc-set}
-use Rattle.acceptance.specs.Marks.{ownUntil}
+use Rattle.acceptance.specs.Memory.{ownUntil}
 use Rattle.acceptance.proofs.add_until.Statement.{statement}
 use Rattle.acceptance.proofs.add_until.Tie as tie
 

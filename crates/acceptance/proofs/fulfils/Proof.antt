@@ -7,42 +7,38 @@ use mathlib.Core.Path.{_≡_, refl, sym, _∙_}
 use mathlib.Core.Bool.{Bool, true, false, _||_}
 use mathlib.Core.List.{List}
 use Prim.Native.Nat.{ℕ, suc, _+_, _-_, _≤_, _<_}
-use lib.ListN.{length, getD, take, drop, drop-of-length-le}
-use lib.Seq.{length-take-le, drop-cons, getD-take}
+use lib.ListN.{length, getD, drop, drop-of-length-le}
+use lib.Seq.{drop-cons}
 use Rattle.sets.specs.Sets.{any}
-use Rattle.acceptance.specs.Marks.{showsN}
+use Rattle.acceptance.specs.Memory.{showsN}
 use Rattle.acceptance.proofs.fulfils.Statement.{statement}
 use Rattle.acceptance.proofs.fulfils.Tie as tie
 
--- a search among the first count of items that stands at i: the test's answer is that of the rest
-record Seeking (test : ℕ → Bool) (items : List ℕ) (count i : ℕ) : Type 0 where
-  within : i ≤ count
-  rest : any test (take count items) ≡ any test (drop i (take count items))
+-- a search among items that stands at i: the test's answer is that of the rest
+record Seeking (test : ℕ → Bool) (items : List ℕ) (i : ℕ) : Type 0 where
+  within : i ≤ length items
+  rest : any test items ≡ any test (drop i items)
 
-module _ (test : ℕ → Bool) (items : List ℕ) (count i : ℕ) (fits : count ≤ length items) (inv : Seeking test items count i) where
-  part : length (take count items) ≡ count
-  part = length-take-le count items fits
-
-  next : i < count → any test (take count items) ≡ (test (getD items i 0) || any test (drop (suc i) (take count items)))
+module _ (test : ℕ → Bool) (items : List ℕ) (i : ℕ) (inv : Seeking test items i) where
+  next : i < length items → any test items ≡ (test (getD items i 0) || any test (drop (suc i) items))
   unfolding any
-  next lt =
-      inv .rest ∙ rw (drop-cons (take count items) i 0 (rw part lt), getD-take count items i 0 lt)
+  next lt = inv .rest ∙ rw (drop-cons items i 0 lt)
 
-  seek-finds : {b : Bool} → i < count → b ≡ test (getD items i 0) → b ≡ true → true ≡ any test (take count items)
+  seek-finds : {b : Bool} → i < length items → b ≡ test (getD items i 0) → b ≡ true → true ≡ any test items
   seek-finds lt e f = rw (next lt, ← e, f)
 
-  seek-steps : {b : Bool} → i < count → b ≡ test (getD items i 0) → b ≡ false → Seeking test items count (i + 1)
+  seek-steps : {b : Bool} → i < length items → b ≡ test (getD items i 0) → b ≡ false → Seeking test items (i + 1)
   seek-steps lt e f = record { within = omega arith; rest = rw (next lt, ← e, f, add-one i) }
 
-  seek-ends : count ≤ i → false ≡ any test (take count items)
+  seek-ends : length items ≤ i → false ≡ any test items
   unfolding any
-  seek-ends ge = sym (inv .rest ∙ rw (drop-of-length-le (take count items) {i = i} (rw part ge)))
+  seek-ends ge = sym (inv .rest ∙ rw (drop-of-length-le items {i = i} ge))
 
 abbrev Inv-loop : tie.InvT-loop
-Inv-loop f us count t i₀ i = Seeking (showsN f t) us count i
+Inv-loop f us t i₀ i = Seeking (showsN f t) us i
 
 abbrev μ-loop : tie.MeasureT-loop
-μ-loop f us count t i₀ i = count - i
+μ-loop f us t i₀ i = length us - i
 
 owes-requires : tie.Need-owes-requires Inv-loop μ-loop
 owes-requires c κs = search needs
@@ -66,7 +62,7 @@ returns-2 : tie.Need-returns-2 Inv-loop μ-loop
 returns-2 c =
     let at = c .before .before .before .before in
     rw (← (at .before .before .owes .ensures), at .before .if1 .left)
-    (seek-finds _ _ _ (at .loop .i) (at .before .before .before .before .pre .1) (at .loop .inv) (omega arith) (c .before .shows .ensures) (c .if2 .taken))
+    (seek-finds _ _ (at .loop .i) (at .loop .inv) (omega arith) (c .before .shows .ensures) (c .if2 .taken))
 
 add-i : tie.Need-add-i Inv-loop μ-loop
 add-i c = search needs
@@ -77,13 +73,13 @@ loop-less c = search needs
 loop-again : tie.Need-loop-again Inv-loop μ-loop
 loop-again c =
     let at = c .before .before .before .before in
-    seek-steps _ _ _ (at .loop .i) (at .before .before .before .before .pre .1) (at .loop .inv) (omega arith) (c .before .shows .ensures) (c .if2 .left)
+    seek-steps _ _ (at .loop .i) (at .loop .inv) (omega arith) (c .before .shows .ensures) (c .if2 .left)
 
 returns-3 : tie.Need-returns-3 Inv-loop μ-loop
 returns-3 c =
     let at = c .before in
     rw (← (at .before .before .owes .ensures), at .before .if1 .left)
-    (seek-ends _ _ _ (at .loop .i) (at .before .before .before .before .pre .1) (at .loop .inv) (c .loop-test .left))
+    (seek-ends _ _ (at .loop .i) (at .loop .inv) (c .loop-test .left))
 
 pub fulfils-spec : {M : Type 1} → statement M
 fulfils-spec =

@@ -4,26 +4,29 @@ use borrow.Author.Needs.{needs}
 use native.Mathlib.Omega.{arith}
 use Prim.Native.Nat.{_-_}
 use mathlib.Core.Path.{refl}
-use Rattle.acceptance.proofs.Untils.{Gathering, gather-begins, gather-fits, gather-steps, gather-ends}
+use Rattle.acceptance.proofs.Gathering.{Gathering, gather-begins, gather-fits, gather-steps, gather-ends}
 use Rattle.acceptance.proofs.untils_of.Statement.{statement}
 use Rattle.acceptance.proofs.untils_of.Tie as tie
 
 abbrev Inv-loop : tie.InvT-loop
-Inv-loop rule nodes₀ n count₀ i₀ nodes count i = Gathering rule n nodes count i
+Inv-loop rule n nodes₀ count₀ i₀ nodes count i = Gathering rule n nodes count i
 
 abbrev μ-loop : tie.MeasureT-loop
-μ-loop rule nodes₀ n count₀ i₀ nodes count i = n - i
+μ-loop rule n nodes₀ count₀ i₀ nodes count i = n - i
 
 loop-holds : tie.Need-loop-holds Inv-loop μ-loop
-loop-holds c = gather-begins _ _ _ (c .before .before .pre .0)
+loop-holds c = gather-begins _ _ _ refl
 
 kind-of-requires : tie.Need-kind-of-requires Inv-loop μ-loop
 kind-of-requires c κs = search needs
 
+slice-aggregate-add-until : tie.Need-slice-aggregate-add-until Inv-loop μ-loop
+slice-aggregate-add-until c = search needs
+
 add-until-requires : tie.Need-add-until-requires Inv-loop μ-loop
 add-until-requires c κs =
     let at = c .before .before .before in
-    gather-fits _ _ _ _ (at .loop .i) _ (omega arith) (c .before .kind-of .ensures) (at .loop .inv) refl (at .before .before .before .pre .1)
+    gather-fits _ _ _ _ (at .loop .i) _ (omega arith) (c .before .kind-of .ensures) (at .loop .inv) refl (at .before .before .pre)
 
 add-i : tie.Need-add-i Inv-loop μ-loop
 add-i c = search needs
@@ -33,12 +36,9 @@ loop-less c = search needs
 
 loop-again : tie.Need-loop-again Inv-loop μ-loop
 loop-again c =
-    let call = c .before .before in
+    let call = c .before in
     let at = call .before .before .before .before in
     gather-steps _ _ _ _ (at .loop .i) _ (omega arith) (call .before .before .kind-of .ensures) (at .loop .inv) _ _ (call .add-until .kept .1 .1 .0) (call .add-until .ensures .0) (call .add-until .ensures .1)
-
-same-length : tie.Need-same-length Inv-loop μ-loop
-same-length c = search needs
 
 returns : tie.Need-returns Inv-loop μ-loop
 returns c =
@@ -53,9 +53,9 @@ untils-of-spec =
     μ-loop
     loop-holds
     kind-of-requires
+    slice-aggregate-add-until
     add-until-requires
     add-i
     loop-less
     loop-again
-    same-length
     returns)

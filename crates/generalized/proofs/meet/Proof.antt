@@ -3,16 +3,18 @@
 use borrow.Author.Needs.{needs}
 use native.Mathlib.Omega.{arith}
 use native.Mathlib.Numerals.{add-one}
-use mathlib.Core.Path.{_≡_, _∙_}
+use mathlib.Core.Path.{_≡_, refl, sym, _∙_}
 use mathlib.Core.List.{List}
 use Prim.Native.Nat.{ℕ, _+_, _≤_, _<_}
 use lib.ListN.{length, take, set, length-set}
-use lib.Seq.{take-suc-set, length-take-le}
+use lib.Seq.{take-suc-set, take-take, take-set-le, length-take-le}
 use lib.Dec.{eqb}
-use Rattle.generalized.specs.declared.Met.the-variants.{Count, Full}
+use borrow.Author.Tests.{eq-eqb}
+use Rattle.generalized.specs.declared.Met.the-variants.{Number, Full}
 use Rattle.generalized.specs.Explore.{find, meet}
 use Rattle.generalized.specs.Memory.{Meets}
 use Rattle.generalized.proofs.Exploring.{meet-seen, meet-next, meet-full}
+use Rattle.generalized.proofs.Numbers.{find-next}
 use Rattle.generalized.proofs.meet.Statement.{statement}
 use Rattle.generalized.proofs.meet.Tie as tie
 
@@ -20,17 +22,28 @@ module _ (items : List ℕ) (n x k full place : ℕ) (le : n ≤ length items) (
   count : length (take n items) ≡ n
   count = length-take-le n items le
 
-  seen : k < n → Meets full place (meet eqb (length items) full place x (take n items)) (Count n) items
-  seen lt = (meet-seen eqb (length items) full place x (take n items) (omega (arith, count)), le)
+  seen : k < n → Meets full place x (take n items) (meet eqb (length items) full place x (take n items)) (Number k n) items
+  seen lt = record {
+    are = meet-seen eqb (length items) full place x (take n items) (omega (arith, count));
+    fits = le;
+    first = rw count (take-take n n items (omega arith));
+    found = is;
+    inside = lt;
+  }
 
-  crowded : n ≤ k → length items ≤ n → Meets full place (meet eqb (length items) full place x (take n items)) Full items
+  crowded : n ≤ k → length items ≤ n → Meets full place x (take n items) (meet eqb (length items) full place x (take n items)) Full items
   crowded ge l = meet-full eqb (length items) full place x (take n items) (omega (arith, count)) (omega (arith, count))
 
-  next : n ≤ k → n < length items → Meets full place (meet eqb (length items) full place x (take n items)) (Count (n + 1)) (set items n x)
-  next ge lt = (
-    meet-next eqb (length items) full place x (take n items) (omega (arith, count)) (omega (arith, count)) ∙ rw (add-one, take-suc-set items n x lt),
-    rw length-set (omega arith),
-  )
+  next : n ≤ k → n < length items → Meets full place x (take n items) (meet eqb (length items) full place x (take n items)) (Number n (n + 1)) (set items n x)
+  next ge lt =
+      let more = take-suc-set items n x lt in
+      record {
+        are = meet-next eqb (length items) full place x (take n items) (omega (arith, count)) (omega (arith, count)) ∙ rw (add-one, more);
+        fits = rw length-set (omega arith);
+        first = rw (count, take-take n (n + 1) (set items n x) (omega arith)) (take-set-le n items n x (omega arith));
+        found = sym (rw (add-one, more) (find-next eqb x (take n items) (eq-eqb x x refl) (omega (arith, count)) ∙ count));
+        inside = omega arith;
+      }
 
 find-requires : tie.Need-find-requires
 find-requires c κs = search needs

@@ -1,34 +1,27 @@
 -- `generalized::start` meets its contract: the first i sets of the cover are in (`Covering`).
 -- Assumes nothing.
 use borrow.Author.Needs.{needs}
-use native.Mathlib.Omega.{arith}
 use Prim.Native.Nat.{_-_}
-use Rattle.formula.specs.Rule.{root}
-use Rattle.formula.specs.Formula.{formula, tree}
+use Rattle.formula.specs.Formula.{formula}
 use Rattle.term.specs.Term.{cover}
-use Rattle.generalized.proofs.Passed.{some-nodes, ready, few}
+use Rattle.generalized.proofs.Passed.{initial-few}
 use Rattle.generalized.proofs.Covering.{Covering, cover-begins, cover-steps, cover-ends}
 use Rattle.generalized.proofs.start.Statement.{statement}
 use Rattle.generalized.proofs.start.Tie as tie
 
 abbrev Inv-loop : tie.InvT-loop
-Inv-loop rule states₀ sets count i₀ states i = Covering (cover (tree rule (root rule))) sets states i
+Inv-loop rule states₀ sets count i₀ states i = Covering (cover (formula rule)) sets states i
 
 abbrev μ-loop : tie.MeasureT-loop
 μ-loop rule states₀ sets count i₀ states i = sets .count - i
 
-sub-cover-of : tie.Need-sub-cover-of Inv-loop μ-loop
-sub-cover-of c = omega (arith, some-nodes _ (c .before .before .pre .0))
-
-cover-of-requires : tie.Need-cover-of-requires Inv-loop μ-loop
-cover-of-requires c κs =
-    let passed = c .before .before .pre .0 in
-    ready _ passed _ (omega (arith, some-nodes _ passed))
+root-cover-requires : tie.Need-root-cover-requires Inv-loop μ-loop
+root-cover-requires c κs = search needs
 
 loop-holds : tie.Need-loop-holds Inv-loop μ-loop
 loop-holds c =
     let s = c .before .before .before in
-    cover-begins _ _ _ (c .cover-of .ensures) (few _ (s .pre .0) _ (omega (arith, some-nodes _ (s .pre .0))) .cover) (s .pre .1)
+    cover-begins _ _ _ (c .root-cover .ensures) (initial-few _ (s .pre .0)) (s .pre .1)
 
 mul-states : tie.Need-mul-states Inv-loop μ-loop
 mul-states c = search needs
@@ -57,7 +50,6 @@ same-length : tie.Need-same-length Inv-loop μ-loop
 same-length c = search needs
 
 returns : tie.Need-returns Inv-loop μ-loop
-unfolding formula
 returns c = (cover-ends _ _ _ (c .before .loop .i) (c .before .loop .inv) (c .loop-test .left), c .before .loop .inv .few)
 
 pub start-spec : {M : Type 1} → statement M
@@ -66,8 +58,7 @@ start-spec =
     (tie.spec
     Inv-loop
     μ-loop
-    sub-cover-of
-    cover-of-requires
+    root-cover-requires
     loop-holds
     mul-states
     element-copy-out-states

@@ -1,25 +1,28 @@
--- `generalized::state_terms` meets its contract: p is the product over the obligations below k (`Multiplying`).
+-- `generalized::state_terms` meets its contract: the product over the obligations below k is there (`Multiplying`).
 -- Assumes nothing.
 use borrow.Author.Needs.{needs}
-use borrow.Author.Tests.{not-true}
 use native.Mathlib.Omega.{arith}
+use borrow.Author.Tests.{not-true, not-false}
 use Prim.Native.Nat.{_-_}
 use mathlib.Core.Path.{refl, sym, _∙_}
-use Rattle.generalized.proofs.Passed.{most-nodes, few, in-range}
-use Rattle.generalized.proofs.Products.{Multiplying, multiply-begins, multiply-skips, multiply-steps, multiply-over, multiply-ends}
+use Rattle.generalized.proofs.Passed.{most-nodes, in-range}
+use Rattle.generalized.proofs.Products.{factor-of, Multiplying, multiply-begins, multiply-skips, multiply-steps, multiply-over, multiply-ends}
 use Rattle.generalized.proofs.state_terms.Statement.{statement}
 use Rattle.generalized.proofs.state_terms.Tie as tie
 
 abbrev Inv-loop : tie.InvT-loop
-Inv-loop rule n items counts state p₀ k₀ p k = Multiplying rule state n p k
+Inv-loop rule table state product₀ next₀ n count₀ k₀ product next count k = Multiplying rule state n product next count k
 
 abbrev μ-loop : tie.MeasureT-loop
-μ-loop rule n items counts state p₀ k₀ p k = n - k
+μ-loop rule table state product₀ next₀ n count₀ k₀ product next count k = n - k
+
+slice-write-product : tie.Need-slice-write-product Inv-loop μ-loop
+slice-write-product c = search needs
 
 loop-holds : tie.Need-loop-holds Inv-loop μ-loop
 loop-holds c =
-    let s = c .before .before in
-    multiply-begins _ _ _ _ (omega (arith, most-nodes _ (s .pre .2))) refl refl
+    let s = c .before .before .before .before in
+    multiply-begins _ _ _ (s .args .product .now) _ (omega (arith, most-nodes _ (s .pre .0))) (s .pre .3) (s .pre .4)
 
 has-requires : tie.Need-has-requires Inv-loop μ-loop
 has-requires c κs = search needs
@@ -33,26 +36,27 @@ loop-less c = search needs
 loop-again : tie.Need-loop-again Inv-loop μ-loop
 loop-again c =
     let at = c .before .before .before in
-    let s = at .before .before .before in
-    multiply-skips _ _ _ (λ j lt. in-range _ (s .pre .2) j (omega arith)) _ _ _ (at .loop .k) (omega arith) (s .pre .3 _ (omega arith)) (at .loop .inv) (sym (c .before .has .ensures) ∙ not-true _ (c .if1 .taken))
+    multiply-skips _ _ _ _ _ _ (at .loop .k) (omega arith) (at .loop .inv) (sym (c .before .has .ensures) ∙ not-true _ (c .if1 .taken))
 
-mul-times-node : tie.Need-mul-times-node Inv-loop μ-loop
-mul-times-node c = search needs
+times-requires : tie.Need-times-requires Inv-loop μ-loop
+times-requires c κs =
+    let at = c .before .before .before .before .before in
+    let s = at .before .before .before .before .before in
+    (omega arith, at .loop .inv .fits, at .loop .inv .room, at .loop .inv .beside, factor-of _ _ (at .loop .k) (s .pre .0) (s .pre .1) (omega arith) (s .pre .2 _ (omega arith)))
 
-element-copy-out-times-node : tie.Need-element-copy-out-times-node Inv-loop μ-loop
-element-copy-out-times-node c = search needs
+same-length : tie.Need-same-length Inv-loop μ-loop
+same-length c = search needs
 
-times-node-requires : tie.Need-times-node-requires Inv-loop μ-loop
-times-node-requires c κs =
-    let at = c .before .before .before .before in
-    let s = at .before .before .before in
-    (s .pre .0, omega arith, at .loop .inv .fits, omega (arith, s .pre .3 (at .loop .k) (omega arith) .count, few _ (s .pre .2) (at .loop .k) (omega arith) .terms))
+same-length-2 : tie.Need-same-length-2 Inv-loop μ-loop
+same-length-2 c = search needs
 
 returns : tie.Need-returns Inv-loop μ-loop
 returns c =
-    let at = c .before .before .before .before .before .before .before in
-    let s = at .before .before .before in
-    multiply-over _ _ _ (λ j lt. in-range _ (s .pre .2) j (omega arith)) _ _ _ _ (at .loop .k) (omega arith) (s .pre .3 _ (omega arith)) (at .loop .inv) (c .before .before .times-node .ensures) (s .pre .1) (c .if2 .taken)
+    let call = c .before .before .before .before .before in
+    let test = call .before .before .before in
+    let at = test .before .before .before in
+    let s = at .before .before .before .before .before in
+    multiply-over _ _ _ _ _ _ (at .loop .k) (omega arith) (at .loop .inv) (λ j lt. in-range _ (s .pre .0) j (omega arith)) _ (s .pre .2 _ (omega arith)) (sym (test .before .has .ensures) ∙ not-false _ (test .if1 .left)) _ _ (call .times .kept .1 .1 .0) (call .times .ensures) refl (c .if2 .taken)
 
 add-k-2 : tie.Need-add-k-2 Inv-loop μ-loop
 add-k-2 c = search needs
@@ -62,12 +66,20 @@ loop-less-2 c = search needs
 
 loop-again-2 : tie.Need-loop-again-2 Inv-loop μ-loop
 loop-again-2 c =
-    let at = c .before .before .before .before .before .before .before in
-    let s = at .before .before .before in
-    multiply-steps _ _ _ (λ j lt. in-range _ (s .pre .2) j (omega arith)) _ _ _ _ (at .loop .k) (omega arith) (s .pre .3 _ (omega arith)) (at .loop .inv) (c .before .before .times-node .ensures) (c .if2 .left)
+    let call = c .before .before .before .before .before in
+    let test = call .before .before .before in
+    let at = test .before .before .before in
+    let s = at .before .before .before .before .before in
+    multiply-steps _ _ _ _ _ _ (at .loop .k) (omega arith) (at .loop .inv) (λ j lt. in-range _ (s .pre .0) j (omega arith)) _ (s .pre .2 _ (omega arith)) (sym (test .before .has .ensures) ∙ not-false _ (test .if1 .left)) _ _ (call .times .kept .1 .1 .0) (call .times .ensures) (call .times .kept .1 .1 .1 .1 .0) (c .if2 .left)
+
+same-length-3 : tie.Need-same-length-3 Inv-loop μ-loop
+same-length-3 c = search needs
+
+same-length-4 : tie.Need-same-length-4 Inv-loop μ-loop
+same-length-4 c = search needs
 
 returns-2 : tie.Need-returns-2 Inv-loop μ-loop
-returns-2 c = multiply-ends _ _ _ _ (c .before .loop .k) (c .before .before .before .before .pre .1) (c .loop-test .left) (c .before .loop .inv)
+returns-2 c = multiply-ends _ _ _ _ _ _ (c .before .loop .k) refl (c .loop-test .left) (c .before .loop .inv)
 
 pub state-terms-spec : {M : Type 1} → statement M
 state-terms-spec =
@@ -75,16 +87,19 @@ state-terms-spec =
     (tie.spec
     Inv-loop
     μ-loop
+    slice-write-product
     loop-holds
     has-requires
     add-k
     loop-less
     loop-again
-    mul-times-node
-    element-copy-out-times-node
-    times-node-requires
+    times-requires
+    same-length
+    same-length-2
     returns
     add-k-2
     loop-less-2
     loop-again-2
+    same-length-3
+    same-length-4
     returns-2)

@@ -1,6 +1,7 @@
--- `generalized::walk_state` meets its contract: its two calls are the two steps of `walkState` (`Walking`).
+-- `generalized::walk_state` meets its contract: its calls are the steps of `walkState` (`Walking`).
 -- Assumes nothing.
 use borrow.Author.Needs.{needs}
+use mathlib.Core.Path.{refl}
 use Rattle.generalized.proofs.Walking.{state-refused, state-adds}
 use Rattle.generalized.proofs.walk_state.Statement.{statement}
 use Rattle.generalized.proofs.walk_state.Tie as tie
@@ -11,17 +12,44 @@ mul-state c = search needs
 slice-read-state : tie.Need-slice-read-state
 slice-read-state c = search needs
 
+slice-aggregate-state-terms : tie.Need-slice-aggregate-state-terms
+slice-aggregate-state-terms c = search needs
+
+slice-aggregate-state-terms-2 : tie.Need-slice-aggregate-state-terms-2
+slice-aggregate-state-terms-2 c = search needs
+
 state-terms-requires : tie.Need-state-terms-requires
-state-terms-requires c κs = search needs
+state-terms-requires c κs =
+    let s = c .before .before .before .before .before .before .before in
+    (s .pre .0, s .pre .1 .places, s .pre .1 .rows, refl, refl)
 
 returns : tie.Need-returns
 returns c =
-    let terms = c .before in
-    let s = terms .before .before .before .before .before .before in
-    state-refused _ _ _ _ _ (s .pre .3) _ (terms .state-terms .ensures) (c .if1 .taken)
+    let terms = c .before .before .before in
+    let s = terms .before .before .before .before .before .before .before .before in
+    state-refused _ _ _ _ _ (s .pre .2) _ _ (terms .state-terms .ensures) (c .if1 .taken)
+
+slice-aggregate-fulfil : tie.Need-slice-aggregate-fulfil
+slice-aggregate-fulfil c = search needs
+
+slice-aggregate-fulfil-2 : tie.Need-slice-aggregate-fulfil-2
+slice-aggregate-fulfil-2 c = search needs
+
+fulfil-requires : tie.Need-fulfil-requires
+fulfil-requires c κs =
+    let s = c .before .before .before .before .before .before .before .before .before .before .before .before .before in
+    (search needs, search needs, s .pre .1)
+
+slice-aggregate-meet-all : tie.Need-slice-aggregate-meet-all
+slice-aggregate-meet-all c = search needs
+
+slice-aggregate-meet-all-2 : tie.Need-slice-aggregate-meet-all-2
+slice-aggregate-meet-all-2 c = search needs
 
 meet-all-requires : tie.Need-meet-all-requires
-meet-all-requires c κs = search needs
+meet-all-requires c κs =
+    let s = c .before .before .before .before .before .before .before .before .before .before .before .before .before .before .before .before .before .before .before in
+    (search needs, search needs, s .pre .3)
 
 same-length : tie.Need-same-length
 same-length c = search needs
@@ -31,11 +59,12 @@ same-length-2 c = search needs
 
 returns-2 : tie.Need-returns-2
 returns-2 c =
-    let met = c .before .before .before .before in
-    let test = met .before .before .before in
-    let s = test .before .before .before .before .before .before .before in
-    let all = met .meet-all in
-    state-adds _ (s .args .states .now) _ _ (s .args .total) (s .pre .3) _ (test .before .state-terms .ensures) (s .pre .1) (test .if1 .left) (s .args .terms .now) (all .result) (all .last .1 .1 .0) (all .last .1 .1 .1 .1 .0) (all .ensures)
+    let all = c .before .before .before .before in
+    let told = all .before .before .before .before .before .before in
+    let test = told .before .before .before in
+    let terms = test .before .before .before in
+    let s = terms .before .before .before .before .before .before .before .before in
+    state-adds _ (s .args .states .now) _ _ (s .args .before .transitions) (s .pre .2) _ _ (terms .state-terms .ensures) (s .pre .0) (test .if1 .left) _ (s .args .transitions .now) (all .meet-all .result) (all .meet-all .last .1 .1 .1 .1 .0) (all .meet-all .last .1 .1 .1 .1 .1 .0) (told .fulfil .ensures) (all .meet-all .ensures)
 
 pub walk-state-spec : {M : Type 1} → statement M
 walk-state-spec =
@@ -43,8 +72,15 @@ walk-state-spec =
     (tie.spec
     mul-state
     slice-read-state
+    slice-aggregate-state-terms
+    slice-aggregate-state-terms-2
     state-terms-requires
     returns
+    slice-aggregate-fulfil
+    slice-aggregate-fulfil-2
+    fulfil-requires
+    slice-aggregate-meet-all
+    slice-aggregate-meet-all-2
     meet-all-requires
     same-length
     same-length-2

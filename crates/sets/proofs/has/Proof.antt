@@ -1,9 +1,9 @@
--- `generalized::has` meets its contract: the mask 1 takes the remainder by 2.
+-- `sets::has` meets its contract: the mask 1 takes the remainder by 2.
 -- Assumes nothing.
 use borrow.Author.Needs.{needs}
 use lib.Bits.{and-mask}
-use Rattle.generalized.proofs.has.Statement.{statement}
-use Rattle.generalized.proofs.has.Tie as tie
+use Rattle.sets.proofs.has.Statement.{statement}
+use Rattle.sets.proofs.has.Tie as tie
 
 shr-result : tie.Need-shr-result
 shr-result c = search needs

@@ -1,24 +1,21 @@
--- The tests on packed terms say of numbers what the definitions say of terms, and every transition can be packed.
+-- The tests on packed terms say of numbers what the definitions say of terms.
+-- Assumes nothing.
 use mathlib.Core.Path.{_≡_, refl}
 use mathlib.Core.Bool.{Bool, true, false, _&&_, and-assoc}
-use mathlib.Core.List.{List, [], _∷_, _++_, map}
-use Prim.Native.Nat.{ℕ, zero, suc, _<_}
+use mathlib.Core.List.{List, map}
+use Prim.Native.Nat.{ℕ}
 use native.Mathlib.Omega.{arith}
 use lib.Dec.{eqb}
-use lib.ListN.{getD}
 use borrow.Author.Tests.{eq-eqb, ne-eqb, eqb-true, eqb-false}
 use Rattle.sets.specs.Sets.{any}
-use Rattle.formula.specs.Rule.{nodeCount}
 use Rattle.formula.specs.Formula.{tree, InRange}
-use Rattle.term.specs.Term.{Term, term, joined, terms}
-use Rattle.term.specs.Packed.{pack}
-use Rattle.term.proofs.Packing.{Numbers, none, more, canonical, Bytes, of-terms, terms-numbers}
-use Rattle.generalized.specs.Generalized.{shows, fulfils, transitions}
-use Rattle.generalized.specs.Memory.{obligationsN, allTransitions}
-use Rattle.generalized.proofs.Products.{Packed, partial-packed}
-use Rattle.acceptance.specs.Marks.{showsN, fulfilsN}
+use Rattle.term.specs.Term.{Term, joined, terms}
+use Rattle.term.specs.Packed.{pack, obligationsN, unpack}
+use Rattle.term.proofs.Packing.{Numbers, none, more, Bytes, of-terms, terms-numbers}
+use Rattle.term.proofs.Unpacking.{pack-unpack, unpack-bytes}
+use Rattle.acceptance.specs.Acceptance.{shows, fulfils}
+use Rattle.acceptance.specs.Memory.{showsN, fulfilsN}
 
--- ---- the tests
 -- one number is another where the three parts are
 equal-parts : (x y : Term) → Bytes x → Bytes y
     → eqb (pack x) (pack y) ≡ (eqb (x .must) (y .must) && (eqb (x .mustNot) (y .mustNot) && eqb (x .obligations) (y .obligations)))
@@ -43,25 +40,9 @@ unfolding any
 any-packed f t g none = refl
 any-packed f t g (more u h r) = rw (shows-packed f t u g h, any-packed f t g r)
 
-pub fulfils-packed : (rule : List ℕ) (f : ℕ) (t : Term) → InRange (tree rule f) → Bytes t → fulfilsN f (map pack (terms (tree rule f))) (pack t) ≡ fulfils rule f t
+fulfils-packed : (rule : List ℕ) (f : ℕ) (t : Term) → InRange (tree rule f) → Bytes t → fulfilsN f (map pack (terms (tree rule f))) (pack t) ≡ fulfils rule f t
 unfolding fulfils
 fulfils-packed rule f t range g = rw (pack-obligations t g, any-packed f t g (terms-numbers (tree rule f) range))
 
--- ---- the transitions
-append-numbers : {ts us : List Term} {ms ns : List ℕ} → Numbers of-terms ts ms → Numbers of-terms us ns → Numbers of-terms (ts ++ us) (ms ++ ns)
-append-numbers none s = s
-append-numbers (more t g r) s = more t g (append-numbers r s)
-
-all-packed : (rule xs : List ℕ) → ((k : ℕ) → k < nodeCount rule → InRange (tree rule k)) → Packed (allTransitions rule xs)
-unfolding allTransitions transitions
-all-packed rule [] ranges = none
-all-packed rule (x ∷ xs) ranges =
-    canonical of-terms (append-numbers (partial-packed rule x (nodeCount rule) ranges) (all-packed rule xs ranges))
-
-bytes-at : {ts : List Term} {ns : List ℕ} → Numbers of-terms ts ns → (i : ℕ) → Bytes (getD ts i (term 0 0 0))
-bytes-at none i = record { must = omega arith; mustNot = omega arith }
-bytes-at (more t g r) zero = g
-bytes-at (more t g r) (suc i) = bytes-at r i
-
-pub transition-bytes : (rule xs : List ℕ) → ((k : ℕ) → k < nodeCount rule → InRange (tree rule k)) → (i : ℕ) → Bytes (getD (allTransitions rule xs) i (term 0 0 0))
-transition-bytes rule xs ranges = bytes-at (all-packed rule xs ranges)
+pub fulfils-number : (rule : List ℕ) (f t : ℕ) → InRange (tree rule f) → fulfilsN f (map pack (terms (tree rule f))) t ≡ fulfils rule f (unpack t)
+fulfils-number rule f t range = rw (pack-unpack t) at (fulfils-packed rule f (unpack t) range (unpack-bytes t))

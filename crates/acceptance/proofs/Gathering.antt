@@ -1,4 +1,5 @@
--- The untils of a rule that 1 to 7 and 20 let pass: they are nodes of it, at most 8, and a loop over the nodes gathers them.
+-- The untils of a rule that 1 to 7 let pass: they are nodes of it, at most 8, and a loop over the nodes gathers them.
+-- Assumes nothing.
 use mathlib.Core.Path.{_≡_, refl, _∙_}
 use mathlib.Core.Bool.{Bool, true, false, cond}
 use mathlib.Core.List.{List, [], _∷_, _++_}
@@ -10,14 +11,14 @@ use lib.Dec.{eqb}
 use lib.ListN.{length, getD, take, length-append, List·getD-append}
 use lib.Seq.{getD-at}
 use Rattle.answer.specs.Result.{fine}
-use Rattle.formula.specs.Rule.{nodeCount, kindAt, untils}
+use Rattle.formula.specs.Limits.{maxUntils}
+use Rattle.formula.specs.Rule.{nodeCount, kindAt, checked, untils}
 use Rattle.formula.proofs.Accepted.{accepted-fine}
-use Rattle.term.specs.Size.{checked}
-use Rattle.generalized.proofs.Passed.{some-nodes, ready}
-use Rattle.acceptance.specs.Marks.{ownUntil}
+use Rattle.acceptance.specs.Acceptance.{untilCount}
+use Rattle.acceptance.specs.Memory.{ownUntil, IsUntils}
 
-pub untils-few : (rule : List ℕ) → checked rule ≡ fine → length (untils rule (nodeCount rule)) ≤ 8
-untils-few rule passed = accepted-fine rule (ready rule passed 0 (some-nodes rule passed) .accepted) .untils
+pub untils-few : (rule : List ℕ) → checked rule ≡ fine → untilCount rule ≤ maxUntils
+untils-few rule passed = accepted-fine rule passed .untils
 
 -- an until among the first n nodes is one of them
 pub untils-below : (rule : List ℕ) (n k : ℕ) → k < length (untils rule n) → getD (untils rule n) k 0 < n
@@ -50,19 +51,19 @@ untils-rise rule i (suc n) le = pick (ℕ-discrete i (suc n)) (λ l. untils-rise
 -- a loop over n nodes that stands at i: the first count of nodes are the untils among the first i
 pub record Gathering (rule : List ℕ) (n : ℕ) (nodes : List ℕ) (count i : ℕ) : Type 0 where
   pub within : i ≤ n
-  pub room : length nodes ≡ 8
+  pub room : length nodes ≡ maxUntils
   pub counted : count ≡ length (untils rule i)
   pub gathered : take count nodes ≡ untils rule i
 
 module _ (rule : List ℕ) (n : ℕ) (nodes : List ℕ) where
-  pub gather-begins : length nodes ≡ 8 → Gathering rule n nodes 0 0
+  pub gather-begins : length nodes ≡ maxUntils → Gathering rule n nodes 0 0
   unfolding untils
   gather-begins room = record { within = omega arith; room = room; counted = refl; gathered = refl }
 
-  pub gather-ends : (count i : ℕ) → n ≡ nodeCount rule → n ≤ i → Gathering rule n nodes count i → (take count nodes ≡ untils rule (nodeCount rule)) × (count ≡ length (untils rule (nodeCount rule)))
+  pub gather-ends : (count i : ℕ) → n ≡ nodeCount rule → n ≤ i → Gathering rule n nodes count i → IsUntils rule nodes count
   gather-ends count i e le inv =
-      let same : nodeCount rule ≡ i = omega (arith, inv .within) in
-      rw same (inv .gathered, inv .counted)
+      let same : i ≡ nodeCount rule = omega (arith, inv .within) in
+      record { counted = rw same at (inv .counted); gathered = rw same at (inv .gathered) }
 
   module _ (count i kind : ℕ) (lt : i < n) (is : kind ≡ kindAt rule i) (inv : Gathering rule n nodes count i) where
     next-count : length (untils rule (suc i)) ≡ count + length (ownUntil kind i)

@@ -1,0 +1,171 @@
+-- `generalized::times` meets its contract: a copied row is the product with the one term 0, else the product is worked
+-- out beside and copied back. Assumes nothing.
+use borrow.Author.Needs.{needs}
+use native.Mathlib.Omega.{arith}
+use mathlib.Core.Path.{_≡_, refl, _∙_}
+use mathlib.Core.List.{List, [], _∷_, _++_}
+use Prim.Native.Nat.{ℕ, suc, _+_, _-_, _*_, _≤_, _<_}
+use lib.ListN.{length, getD, take, drop, length-append, length-drop}
+use borrow.Author.Tests.{eqb-true}
+use lib.Seq.{take-suc, take-take, take-at, length-take-le}
+use Rattle.sets.specs.Sets.{Stores, insertProductN}
+use Rattle.sets.proofs.Stores.{empty, items-are}
+use Rattle.term.specs.Limits.{rowPlaces}
+use Rattle.term.specs.Table.{rowOf}
+use Rattle.generalized.specs.Limits.{maxProduct}
+use Rattle.generalized.specs.Memory.{Factor}
+use Rattle.generalized.proofs.times.Statement.{statement}
+use Rattle.generalized.proofs.times.Tie as tie
+
+-- the first n of ws put over the front of places
+front : (ws places : List ℕ) (n : ℕ) {after vs : List ℕ} → n ≤ length places → length ws ≡ n → ws ≡ vs → after ≡ ws ++ drop n places → Stores after n vs
+front ws places n le l is e =
+    let size : length (ws ++ drop n places) ≡ length places = length-append ws (drop n places) ∙ omega (arith, length-drop n places) in
+    rw (e, ← is) (record { count = omega (arith, size, l); items = λ _. take-at ws (drop n places) n l })
+
+module _ (table : List ℕ) (k n : ℕ) (factor : Factor table k) (is : n ≡ getD table (k * rowPlaces) 0) where
+  abbrev part : List ℕ
+  part = take (k * rowPlaces + 1 + n - (k * rowPlaces + 1)) (drop (k * rowPlaces + 1) table)
+
+  row : take n part ≡ rowOf table k
+  row =
+      let from : k * rowPlaces + 1 ≡ suc (k * rowPlaces) = omega arith in
+      let same : k * rowPlaces + 1 + n - (k * rowPlaces + 1) ≡ n = omega arith in
+      rw (same, take-take n n (drop (k * rowPlaces + 1) table) (omega arith), from, is)
+
+  row-size : length (take n part) ≡ n
+  row-size = rw row (rw is (length-take-le (getD table (k * rowPlaces) 0) (drop (suc (k * rowPlaces)) table) (omega (arith, factor .inside, length-drop (suc (k * rowPlaces)) table))))
+
+  alone : (product : List ℕ) (count : ℕ) {after : List ℕ} → count ≡ 1 → getD product 0 0 ≡ 0 → length product ≡ maxProduct → after ≡ take n part ++ drop n product → Stores after n (insertProductN (take count product) (rowOf table k) [])
+  alone product count one zero size e =
+      let first : take 1 product ≡ 0 ∷ [] = take-suc product 0 0 (omega arith) ∙ rw zero in
+      rw (one, first, factor .alone) (front (take n part) product n (omega (arith, factor .few)) row-size row e)
+
+  module _ (product next : List ℕ) (count more : ℕ) (size : length product ≡ maxProduct) (room : length next ≡ maxProduct) (h : Stores next more (insertProductN (take count product) (take n part) [])) where
+    over : maxProduct < more → Stores product more (insertProductN (take count product) (rowOf table k) [])
+    over lt = rw (← row) (record { count = omega (arith, h .count); items = λ le. absurd (omega (arith, h .count)) })
+
+    back : more ≤ maxProduct → {after : List ℕ} → after ≡ take more next ++ drop more product → Stores after more (insertProductN (take count product) (rowOf table k) [])
+    back le e =
+        rw (← row) (front (take more next) product more (omega arith) (length-take-le more next (omega arith)) (items-are h (omega arith)) e)
+
+mul-row : tie.Need-mul-row
+mul-row c = search needs
+
+mul-n : tie.Need-mul-n
+mul-n c = search needs
+
+shared-slice-read-n : tie.Need-shared-slice-read-n
+shared-slice-read-n c = search needs
+
+add-from : tie.Need-add-from
+add-from c = search needs
+
+slice-read-if2 : tie.Need-slice-read-if2
+slice-read-if2 c = search needs
+
+add-copy-words : tie.Need-add-copy-words
+add-copy-words c = search needs
+
+mul-copy-words : tie.Need-mul-copy-words
+mul-copy-words c = search needs
+
+sub-copy-words : tie.Need-sub-copy-words
+sub-copy-words c = search needs
+
+part-copy-words-start : tie.Need-part-copy-words-start
+part-copy-words-start c = search needs
+
+part-copy-words-end : tie.Need-part-copy-words-end
+part-copy-words-end c = search needs
+
+copy-words-requires : tie.Need-copy-words-requires
+copy-words-requires c κs = search needs
+
+same-length : tie.Need-same-length
+same-length c = search needs
+
+returns : tie.Need-returns
+returns c =
+    let call = c .before .before in
+    let test = call .before .before .before in
+    let s = test .before .before .before .before .before .before .before in
+    alone (s .args .table .now) (s .args .k) _ (s .pre .4) refl (s .args .product .now) (s .args .count) (test .before .before .if1 .taken) (eqb-true (getD (s .args .product .now) 0 0) 0 (test .if2 .taken)) (s .pre .2) (call .copy-words .ensures)
+
+add-product : tie.Need-add-product
+add-product c = search needs
+
+mul-product : tie.Need-mul-product
+mul-product c = search needs
+
+sub-product : tie.Need-sub-product
+sub-product c = search needs
+
+part-product-start : tie.Need-part-product-start
+part-product-start c = search needs
+
+part-product-end : tie.Need-part-product-end
+part-product-end c = search needs
+
+product-requires : tie.Need-product-requires
+product-requires c κs = search needs
+
+same-length-2 : tie.Need-same-length-2
+same-length-2 c = search needs
+
+same-length-3 : tie.Need-same-length-3
+same-length-3 c = search needs
+
+returns-2 : tie.Need-returns-2
+returns-2 c =
+    let call = c .before .before .before in
+    let s = call .before .before .before .before .before .before .before .before .before in
+    over (s .args .table .now) (s .args .k) _ (s .pre .4) refl (s .args .product .now) _ (s .args .count) _ (s .pre .2) (call .product2 .kept .0 ∙ s .pre .3) (call .product2 .ensures .updates _ (empty _)) (c .if3 .taken)
+
+copy-words-requires-2 : tie.Need-copy-words-requires-2
+copy-words-requires-2 c κs = search needs
+
+same-length-4 : tie.Need-same-length-4
+same-length-4 c = search needs
+
+same-length-5 : tie.Need-same-length-5
+same-length-5 c = search needs
+
+returns-3 : tie.Need-returns-3
+returns-3 c =
+    let copy = c .before .before in
+    let test = copy .before .before .before in
+    let call = test .before .before .before in
+    let s = call .before .before .before .before .before .before .before .before .before in
+    back (s .args .table .now) (s .args .k) _ (s .pre .4) refl (s .args .product .now) _ (s .args .count) _ (s .pre .2) (call .product2 .kept .0 ∙ s .pre .3) (call .product2 .ensures .updates _ (empty _)) (test .if3 .left) (copy .copy-words2 .ensures)
+
+pub times-spec : {M : Type 1} → statement M
+times-spec =
+    tie.close
+    (tie.spec
+    mul-row
+    mul-n
+    shared-slice-read-n
+    add-from
+    slice-read-if2
+    add-copy-words
+    mul-copy-words
+    sub-copy-words
+    part-copy-words-start
+    part-copy-words-end
+    copy-words-requires
+    same-length
+    returns
+    add-product
+    mul-product
+    sub-product
+    part-product-start
+    part-product-end
+    product-requires
+    same-length-2
+    same-length-3
+    returns-2
+    copy-words-requires-2
+    same-length-4
+    same-length-5
+    returns-3)
