@@ -133,10 +133,3 @@ pub fn fulfil(rule: &[u8], table: &[u64], untils: Untils, ts: &[u64], n: usize, 
         i += 1;
     }
 }
-
-// A byte that says yes or no, as an accepting state's.
-pub fn flag(b: bool) -> u8
-    ensures { λ r. ⌜ r ≡ cond b 1 0 ⌝ }
-{
-    if b { 1 } else { 0 }
-}

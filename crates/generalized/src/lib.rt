@@ -80,10 +80,10 @@ pub fn target_of(x: u64) -> GeneralizedState
     GeneralizedState((x / 16777216) as usize)
 }
 
-pub fn fulfilled_by(x: u64) -> u8
+pub fn fulfilled_by(x: u64) -> u64
     ensures { λ r. ⌜ r ≡ keptUntils x ⌝ }
 {
-    (x / 65536 % 256) as u8
+    x / 65536 % 256
 }
 
 pub fn must_of(x: u64) -> u8

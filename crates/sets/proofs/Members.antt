@@ -39,6 +39,9 @@ in-append x (y ∷ xs) ys (inl (inl e)) = inl e
 in-append x (y ∷ xs) ys (inl (inr h)) = inr (in-append x xs ys (inl h))
 in-append x (y ∷ xs) ys (inr h) = inr (in-append x xs ys (inr h))
 
+pub all-last : {A : Type 0} (P : A → Type 0) (xs : List A) (x : A) → All P xs → P x → All P (xs ++ (x ∷ []))
+all-last P xs x all p y h = elim (append-in y xs (x ∷ []) h) [ inl m ↦ all y m | inr m ↦ all-one P x p y m ]
+
 pub map-in : {A B : Type 0} (f : A → B) (z : B) (xs : List A) → In z (map f xs) → (x : A) × In x xs × (z ≡ f x)
 map-in f z [] h = absurd h
 map-in f z (y ∷ ys) (inl e) = (y, inl refl, e)

@@ -6,10 +6,10 @@ use Prim.Native.Nat.{ℕ, zero, suc, _+_, _/_, _≤_, _<_}
 use native.Mathlib.Numerals.{add-one}
 use native.Mathlib.Omega.{arith}
 use lib.ListN.{length, getD, take, length-append, length-map}
+use Rattle.sets.proofs.Members.{all-last}
 use Rattle.term.specs.Limits.{maxTerms}
 use Rattle.translation.specs.Degeneralized.{numbers}
 use Rattle.translation.specs.Memory.{codeOf, levelPlaces, Within, Numbered}
-use Rattle.translation.proofs.Explored.{all-last}
 use Rattle.translation.proofs.Numbering.{find-none, unmet}
 
 pub numbers-length : (n : ℕ) → length (numbers n) ≡ n

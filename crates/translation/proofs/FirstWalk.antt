@@ -1,37 +1,28 @@
 -- The first walk's tables, as the second walk reads them: the row of each state, its transitions and their parts.
 -- Assumes nothing.
-use mathlib.Core.Path.{_≡_, refl, sym, ap, subst, _∙_}
+use mathlib.Core.Path.{_≡_, refl, sym, ap, _∙_}
 use mathlib.Core.Logic.{inl, inr}
 use mathlib.Core.List.{List, [], _∷_, _++_, map, append-nil, append-assoc}
-use Prim.Native.Nat.{ℕ, zero, suc, _+_, _-_, _≤_, _<_}
+use Prim.Native.Nat.{ℕ, zero, suc, _+_, _≤_, _<_}
 use native.Mathlib.Omega.{arith}
 use lib.ListN.{length, getD, take, drop, length-append, take-append-drop, List·getD-append}
-use lib.Seq.{take-suc, getD-take, getD-append-seam, append-snoc}
-use lib.Dec.{eqb, leb}
-use borrow.Author.Tests.{eq-eqb, leb-true}
+use lib.Seq.{take-suc, getD-take, getD-append-seam, append-snoc, length-take-le}
+use lib.Dec.{eqb}
+use borrow.Author.Tests.{eqb-true, eq-eqb}
 use Rattle.answer.specs.Result.{fine}
-use Rattle.answer.proofs.Lowest.{fine-first, lowest-each}
-use Rattle.answer.proofs.Results.{require-fine}
 use Rattle.sets.proofs.Members.{All, at-in, in-map, append-in, map-at}
-use Rattle.formula.specs.Limits.{maxUntils}
-use Rattle.formula.specs.Rule.{nodeCount, root}
-use Rattle.formula.specs.Rule
 use Rattle.formula.specs.Formula.{formula}
-use Rattle.formula.proofs.Accepted.{accepted-fine}
-use Rattle.term.specs.Limits.{maxTerms}
 use Rattle.term.specs.Term.{Term, term, cover}
 use Rattle.term.specs.Size.{checked}
-use Rattle.term.proofs.Packing.{Numbers, none, more, Bytes, of-terms}
-use Rattle.generalized.specs.Limits.{maxProduct, maxGeneralizedStates}
+use Rattle.acceptance.specs.Acceptance.{fulfilment}
+use Rattle.generalized.specs.Limits.{maxGeneralizedStates}
 use Rattle.generalized.specs.Explore.{find}
-use Rattle.generalized.specs.Generalized.{partialProduct, transitions, productCheck, transitionCheck, targets, generalized}
-use Rattle.generalized.specs.Memory.{allTransitions}
-use Rattle.generalized.proofs.Passed.{some-nodes, in-range, few}
-use Rattle.generalized.proofs.Products.{partial-packed}
-use Rattle.acceptance.specs.Acceptance.{untilCount, fulfilment}
-use Rattle.translation.specs.Memory.{kept, keptTarget, keptUntils, keptMust, keptMustNot, range, rowStart, rowCount, row, Walks, Ends}
-use Rattle.translation.proofs.Explored.{Walked, walked, Found}
-use Rattle.translation.proofs.Kept.{target-kept, untils-kept, must-kept, must-not-kept}
+use Rattle.generalized.specs.Generalized.{transitions, productCheck, transitionCheck, targets, generalized}
+use Rattle.generalized.specs.Memory.{kept, keptTarget, keptUntils, keptMust, keptMustNot, allTransitions, Tables}
+use Rattle.generalized.proofs.Passed.{initial-few, few-transitions}
+use Rattle.generalized.proofs.Explored.{Explored, explored, extends-longer}
+use Rattle.generalized.proofs.Kept.{Parts, kept-parts}
+use Rattle.translation.specs.Memory.{range, rowStart, rowCount, row, FirstWalk, Ends}
 
 -- ---- transitions of a list of states
 
@@ -56,11 +47,6 @@ module _ (rule : List ℕ) where
   all-each P (x ∷ xs) each t h =
       elim (append-in t (transitions rule x) (allTransitions rule xs) h) [ inl m ↦ each 0 (omega arith) t m | inr m ↦ all-each P xs (λ s lt. each (suc s) (omega arith)) t m ]
 
-all-bytes : {ts : List Term} {ns : List ℕ} → Numbers of-terms ts ns → All Bytes ts
-all-bytes none t h = absurd h
-all-bytes (more u bytes rest) t (inl e) = subst Bytes (sym e) bytes
-all-bytes (more u bytes rest) t (inr h) = all-bytes rest t h
-
 -- what a function of the elements comes to over the places of a part
 range-map : {A B : Type 0} (d : A) (all : List A) (g : ℕ → B) (h : A → B) (mid pre post : List A) → ((i : ℕ) → length pre ≤ i → i < length pre + length mid → g i ≡ h (getD all i d)) → all ≡ (pre ++ mid) ++ post
     → map g (range (length mid) (length pre)) ≡ map h mid
@@ -78,29 +64,34 @@ range-map {A} d all g h (x ∷ mid) pre post each e =
 abbrev pub noTerm : Term
 noTerm = term 0 0 0
 
-module _ (rule : List ℕ) (passed : checked rule ≡ fine) where
-  pub initial-few : length (cover (formula rule)) ≤ maxTerms
-  unfolding formula
-  initial-few = few rule passed (root rule) (omega (arith, some-nodes rule passed)) .cover
+-- what the walk's tables hand over
+pub handed : {rule : List ℕ} {initial n m : ℕ} {states kepts ends : List ℕ} → length states ≡ maxGeneralizedStates → Tables rule initial n m states kepts ends → FirstWalk rule initial kepts ends
+handed {rule} {n = n} {states = states} size t =
+    let counted = t .counted in
+    record {
+      states = take n states;
+      found = t .are;
+      begun = t .begun;
+      most = omega (arith, counted, t .fits);
+      listed = rw (← counted) (t .listed);
+      ending = λ s lt. t .ending s (omega (arith, length-take-le n states (omega (arith, t .few))));
+    }
 
-  pub few-levels : untilCount rule ≤ maxUntils
-  unfolding checked
-  few-levels = accepted-fine rule (fine-first (Rule.checked rule) _ passed) .untils
-
-module _ (rule : List ℕ) (passed : checked rule ≡ fine) {initial : ℕ} {kepts ends : List ℕ} (w : Walks rule initial kepts ends) where
+module _ (rule : List ℕ) (passed : checked rule ≡ fine) {initial : ℕ} {kepts ends : List ℕ} (w : FirstWalk rule initial kepts ends) where
   abbrev pub xs : List ℕ
   xs = w .states
 
   abbrev pub ts : List Term
   ts = allTransitions rule xs
 
-  whole : Walked eqb maxGeneralizedStates (λ x. eq-eqb x x refl) 0 (targets rule) (productCheck rule) (cover (formula rule)) xs
+  pub whole : Explored eqb maxGeneralizedStates 23 transitionCheck 0 (targets rule) (productCheck rule) 0 (cover (formula rule)) xs
   unfolding generalized
-  whole = walked eqb maxGeneralizedStates (λ x. eq-eqb x x refl) 0 (targets rule) (productCheck rule) 23 transitionCheck (cover (formula rule)) xs (omega (arith, initial-few rule passed)) (w .found)
+  whole =
+      explored eqb maxGeneralizedStates 23 transitionCheck 0 (targets rule) (productCheck rule) eqb-true (λ x. eq-eqb x x refl) maxGeneralizedStates 0 0 (cover (formula rule)) xs (omega (arith, initial-few rule passed)) (omega arith) (w .found)
 
   -- the initial states are the first
   pub initial-states : length (cover (formula rule)) ≤ length xs
-  initial-states = whole .onward .longer
+  initial-states = extends-longer (whole .extends)
 
   end-is : (s : ℕ) → s < length xs → getD ends s 0 ≡ length (allTransitions rule (take s xs)) + length (transitions rule (getD xs s 0))
   end-is s lt = w .ending s lt ∙ rw (all-one rule xs s lt) (length-append (allTransitions rule (take s xs)) (transitions rule (getD xs s 0)))
@@ -118,21 +109,13 @@ module _ (rule : List ℕ) (passed : checked rule ≡ fine) {initial : ℕ} {kep
     end-inside =
         omega (arith, end-is s lt, ap length (all-split rule xs s lt), length-append (allTransitions rule (take s xs) ++ transitions rule (getD xs s 0)) (allTransitions rule (drop (suc s) xs)), length-append (allTransitions rule (take s xs)) (transitions rule (getD xs s 0)))
 
-    few-transitions : length (transitions rule (getD xs s 0)) ≤ maxProduct
-    unfolding productCheck transitions
-    few-transitions =
-        let last : nodeCount rule ≡ suc (nodeCount rule - 1) = omega (arith, some-nodes rule passed) in
-        let fits : length (partialProduct rule (getD xs s 0) (suc (nodeCount rule - 1))) ≤ maxProduct =
-        leb-true _ _ (require-fine (leb (length (partialProduct rule (getD xs s 0) (suc (nodeCount rule - 1)))) maxProduct) 21 s (lowest-each _ (nodeCount rule) (whole .taken s lt .passed) (nodeCount rule - 1) (omega (arith, some-nodes rule passed)))) in
-        rw (← last) at fits
-
   pub rows-of : length ends ≡ maxGeneralizedStates → Ends ends (length xs)
   rows-of size = record {
     size = size;
-    states = whole .most;
+    states = whole .small;
     rising = λ s lt. omega (arith, start-is s lt, end-is s lt);
     inside = λ s lt. omega (arith, end-inside s lt, w .most);
-    few = λ s lt. omega (arith, count-is s lt, few-transitions s lt);
+    few = λ s lt. omega (arith, count-is s lt, few-transitions rule passed s (getD xs s 0) (whole .taken s (omega arith) lt .passed));
   }
 
   -- what a function of the transitions comes to over a row
@@ -142,14 +125,11 @@ module _ (rule : List ℕ) (passed : checked rule ≡ fine) {initial : ℕ} {kep
       (range-map noTerm ts g h (transitions rule (getD xs s 0)) (allTransitions rule (take s xs)) (allTransitions rule (drop (suc s) xs))
       (λ i le l. each i (omega (arith, start-is s lt)) (omega (arith, end-is s lt))) (all-split rule xs s lt))
 
-  transition-bytes : All Bytes ts
-  unfolding transitions
-  transition-bytes = all-each rule Bytes xs (λ s lt. all-bytes (partial-packed rule (getD xs s 0) (nodeCount rule) (in-range rule passed)))
-
-  transition-found : All (λ t. Found eqb maxGeneralizedStates xs (t .obligations)) ts
+  transition-found : All (λ t. find eqb (t .obligations) xs < length xs) ts
   unfolding targets
   transition-found =
-      all-each rule (λ t. Found eqb maxGeneralizedStates xs (t .obligations)) xs (λ s lt t h. whole .taken s lt .closed (t .obligations) (in-map (λ u. u .obligations) t (transitions rule (getD xs s 0)) h))
+      all-each rule (λ t. find eqb (t .obligations) xs < length xs) xs
+      (λ s lt t h. whole .numbered (t .obligations) (whole .taken s (omega arith) lt .closed (t .obligations) (in-map (λ u. u .obligations) t (transitions rule (getD xs s 0)) h)) .0)
 
   -- a transition in the table: its parts, and that its target has a number
   module _ (i : ℕ) (lt : i < length ts) where
@@ -159,20 +139,20 @@ module _ (rule : List ℕ) (passed : checked rule ≡ fine) {initial : ℕ} {kep
         ∙ ap (λ (l : List ℕ). getD l i 0) (w .listed)
         ∙ map-at (kept rule xs) noTerm 0 ts i lt
 
-    bytes-at : Bytes (getD ts i noTerm)
-    bytes-at = transition-bytes (getD ts i noTerm) (at-in noTerm ts i lt)
+    parts-at : Parts rule xs (getD ts i noTerm)
+    parts-at = kept-parts rule passed xs xs (getD ts i noTerm) (at-in noTerm ts i lt)
 
     pub target-at : keptTarget (getD kepts i 0) ≡ find eqb (getD ts i noTerm .obligations) xs
-    target-at = rw kept-at (target-kept rule xs (getD ts i noTerm) (few-levels rule passed) bytes-at (w .small _ (at-in noTerm ts i lt)))
+    target-at = rw kept-at (parts-at .target)
 
     pub untils-at : keptUntils (getD kepts i 0) ≡ fulfilment rule (getD ts i noTerm)
-    untils-at = rw kept-at (untils-kept rule xs (getD ts i noTerm) (few-levels rule passed) bytes-at (w .small _ (at-in noTerm ts i lt)))
+    untils-at = rw kept-at (parts-at .untils)
 
     pub must-at : keptMust (getD kepts i 0) ≡ getD ts i noTerm .must
-    must-at = rw kept-at (must-kept rule xs (getD ts i noTerm) (few-levels rule passed) bytes-at (w .small _ (at-in noTerm ts i lt)))
+    must-at = rw kept-at (parts-at .must)
 
     pub must-not-at : keptMustNot (getD kepts i 0) ≡ getD ts i noTerm .mustNot
-    must-not-at = rw kept-at (must-not-kept rule xs (getD ts i noTerm) (few-levels rule passed) bytes-at (w .small _ (at-in noTerm ts i lt)))
+    must-not-at = rw kept-at (parts-at .mustNot)
 
     pub found-at : find eqb (getD ts i noTerm .obligations) xs < length xs
     found-at = transition-found (getD ts i noTerm) (at-in noTerm ts i lt)

@@ -13,9 +13,10 @@ use Rattle.formula.specs.Limits.{maxUntils}
 use Rattle.term.specs.Term.{Term}
 use Rattle.generalized.specs.Limits.{maxGeneralizedStates}
 use Rattle.acceptance.specs.Acceptance.{untilCount, fulfilsNext, fulfilment}
+use Rattle.acceptance.proofs.Bits.{fulfilment-has}
+use Rattle.generalized.specs.Memory.{keptTarget, keptUntils}
 use Rattle.translation.specs.Degeneralized.{climb, nextLevel}
-use Rattle.translation.specs.Memory.{keptTarget, keptUntils, levelPlaces, codePlaces, climbN, nextLevelN, targetN}
-use Rattle.translation.proofs.Kept.{fulfilment-has}
+use Rattle.translation.specs.Memory.{levelPlaces, codePlaces, climbN, nextLevelN, targetN}
 
 module _ (untils r j : ℕ) where
   pub climb-steps : j < r → has untils j ≡ true → climbN untils (r - j) j ≡ climbN untils (r - (j + 1)) (j + 1)

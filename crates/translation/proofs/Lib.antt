@@ -1,10 +1,8 @@
 -- What the proofs of several functions, and of the crates above, cite.
-pub mod Kept
 pub mod Levels
 pub mod Numbering
 pub mod Codes
 pub mod Within
-pub mod Each
 pub mod Mapped
 pub mod FirstWalk
 pub mod Meeting

@@ -11,7 +11,7 @@ use Rattle.answer.specs.Result.{Result, accepted, refused, Check, fine}
 use Rattle.generalized.specs.Explore.{find, meet, meetAll, explore}
 use Rattle.generalized.proofs.Exploring.{meet-seen, meet-next, meet-full, all-refused, all-full, all-next, all-met, explore-next, explore-refused, explore-ends}
 use Rattle.sets.proofs.Members.{All, at-in}
-use Rattle.translation.proofs.Explored.{all-adds, all-keeps}
+use Rattle.generalized.proofs.Explored.{all-grows}
 
 abbrev pub mapped : {A B : Type 0} → (A → B) → Result (List A) → Result (List B)
 mapped f (accepted xs) = accepted (map f xs)
@@ -95,7 +95,7 @@ module _ {A B : Type 0} (sameA : A → A → Bool) (sameB : B → B → Bool) (f
                 go : (m : Result (List A)) → meetAll sameA limit full each place (targetsA (getD xs place none)) count xs ≡ m → walkB (suc fuel) place count (map f xs) ≡ mapped f (walkA (suc fuel) place count xs)
                 go (accepted more) e =
                     explore-next sameB limit full each (f none) targetsB (λ _ _. fine) fuel place count (map f xs) (inside place count xs all lt) (taken place count xs all lt ∙ ap (mapped f) e)
-                    ∙ rw (counts place count xs all lt) (next more _ (all-keeps sameA limit P (all-adds sameA limit full each place _ count xs more e) (keep _ (all _ (at-in none xs place lt))) all))
+                    ∙ rw (counts place count xs all lt) (next more _ (all-grows sameA limit full each place _ count xs more e .every P (keep _ (all _ (at-in none xs place lt))) all))
                     ∙ sym (ap (mapped f) (explore-next sameA limit full each none targetsA (λ _ _. fine) fuel place count xs lt e))
                 go (refused number at) e =
                     explore-refused sameB limit full each (f none) targetsB (λ _ _. fine) fuel place count (map f xs) (inside place count xs all lt) (taken place count xs all lt ∙ ap (mapped f) e)

@@ -18,7 +18,8 @@ use Rattle.automaton.specs.Limits.{maxStates}
 use Rattle.translation.specs.declared.State.{State}
 use Rattle.translation.specs.declared.Paired.{Paired}
 use Rattle.translation.specs.declared.Paired.the-variants.{Count, Full}
-use Rattle.translation.specs.Memory.{keptTarget, rowStart, range, levelPlaces, codePlaces, targetN, targetsN, meetAllN, Rows, Numbered, Pairs}
+use Rattle.generalized.specs.Memory.{keptTarget}
+use Rattle.translation.specs.Memory.{rowStart, range, levelPlaces, codePlaces, targetN, targetsN, meetAllN, Rows, Numbered, Pairs}
 use Rattle.translation.proofs.Within.{row-inside, row-leads}
 use Rattle.translation.proofs.Numbering.{seen, unseen}
 

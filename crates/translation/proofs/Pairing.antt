@@ -18,10 +18,11 @@ use Rattle.automaton.specs.Limits.{maxStates}
 use Rattle.translation.specs.declared.State.{State}
 use Rattle.translation.specs.declared.Paired.{Paired}
 use Rattle.translation.specs.declared.Paired.the-variants.{Count, Full}
-use Rattle.translation.specs.Memory.{keptTarget, range, rowStart, rowCount, row, levelPlaces, targetN, targetsN, meetAllN, exploreN, Within, Ends, Rows, Numbered, Pairs}
+use Rattle.generalized.specs.Memory.{keptTarget}
+use Rattle.translation.specs.Memory.{range, rowStart, rowCount, row, levelPlaces, targetN, targetsN, meetAllN, exploreN, Within, Ends, Rows, Numbered, Pairs}
 use Rattle.translation.proofs.Levels.{target-state}
 use Rattle.translation.proofs.Meeting.{among}
-use Rattle.translation.proofs.Explored.{all-adds, all-keeps}
+use Rattle.generalized.proofs.Explored.{all-grows}
 
 -- the numbers of a range
 pub range-in : (count from i : ℕ) → In i (range count from) → (from ≤ i) × (i < from + count)
@@ -75,7 +76,8 @@ module _ (ends transitions : List ℕ) (r : ℕ) (all : Result (List ℕ)) (pair
 
       within : Within (inv .rows .listed .states) (take more pairs′)
       within =
-          all-keeps eqb maxStates (λ code. code / levelPlaces < inv .rows .listed .states) (all-adds eqb maxStates 24 (λ _ _. fine) place _ (inv .count) (take k pairs) (take more pairs′) (counted .0))
+          all-grows eqb maxStates 24 (λ _ _. fine) place _ (inv .count) (take k pairs) (take more pairs′) (counted .0) .every
+          (λ code. code / levelPlaces < inv .rows .listed .states)
           (targets-within ends transitions r (inv .rows .listed .states) (inv .rows .levels) (inv .rows .listed .rows) (inv .rows .closed) (getD (take k pairs) place 0)
           (rw (getD-take k pairs place 0 lt) (inv .rows .listed .within _ (among pairs index k place (inv .numbered) lt))))
           (inv .rows .listed .within)

@@ -10,7 +10,7 @@ use native.Mathlib.Omega.{arith}
 use lib.ListN.{length, getD, take, length-map}
 use lib.Seq.{length-take-le}
 use lib.Dec.{eqb}
-use borrow.Author.Tests.{eq-eqb, ne-eqb}
+use borrow.Author.Tests.{eqb-true, eq-eqb, ne-eqb}
 use Rattle.answer.specs.Result.{Result, accepted, refused, andThen, fine}
 use Rattle.answer.specs.Bytes.{twoBytes, filled}
 use Rattle.sets.specs.Sets.{In}
@@ -32,11 +32,15 @@ use Rattle.automaton.specs.Tables.{Counts, transitionCount, outcome, Outcome}
 use Rattle.automaton.proofs.Records.{transitions-count}
 use Rattle.translation.specs.Degeneralized.{Pair, pair, samePair, numbers, initialNumbers, nextLevel, pairTransitions, target, degeneralized, stateOf}
 use Rattle.translation.specs.Translate.{stored}
-use Rattle.translation.specs.Memory.{secondWalk, keptTarget, rowStart, row, levelPlaces, codeOf, codePlaces, pairOf, targetN, targetsN, numberN, exploreN, pairBytes, transitionN, rowN, Walks, Within, Rows, Numbered, Closed, Pairs, Written}
+use Rattle.generalized.specs.Memory.{keptTarget}
+use Rattle.translation.specs.Memory.{secondWalk, rowStart, row, levelPlaces, codeOf, codePlaces, pairOf, targetN, targetsN, numberN, exploreN, pairBytes, transitionN, rowN, FirstWalk, Within, Rows, Numbered, Closed, Pairs, Written}
 use Rattle.translation.proofs.Levels.{target-state, target-level, next-level-is}
-use Rattle.translation.proofs.Explored.{explore-keeps, walked}
+use Rattle.generalized.proofs.Explored.{Explored, explored}
+use Rattle.generalized.proofs.Passed.{initial-few}
+use Rattle.acceptance.proofs.Gathering.{untils-few}
+use Rattle.term.proofs.Sizes.{bytes-fine}
 use Rattle.translation.proofs.Mapped.{mapped, find-map, explore-map}
-use Rattle.translation.proofs.FirstWalk.{noTerm, ts, count-is, end-inside, rows-of, row-map, target-at, untils-at, must-at, must-not-at, found-at, initial-states, initial-few, few-levels}
+use Rattle.translation.proofs.FirstWalk.{noTerm, ts, count-is, end-inside, rows-of, row-map, target-at, untils-at, must-at, must-not-at, found-at, initial-states}
 use Rattle.translation.proofs.Pairing.{targets-within}
 use Rattle.translation.proofs.Numbering.{known-number, number-is}
 use Rattle.translation.proofs.Codes.{numbers-length, starts, starts-within}
@@ -85,7 +89,7 @@ transitionOf t target = record { must = t .must; mustNot = t .mustNot; target = 
 
 pub record Begun (rule : List ℕ) (initial : ℕ) (kepts ends : List ℕ) (r : ℕ) (pairs index : List ℕ) : Type 0 where
   pub passed : checked rule ≡ fine
-  pub walked-first : Walks rule initial kepts ends
+  pub walked-first : FirstWalk rule initial kepts ends
   pub kepts-size : length kepts ≡ maxGeneralizedTransitions
   pub ends-size : length ends ≡ maxGeneralizedStates
   pub levels : r ≡ untilCount rule
@@ -103,7 +107,7 @@ module _ {rule : List ℕ} {initial : ℕ} {kepts ends : List ℕ} {r : ℕ} {pa
   all = ts rule (b .passed) (b .walked-first)
 
   few-untils : r ≤ maxUntils
-  few-untils = rw (b .levels) (few-levels rule (b .passed))
+  few-untils = rw (b .levels) (untils-few rule (bytes-fine rule (b .passed)))
 
   closed-are : (s : ℕ) → s < n → (i : ℕ) → i < getD ends s 0 → keptTarget (getD kepts i 0) < n
   closed-are s lt i l =
@@ -165,9 +169,9 @@ module _ {rule : List ℕ} {initial : ℕ} {kepts ends : List ℕ} {r : ℕ} {pa
 
   -- ---- what the walk over the pairs comes to
 
-  module _ (met : Paired) (pairs index : List ℕ) (explored : Pairs (exploreN ends kepts r maxStates 0 0 (take initial pairs₀)) met pairs index) where
+  module _ (met : Paired) (pairs index : List ℕ) (met-is : Pairs (exploreN ends kepts r maxStates 0 0 (take initial pairs₀)) met pairs index) where
     explored-is : Pairs (exploreN ends kepts r maxStates 0 0 (starts initial)) met pairs index
-    explored-is = rw (← b .start) explored
+    explored-is = rw (← b .start) met-is
 
     pub full-is : {at : Number.State} → met ≡ Full at → {o : Outcome} (s t i : List ℕ) → o ≡ stored (refused 24 (at .0)) s t i → o ≡ stored (andThen (generalized rule) (secondWalk rule)) s t i
     full-is {at} e s t i done =
@@ -190,9 +194,12 @@ module _ {rule : List ℕ} {initial : ℕ} {kepts ends : List ℕ} {r : ℕ} {pa
       pub index-size : length index ≡ codePlaces
       index-size = counted .1 .size
 
+      whole : Explored eqb maxStates 24 (λ _ _. fine) 0 (targetsN ends kepts r) (λ _ _. fine) 0 (starts initial) (take count pairs)
+      whole =
+          explored eqb maxStates 24 (λ _ _. fine) 0 (targetsN ends kepts r) (λ _ _. fine) eqb-true (λ x. eq-eqb x x refl) maxStates 0 0 (starts initial) (take count pairs) first-few (omega arith) (counted .0)
+
       codes-within : Within n (take count pairs)
-      codes-within =
-          explore-keeps eqb maxStates (λ x. eq-eqb x x refl) 0 (targetsN ends kepts r) (λ _ _. fine) (λ code. code / levelPlaces < n) keeps-within 24 (λ _ _. fine) (starts initial) (take count pairs) first-few (counted .0) first-within
+      codes-within = whole .every (λ code. code / levelPlaces < n) keeps-within first-within
 
       pub all-rows : Rows ends kepts r (take count pairs)
       all-rows = rows-over (take count pairs) codes-within
@@ -204,7 +211,7 @@ module _ {rule : List ℕ} {initial : ℕ} {kepts ends : List ℕ} {r : ℕ} {pa
           where
             go : (k : ℕ) × (k < length (take count pairs)) × (getD (take count pairs) k 0 ≡ code) → find eqb x (take count pairs) < count
             go (k, l, at) =
-                omega (arith, codes-count, walked eqb maxStates (λ y. eq-eqb y y refl) 0 (targetsN ends kepts r) (λ _ _. fine) 24 (λ _ _. fine) (starts initial) (take count pairs) first-few (counted .0) .taken k l .closed x (rw at h))
+                omega (arith, codes-count, whole .numbered x (whole .taken k (omega arith) l .closed x (rw at h)) .0)
 
         target-inside : x < codePlaces
         target-inside = omega (arith, keeps-within code (codes-within code m) x h, rows-of rule (b .passed) (b .walked-first) (b .ends-size) .states)

@@ -1,6 +1,6 @@
 -- The call translate, answer by answer: 25, 1 to 7, 20, 21 to 23, and what the second walk comes to.
 -- Assumes nothing.
-use mathlib.Core.Path.{_≡_, sym, _∙_}
+use mathlib.Core.Path.{_≡_, sym, subst, _∙_}
 use mathlib.Core.List.{List}
 use Prim.Native.Nat.{ℕ, _≤_, _<_}
 use lib.ListN.{length}
@@ -9,7 +9,9 @@ use Rattle.answer.specs.Result.{Result, refused, andThen, fine, lowest}
 use Rattle.formula.specs.Rule.{nodeCount}
 use Rattle.formula.specs.Rule
 use Rattle.term.specs.Size.{sizeCheck, checked}
+use Rattle.generalized.specs.declared.Walked.{Walked}
 use Rattle.generalized.specs.Generalized.{generalized}
+use Rattle.generalized.specs.Memory.{Walks}
 use Rattle.automaton.specs.Limits.{statesBytes, transitionsBytes, initialBytes}
 use Rattle.automaton.specs.Tables.{Outcome, outcome, tableCheck}
 use Rattle.translation.specs.Degeneralized.{translation}
@@ -19,6 +21,9 @@ use Rattle.translation.specs.Memory.{secondWalk}
 pub sizes-are : (rule : List ℕ) {a : Result (Unit {0})} → Rule.checked rule ≡ fine → a ≡ lowest (sizeCheck rule) (nodeCount rule) → checked rule ≡ a
 unfolding checked
 sizes-are rule bytes e = rw bytes (sym e)
+
+pub walks-as : (rule states kepts ends : List ℕ) {r told : Walked} → r ≡ told → Walks rule r states kepts ends → Walks rule told states kepts ends
+walks-as rule states kepts ends e = subst (λ (w : Walked). Walks rule w states kepts ends) e
 
 -- ---- a rule that 1 to 7 let pass
 

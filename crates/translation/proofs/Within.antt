@@ -8,7 +8,8 @@ use lib.ListN.{length, getD}
 use Rattle.sets.specs.Sets.{In}
 use Rattle.automaton.specs.Limits.{maxOfState}
 use Rattle.generalized.specs.Limits.{maxGeneralizedTransitions, maxGeneralizedStates}
-use Rattle.translation.specs.Memory.{rowStart, rowCount, levelPlaces, keptTarget, Listed, Rows}
+use Rattle.generalized.specs.Memory.{keptTarget}
+use Rattle.translation.specs.Memory.{rowStart, rowCount, levelPlaces, Listed, Rows}
 
 -- the pair of a code, with its state's number as it is read of the code
 module _ (ends codes : List ℕ) (code : ℕ) (listed : Listed ends codes) (among : In code codes) (s : ℕ) (is : s ≡ code / levelPlaces) where

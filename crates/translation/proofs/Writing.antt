@@ -17,7 +17,8 @@ use Rattle.generalized.specs.Limits.{maxGeneralizedTransitions, maxGeneralizedS
 use Rattle.automaton.specs.Limits.{maxStates, maxOfState, transitionsBytes}
 use Rattle.automaton.specs.Records.{records, stateBytes, transitionBytes}
 use Rattle.answer.specs.Bytes.{twoBytes, filled}
-use Rattle.translation.specs.Memory.{keptTarget, keptMust, keptMustNot, range, rowStart, rowCount, row, levelPlaces, targetN, numberN, pairBytes, transitionN, rowN, Listed, Rows, Closed, Adds, Written}
+use Rattle.generalized.specs.Memory.{keptTarget, keptMust, keptMustNot}
+use Rattle.translation.specs.Memory.{range, rowStart, rowCount, row, levelPlaces, targetN, numberN, pairBytes, transitionN, rowN, Listed, Rows, Closed, Adds, Written}
 use Rattle.translation.proofs.Within.{row-rises, row-inside, row-few, row-leads}
 use Rattle.translation.proofs.Filling.{records-last, state-length, transition-length, front-more, front-record, adds-more, filled-as}
 use Rattle.automaton.proofs.Records.{number-length, records-length}

@@ -12,13 +12,11 @@ use Rattle.sets.specs.Sets.{In}
 use Rattle.sets.specs.Bits.{has}
 use Rattle.formula.specs.Limits.{maxUntils}
 use Rattle.formula.specs.Formula.{formula}
-use Rattle.term.specs.Term.{Term, cover}
-use Rattle.term.specs.Packed.{pack}
+use Rattle.term.specs.Term.{cover}
 use Rattle.generalized.specs.Limits.{maxGeneralizedTransitions, maxGeneralizedStates}
 use Rattle.generalized.specs.Explore.{find, meetAll, explore}
 use Rattle.generalized.specs.Generalized.{generalized}
-use Rattle.generalized.specs.Memory.{allTransitions}
-use Rattle.acceptance.specs.Acceptance.{fulfilment}
+use Rattle.generalized.specs.Memory.{kept, keptTarget, keptUntils, keptMust, keptMustNot, allTransitions}
 use Rattle.translation.specs.declared.Paired.{Paired}
 use Rattle.translation.specs.declared.Paired.the-variants.{Count, Full}
 use Rattle.automaton.specs.Automaton.{Automaton}
@@ -29,38 +27,17 @@ use Rattle.translation.specs.Degeneralized.{Pair, pair, initialNumbers, 
 -- the second walk, and the automaton that it makes, when the first walk has the states
 abbrev pub secondWalk : (rule states : List ℕ) → Result Automaton
 secondWalk rule states =
-    andThen (degeneralized rule states) (λ pairs. accepted (record { states = map (stateOf rule states pairs) pairs; initial = initialNumbers rule }))
+    andThen (degeneralized rule states)
+    (λ pairs. accepted (record { states = map (stateOf rule states pairs) pairs; initial = initialNumbers rule }))
 
 -- ---- the first walk's transitions
 
--- the number of values that a packed term can have: 2 ^ 48
-abbrev pub termRange : ℕ
-termRange = 281474976710656
-
--- a transition in the table: the number of its target, the untils that it fulfils, its term, from the top
-abbrev pub kept : (rule states : List ℕ) → Term → ℕ
-kept rule states t = (find eqb (t .obligations) states * 256 + fulfilment rule t) * termRange + pack t
-
--- the parts of such a number
-abbrev pub keptTarget : ℕ → ℕ
-keptTarget x = x / termRange / 256
-
-abbrev pub keptUntils : ℕ → ℕ
-keptUntils x = x / termRange % 256
-
-abbrev pub keptMust : ℕ → ℕ
-keptMust x = x / 256 % 256
-
-abbrev pub keptMustNot : ℕ → ℕ
-keptMustNot x = x % 256
-
 -- what the first walk hands to the second: how many initial states there are, the transitions of all states one after
 -- another, and where each state's end
-pub record Walks (rule : List ℕ) (initial : ℕ) (transitions ends : List ℕ) : Type 0 where
+pub record FirstWalk (rule : List ℕ) (initial : ℕ) (transitions ends : List ℕ) : Type 0 where
   pub states : List ℕ
   pub found : generalized rule ≡ accepted states
   pub begun : initial ≡ length (cover (formula rule))
-  pub small : (t : Term) → In t (allTransitions rule states) → pack t < termRange
   pub most : length (allTransitions rule states) ≤ maxGeneralizedTransitions
   pub listed : take (length (allTransitions rule states)) transitions ≡ map (kept rule states) (allTransitions rule states)
   pub ending : (s : ℕ) → s < length states → getD ends s 0 ≡ length (allTransitions rule (take (suc s) states))

@@ -1,10 +1,17 @@
 // The second walk, which makes the automaton of a rule, and the call translate: the automaton as records in three
 // tables that the caller lends.
+use answer::Checked;
+use answer::TABLE_TOO_SHORT;
 use answer::put_number;
 use answer::zero;
+use automaton::INITIAL_BYTES;
 use automaton::MAX_STATES;
+use automaton::STATES_BYTES;
+use automaton::TRANSITIONS_BYTES;
 use generalized::GeneralizedState;
+use generalized::Walked;
 ghost use mathlib.Core.Path.{_≡_};
+ghost use mathlib.Core.Bool.{cond};
 ghost use mathlib.Core.List.{[], _∷_, _++_, map};
 ghost use Prim.Native.Nat.{ℕ, _+_, _-_, _*_, _/_, _%_, _<_, _≤_};
 ghost use lib.ListN.{length, getD, take};
@@ -13,23 +20,22 @@ ghost use lib.Dec.{eqb};
 ghost use Rattle.answer.specs.Result.{fine, refused, andThen};
 ghost use Rattle.answer.specs.Bytes.{twoBytes, filled};
 ghost use Rattle.formula.specs.Limits.{maxUntils};
+ghost use Rattle.formula.specs.Rule;
 ghost use Rattle.term.specs.Limits.{maxTerms};
 ghost use Rattle.term.specs.Size.{checked};
 ghost use Rattle.generalized.specs.Limits.{maxGeneralizedTransitions, maxGeneralizedStates};
 ghost use Rattle.generalized.specs.Explore.{meet};
 ghost use Rattle.generalized.specs.Generalized.{generalized};
+ghost use Rattle.generalized.specs.Memory.{keptTarget, keptMust, keptMustNot};
 ghost use Rattle.automaton.specs.Limits.{maxStates, maxOfState, transitionsBytes, initialBytes};
 ghost use Rattle.automaton.specs.Records.{records, stateBytes, transitionBytes};
 ghost use Rattle.automaton.specs.Tables.{outcome};
-ghost use Rattle.translation.specs.Degeneralized.{numbers};
-ghost use Rattle.translation.specs.Memory.{secondWalk, keptTarget, keptUntils, keptMust, keptMustNot, Walks, rowStart, levelPlaces, codeOf, codePlaces, climbN, nextLevelN, targetN, targetsN, meetAllN, numberN, exploreN, pairBytes, rowN, Listed, Rows, Numbered, Closed, Pairs, Adds, Written, Room};
-ghost use Rattle.translation.specs.Translate.{answer, stored};
+ghost use Rattle.translation.specs.Degeneralized.{numbers, translation};
+ghost use Rattle.translation.specs.Memory.{secondWalk, FirstWalk, rowStart, levelPlaces, codeOf, codePlaces, climbN, nextLevelN, targetN, targetsN, meetAllN, numberN, exploreN, pairBytes, rowN, Listed, Rows, Numbered, Closed, Pairs, Adds, Written, Room};
+ghost use Rattle.translation.specs.Translate.{answer, stored, translated};
 
 // The number of document 01 by which the second walk is refused.
 pub const TOO_MANY_PAIRS: u8 = 24;
-
-// A packed term is below it: 2 to the 48.
-const TERM_RANGE: u64 = 281474976710656;
 
 // A state has this many places for its levels, 0 to 8.
 const LEVEL_PLACES: usize = 16;
@@ -52,34 +58,6 @@ enum Paired {
     Full(State),
 }
 
-// The state to which a transition of the first walk leads.
-fn target_state(transition: u64) -> GeneralizedState
-    ensures { λ s. ⌜ s .0 ≡ keptTarget transition ⌝ }
-{
-    GeneralizedState((transition / TERM_RANGE / 256) as usize)
-}
-
-// The untils that it fulfils, a bit each.
-fn untils_of(transition: u64) -> u64
-    ensures { λ u. ⌜ u ≡ keptUntils transition ⌝ }
-{
-    transition / TERM_RANGE % 256
-}
-
-// The propositions that its letters have.
-fn must_of(transition: u64) -> u8
-    ensures { λ m. ⌜ m ≡ keptMust transition ⌝ }
-{
-    (transition / 256 % 256) as u8
-}
-
-// And those that they do not have.
-fn must_not_of(transition: u64) -> u8
-    ensures { λ m. ⌜ m ≡ keptMustNot transition ⌝ }
-{
-    (transition % 256) as u8
-}
-
 // The level reached from one on: one more for each until in the set, up to the first that is not.
 fn climb(untils: u64, r: usize, from: usize) -> usize
     requires { ⌜ r ≤ maxUntils ⌝ }
@@ -87,7 +65,7 @@ fn climb(untils: u64, r: usize, from: usize) -> usize
 {
     let mut j = from;
     while j < r {
-        if !generalized::has(untils, j) {
+        if !sets::has(untils, j) {
             return j;
         }
         j += 1;
@@ -153,8 +131,8 @@ fn target(transition: u64, r: usize, level: usize) -> usize
     ensures { λ c. ⌜ c ≡ targetN r level transition ⌝ }
 {
     code_of(
-        target_state(transition),
-        next_level(untils_of(transition), r, level),
+        generalized::target_of(transition),
+        next_level(generalized::fulfilled_by(transition), r, level),
     )
 }
 
@@ -257,6 +235,13 @@ fn zero_behind(table: &mut [u8], n: usize)
     zero(&mut table[n..]);
 }
 
+// The byte of an accepting state, or of one that is not.
+fn flag(accepting: bool) -> u8
+    ensures { λ r. ⌜ r ≡ cond accepting 1 0 ⌝ }
+{
+    if accepting { 1 } else { 0 }
+}
+
 // The record of the state at place: how many transitions it has, and whether it accepts.
 fn put_state(table: &mut [u8], place: State, count: usize, accepting: bool)
     requires { ⌜ (place .0 * 4 + 4 ≤ length (now table)) × (count < 65536) ⌝ }
@@ -264,7 +249,7 @@ fn put_state(table: &mut [u8], place: State, count: usize, accepting: bool)
 {
     let at = place.0 * 4;
     put_number(table, at, count);
-    table[at + 2] = acceptance::flag(accepting);
+    table[at + 2] = flag(accepting);
     table[at + 3] = 0;
 }
 
@@ -274,8 +259,8 @@ fn put_transition(table: &mut [u8], k: usize, transition: u64, target: State)
     ensures { λ _. ⌜ now (table .exit) ≡ sets (now (table .entry)) (k * 4) (transitionBytes (keptMust transition) (keptMustNot transition) (target .0)) ⌝ }
 {
     let at = k * 4;
-    table[at] = must_of(transition);
-    table[at + 1] = must_not_of(transition);
+    table[at] = generalized::must_of(transition);
+    table[at + 1] = generalized::must_not_of(transition);
     put_number(table, at + 2, target.0);
 }
 
@@ -406,11 +391,11 @@ fn degeneralize(
     transitions: &mut [u8],
     initial: &mut [u8],
 ) -> Translated
-    requires { ⌜ (checked (now rule) ≡ fine) × Walks (now rule) first (now kept) (now ends) × (length (now kept) ≡ maxGeneralizedTransitions) × (length (now ends) ≡ maxGeneralizedStates) × Room (now states) (now transitions) (now initial) ⌝ }
+    requires { ⌜ (checked (now rule) ≡ fine) × FirstWalk (now rule) first (now kept) (now ends) × (length (now kept) ≡ maxGeneralizedTransitions) × (length (now ends) ≡ maxGeneralizedStates) × Room (now states) (now transitions) (now initial) ⌝ }
     ensures { λ r. ⌜ outcome (answer r) (now (states .exit)) (now (transitions .exit)) (now (initial .exit)) ≡ stored (andThen (generalized (now (rule .entry))) (secondWalk (now (rule .entry)))) (now (states .entry)) (now (transitions .entry)) (now (initial .entry)) ⌝ }
 {
-    let mut nodes = [0usize; formula::MAX_UNTILS];
-    let r = acceptance::untils_of(rule, &mut nodes);
+    let untils = acceptance::untils_of(rule);
+    let r = untils.count;
     let mut pairs = [0usize; MAX_STATES];
     let mut index = [0u8; CODE_PLACES];
     start_pairs(&mut pairs, &mut index, first);
@@ -424,4 +409,57 @@ fn degeneralize(
             Translated::Accepted(count, written, first)
         }
     }
+}
+
+// The two walks of a rule that 1 to 7 let pass, and the automaton in the three tables.
+fn build(rule: &[u8], states: &mut [u8], transitions: &mut [u8], initial: &mut [u8]) -> Translated
+    requires { ⌜ (Rule.checked (now rule) ≡ fine) × Room (now states) (now transitions) (now initial) ⌝ }
+    ensures { λ r. ⌜ outcome (answer r) (now (states .exit)) (now (transitions .exit)) (now (initial .exit)) ≡ stored (translation (now (rule .entry))) (now (states .entry)) (now (transitions .entry)) (now (initial .entry)) ⌝ }
+{
+    let mut table = [0u64; term::TABLE_PLACES];
+    let sizes = term::tabulate(rule, &mut table);
+    if let Checked::Refused(number, place) = sizes {
+        return refuse(number, place, states, transitions, initial);
+    }
+    let mut sets = [0u64; generalized::MAX_STATES];
+    let mut kept = [0u64; generalized::MAX_TRANSITIONS];
+    let mut ends = [0usize; generalized::MAX_STATES];
+    let walked = generalized::walk(rule, &table, &mut sets, &mut kept, &mut ends);
+    match walked {
+        Walked::Refused(number, place) => refuse(number, place, states, transitions, initial),
+        Walked::Counts(first, _, _) => degeneralize(
+            rule,
+            first,
+            &kept,
+            &ends,
+            states,
+            transitions,
+            initial,
+        ),
+    }
+}
+
+// The automaton of a rule in three tables.
+pub fn translate(
+    rule: &[u8],
+    states: &mut [u8],
+    transitions: &mut [u8],
+    initial: &mut [u8],
+) -> Translated
+    ensures { λ r. ⌜ outcome (answer r) (now (states .exit)) (now (transitions .exit)) (now (initial .exit)) ≡ translated (now (rule .entry)) (now (states .entry)) (now (transitions .entry)) (now (initial .entry)) ⌝ }
+{
+    if states.len() < STATES_BYTES {
+        return Translated::Refused(TABLE_TOO_SHORT, 0);
+    }
+    if transitions.len() < TRANSITIONS_BYTES {
+        return Translated::Refused(TABLE_TOO_SHORT, 0);
+    }
+    if initial.len() < INITIAL_BYTES {
+        return Translated::Refused(TABLE_TOO_SHORT, 0);
+    }
+    let bytes = formula::check(rule);
+    if let Checked::Refused(number, place) = bytes {
+        return Translated::Refused(number, place);
+    }
+    build(rule, states, transitions, initial)
 }

@@ -3,30 +3,28 @@
 use borrow.Author.Needs.{needs}
 use native.Mathlib.Omega.{arith}
 use mathlib.Core.Path.{refl, sym}
-use Rattle.translation.proofs.FirstWalk.{initial-few}
+use Rattle.term.proofs.Sizes.{bytes-fine}
+use Rattle.generalized.proofs.Passed.{initial-few}
 use Rattle.translation.proofs.Numbering.{numbered-begins}
 use Rattle.translation.proofs.SecondWalk.{Begun, first-rows, full-is, count-inside, codes-count, codes-few, index-size, all-rows, all-closed, written-is}
 use Rattle.translation.proofs.degeneralize.Statement.{statement}
 use Rattle.translation.proofs.degeneralize.Tie as tie
 
-begun : (c : tie.After-start-pairs) → Begun (c .before .before .before .before .before .before .before .before .before .before .before .before .args .rule .now) (c .before .before .before .before .before .before .before .before .before .before .before .before .args .first) (c .before .before .before .before .before .before .before .before .before .before .before .before .args .kept .now) (c .before .before .before .before .before .before .before .before .before .before .before .before .args .ends .now) (c .before .before .before .before .untils-of .result) (c .start-pairs .last .0) (c .start-pairs .last .1 .0)
+begun : (c : tie.After-start-pairs) → Begun (c .before .before .before .before .before .before .before .before .before .before .args .rule .now) (c .before .before .before .before .before .before .before .before .before .before .args .first) (c .before .before .before .before .before .before .before .before .before .before .args .kept .now) (c .before .before .before .before .before .before .before .before .before .before .args .ends .now) (c .before .before .before .untils-of .result .count) (c .start-pairs .last .0) (c .start-pairs .last .1 .0)
 begun c =
-    let s = c .before .before .before .before .before .before .before .before .before .before .before .before in
+    let s = c .before .before .before .before .before .before .before .before .before .before in
     record {
       passed = s .pre .0;
       walked-first = s .pre .1;
       kepts-size = s .pre .2;
       ends-size = s .pre .3;
-      levels = c .before .before .before .before .untils-of .ensures .1;
+      levels = c .before .before .before .untils-of .ensures .counted;
       numbered = c .start-pairs .ensures .0;
       start = c .start-pairs .ensures .1;
     }
 
-slice-aggregate-untils-of : tie.Need-slice-aggregate-untils-of
-slice-aggregate-untils-of c = search needs
-
 untils-of-requires : tie.Need-untils-of-requires
-untils-of-requires c κs = search needs
+untils-of-requires c κs = bytes-fine _ (c .before .before .before .before .before .before .pre .0)
 
 slice-aggregate-start-pairs : tie.Need-slice-aggregate-start-pairs
 slice-aggregate-start-pairs c = search needs
@@ -35,7 +33,7 @@ slice-aggregate-start-pairs-2 : tie.Need-slice-aggregate-start-pairs-2
 slice-aggregate-start-pairs-2 c = search needs
 
 start-pairs-requires : tie.Need-start-pairs-requires
-start-pairs-requires c κs = (numbered-begins _ _ refl refl, omega (arith, initial-few _ (c .before .before .before .before .before .before .before .before .before .before .before .pre .0), c .before .before .before .before .before .before .before .before .before .before .before .pre .1 .begun))
+start-pairs-requires c κs = (numbered-begins _ _ refl refl, omega (arith, initial-few _ (c .before .before .before .before .before .before .before .before .before .pre .0), c .before .before .before .before .before .before .before .before .before .pre .1 .begun))
 
 slice-aggregate-explore-pairs : tie.Need-slice-aggregate-explore-pairs
 slice-aggregate-explore-pairs c = search needs
@@ -62,7 +60,7 @@ slice-aggregate-write-states : tie.Need-slice-aggregate-write-states
 slice-aggregate-write-states c = sym (codes-count (begun (c .before .before .before .before .before .before .before .before .before .before .before .before)) (c .before .before .before .before .before .before .before .explore-pairs .result) (c .before .before .before .before .before .before .before .explore-pairs .last .1 .1 .1 .0) (c .before .before .before .before .before .before .before .explore-pairs .last .1 .1 .1 .1 .0) (c .before .before .before .before .before .before .before .explore-pairs .ensures) (c .before .before .before .walked2 .given .1))
 
 write-states-requires : tie.Need-write-states-requires
-write-states-requires c κs = (all-rows (begun (c .before .before .before .before .before .before .before .before .before .before .before .before)) (c .before .before .before .before .before .before .before .explore-pairs .result) (c .before .before .before .before .before .before .before .explore-pairs .last .1 .1 .1 .0) (c .before .before .before .before .before .before .before .explore-pairs .last .1 .1 .1 .1 .0) (c .before .before .before .before .before .before .before .explore-pairs .ensures) (c .before .before .before .walked2 .given .1) .listed, omega (arith, codes-few (begun (c .before .before .before .before .before .before .before .before .before .before .before .before)) (c .before .before .before .before .before .before .before .explore-pairs .result) (c .before .before .before .before .before .before .before .explore-pairs .last .1 .1 .1 .0) (c .before .before .before .before .before .before .before .explore-pairs .last .1 .1 .1 .1 .0) (c .before .before .before .before .before .before .before .explore-pairs .ensures) (c .before .before .before .walked2 .given .1), c .before .before .before .before .before .before .before .before .before .before .before .before .before .before .before .before .before .before .before .before .before .before .before .before .pre .4 .for-states))
+write-states-requires c κs = (all-rows (begun (c .before .before .before .before .before .before .before .before .before .before .before .before)) (c .before .before .before .before .before .before .before .explore-pairs .result) (c .before .before .before .before .before .before .before .explore-pairs .last .1 .1 .1 .0) (c .before .before .before .before .before .before .before .explore-pairs .last .1 .1 .1 .1 .0) (c .before .before .before .before .before .before .before .explore-pairs .ensures) (c .before .before .before .walked2 .given .1) .listed, omega (arith, codes-few (begun (c .before .before .before .before .before .before .before .before .before .before .before .before)) (c .before .before .before .before .before .before .before .explore-pairs .result) (c .before .before .before .before .before .before .before .explore-pairs .last .1 .1 .1 .0) (c .before .before .before .before .before .before .before .explore-pairs .last .1 .1 .1 .1 .0) (c .before .before .before .before .before .before .before .explore-pairs .ensures) (c .before .before .before .walked2 .given .1), c .before .before .before .before .before .before .before .before .before .before .before .before .before .before .before .before .before .before .before .before .before .before .pre .4 .for-states))
 
 slice-aggregate-write-transitions : tie.Need-slice-aggregate-write-transitions
 slice-aggregate-write-transitions c = sym (index-size (begun (c .before .before .before .before .before .before .before .before .before .before .before .before .before .before .before .before .before)) (c .before .before .before .before .before .before .before .before .before .before .before .before .explore-pairs .result) (c .before .before .before .before .before .before .before .before .before .before .before .before .explore-pairs .last .1 .1 .1 .0) (c .before .before .before .before .before .before .before .before .before .before .before .before .explore-pairs .last .1 .1 .1 .1 .0) (c .before .before .before .before .before .before .before .before .before .before .before .before .explore-pairs .ensures) (c .before .before .before .before .before .before .before .before .walked2 .given .1))
@@ -74,10 +72,10 @@ slice-aggregate-write-transitions-2 : tie.Need-slice-aggregate-write-transitions
 slice-aggregate-write-transitions-2 c = sym (codes-count (begun (c .before .before .before .before .before .before .before .before .before .before .before .before .before .before .before .before .before .before)) (c .before .before .before .before .before .before .before .before .before .before .before .before .before .explore-pairs .result) (c .before .before .before .before .before .before .before .before .before .before .before .before .before .explore-pairs .last .1 .1 .1 .0) (c .before .before .before .before .before .before .before .before .before .before .before .before .before .explore-pairs .last .1 .1 .1 .1 .0) (c .before .before .before .before .before .before .before .before .before .before .before .before .before .explore-pairs .ensures) (c .before .before .before .before .before .before .before .before .before .walked2 .given .1))
 
 write-transitions-requires : tie.Need-write-transitions-requires
-write-transitions-requires c κs = (all-rows (begun (c .before .before .before .before .before .before .before .before .before .before .before .before .before .before .before .before .before .before)) (c .before .before .before .before .before .before .before .before .before .before .before .before .before .explore-pairs .result) (c .before .before .before .before .before .before .before .before .before .before .before .before .before .explore-pairs .last .1 .1 .1 .0) (c .before .before .before .before .before .before .before .before .before .before .before .before .before .explore-pairs .last .1 .1 .1 .1 .0) (c .before .before .before .before .before .before .before .before .before .before .before .before .before .explore-pairs .ensures) (c .before .before .before .before .before .before .before .before .before .walked2 .given .1), all-closed (begun (c .before .before .before .before .before .before .before .before .before .before .before .before .before .before .before .before .before .before)) (c .before .before .before .before .before .before .before .before .before .before .before .before .before .explore-pairs .result) (c .before .before .before .before .before .before .before .before .before .before .before .before .before .explore-pairs .last .1 .1 .1 .0) (c .before .before .before .before .before .before .before .before .before .before .before .before .before .explore-pairs .last .1 .1 .1 .1 .0) (c .before .before .before .before .before .before .before .before .before .before .before .before .before .explore-pairs .ensures) (c .before .before .before .before .before .before .before .before .before .walked2 .given .1), index-size (begun (c .before .before .before .before .before .before .before .before .before .before .before .before .before .before .before .before .before .before)) (c .before .before .before .before .before .before .before .before .before .before .before .before .before .explore-pairs .result) (c .before .before .before .before .before .before .before .before .before .before .before .before .before .explore-pairs .last .1 .1 .1 .0) (c .before .before .before .before .before .before .before .before .before .before .before .before .before .explore-pairs .last .1 .1 .1 .1 .0) (c .before .before .before .before .before .before .before .before .before .before .before .before .before .explore-pairs .ensures) (c .before .before .before .before .before .before .before .before .before .walked2 .given .1), codes-few (begun (c .before .before .before .before .before .before .before .before .before .before .before .before .before .before .before .before .before .before)) (c .before .before .before .before .before .before .before .before .before .before .before .before .before .explore-pairs .result) (c .before .before .before .before .before .before .before .before .before .before .before .before .before .explore-pairs .last .1 .1 .1 .0) (c .before .before .before .before .before .before .before .before .before .before .before .before .before .explore-pairs .last .1 .1 .1 .1 .0) (c .before .before .before .before .before .before .before .before .before .before .before .before .before .explore-pairs .ensures) (c .before .before .before .before .before .before .before .before .before .walked2 .given .1), c .before .before .before .before .before .before .before .before .before .before .before .before .before .before .before .before .before .before .before .before .before .before .before .before .before .before .before .before .before .before .pre .4 .for-transitions)
+write-transitions-requires c κs = (all-rows (begun (c .before .before .before .before .before .before .before .before .before .before .before .before .before .before .before .before .before .before)) (c .before .before .before .before .before .before .before .before .before .before .before .before .before .explore-pairs .result) (c .before .before .before .before .before .before .before .before .before .before .before .before .before .explore-pairs .last .1 .1 .1 .0) (c .before .before .before .before .before .before .before .before .before .before .before .before .before .explore-pairs .last .1 .1 .1 .1 .0) (c .before .before .before .before .before .before .before .before .before .before .before .before .before .explore-pairs .ensures) (c .before .before .before .before .before .before .before .before .before .walked2 .given .1), all-closed (begun (c .before .before .before .before .before .before .before .before .before .before .before .before .before .before .before .before .before .before)) (c .before .before .before .before .before .before .before .before .before .before .before .before .before .explore-pairs .result) (c .before .before .before .before .before .before .before .before .before .before .before .before .before .explore-pairs .last .1 .1 .1 .0) (c .before .before .before .before .before .before .before .before .before .before .before .before .before .explore-pairs .last .1 .1 .1 .1 .0) (c .before .before .before .before .before .before .before .before .before .before .before .before .before .explore-pairs .ensures) (c .before .before .before .before .before .before .before .before .before .walked2 .given .1), index-size (begun (c .before .before .before .before .before .before .before .before .before .before .before .before .before .before .before .before .before .before)) (c .before .before .before .before .before .before .before .before .before .before .before .before .before .explore-pairs .result) (c .before .before .before .before .before .before .before .before .before .before .before .before .before .explore-pairs .last .1 .1 .1 .0) (c .before .before .before .before .before .before .before .before .before .before .before .before .before .explore-pairs .last .1 .1 .1 .1 .0) (c .before .before .before .before .before .before .before .before .before .before .before .before .before .explore-pairs .ensures) (c .before .before .before .before .before .before .before .before .before .walked2 .given .1), codes-few (begun (c .before .before .before .before .before .before .before .before .before .before .before .before .before .before .before .before .before .before)) (c .before .before .before .before .before .before .before .before .before .before .before .before .before .explore-pairs .result) (c .before .before .before .before .before .before .before .before .before .before .before .before .before .explore-pairs .last .1 .1 .1 .0) (c .before .before .before .before .before .before .before .before .before .before .before .before .before .explore-pairs .last .1 .1 .1 .1 .0) (c .before .before .before .before .before .before .before .before .before .before .before .before .before .explore-pairs .ensures) (c .before .before .before .before .before .before .before .before .before .walked2 .given .1), c .before .before .before .before .before .before .before .before .before .before .before .before .before .before .before .before .before .before .before .before .before .before .before .before .before .before .before .before .pre .4 .for-transitions)
 
 write-initial-requires : tie.Need-write-initial-requires
-write-initial-requires c κs = (omega (arith, initial-few _ (c .before .before .before .before .before .before .before .before .before .before .before .before .before .before .before .before .before .before .before .before .before .before .before .before .before .before .before .before .before .before .before .before .before .before .pre .0), c .before .before .before .before .before .before .before .before .before .before .before .before .before .before .before .before .before .before .before .before .before .before .before .before .before .before .before .before .before .before .before .before .before .before .pre .1 .begun), c .before .before .before .before .before .before .before .before .before .before .before .before .before .before .before .before .before .before .before .before .before .before .before .before .before .before .before .before .before .before .before .before .before .before .pre .4 .for-initial)
+write-initial-requires c κs = (omega (arith, initial-few _ (c .before .before .before .before .before .before .before .before .before .before .before .before .before .before .before .before .before .before .before .before .before .before .before .before .before .before .before .before .before .before .before .before .pre .0), c .before .before .before .before .before .before .before .before .before .before .before .before .before .before .before .before .before .before .before .before .before .before .before .before .before .before .before .before .before .before .before .before .pre .1 .begun), c .before .before .before .before .before .before .before .before .before .before .before .before .before .before .before .before .before .before .before .before .before .before .before .before .before .before .before .before .before .before .before .before .pre .4 .for-initial)
 
 same-length : tie.Need-same-length
 same-length c = search needs
@@ -107,7 +105,6 @@ pub degeneralize-spec : {M : Type 1} → statement M
 degeneralize-spec =
     tie.close
     (tie.spec
-    slice-aggregate-untils-of
     untils-of-requires
     slice-aggregate-start-pairs
     slice-aggregate-start-pairs-2

@@ -1,0 +1,136 @@
+-- `translation::build` meets its contract: the table of terms and the two walks follow `translation`.
+-- Assumes nothing.
+use borrow.Author.Needs.{needs}
+use mathlib.Core.Path.{_≡_, refl, ap, _∙_}
+use Rattle.answer.specs.Result.{fine, answer}
+use Rattle.term.specs.Size.{checked}
+use Rattle.translation.proofs.FirstWalk.{handed}
+use Rattle.translation.proofs.Translating.{sizes-are, walks-as, size-refused, first-refused, second-is}
+use Rattle.translation.proofs.build.Statement.{statement}
+use Rattle.translation.proofs.build.Tie as tie
+
+-- the sizes are let pass
+passed : (c : tie.After-enum-told) → checked (c .before .before .before .before .before .before .before .before .before .args .rule .now) ≡ fine
+passed c = sizes-are _ (c .before .before .before .before .before .before .before .before .before .pre .0) (c .before .before .before .tabulate .ensures .0) ∙ ap answer (c .enum-told .given .1)
+
+slice-aggregate-tabulate : tie.Need-slice-aggregate-tabulate
+slice-aggregate-tabulate c = search needs
+
+tabulate-requires : tie.Need-tabulate-requires
+tabulate-requires c κs = search needs
+
+enum-known-sizes : tie.Need-enum-known-sizes
+enum-known-sizes c = search needs
+
+refuse-requires : tie.Need-refuse-requires
+refuse-requires c κs = search needs
+
+same-length : tie.Need-same-length
+same-length c = search needs
+
+same-length-2 : tie.Need-same-length-2
+same-length-2 c = search needs
+
+same-length-3 : tie.Need-same-length-3
+same-length-3 c = search needs
+
+returns : tie.Need-returns
+returns c = size-refused _ _ _ _ (sizes-are _ (c .before .before .before .before .before .before .before .before .before .before .before .before .before .before .before .before .before .before .before .before .pre .0) (c .before .before .before .before .before .before .before .before .before .before .before .before .before .before .tabulate .ensures .0) ∙ ap answer (c .before .before .before .before .before .before .before .before .before .before .before .sizes .given .1)) (c .before .before .before .before .before .before .refuse .ensures)
+
+enum-told : tie.Need-enum-told
+enum-told c = search needs
+
+slice-aggregate-walk : tie.Need-slice-aggregate-walk
+slice-aggregate-walk c = search needs
+
+slice-aggregate-walk-2 : tie.Need-slice-aggregate-walk-2
+slice-aggregate-walk-2 c = search needs
+
+slice-aggregate-walk-3 : tie.Need-slice-aggregate-walk-3
+slice-aggregate-walk-3 c = search needs
+
+slice-aggregate-walk-4 : tie.Need-slice-aggregate-walk-4
+slice-aggregate-walk-4 c = search needs
+
+walk-requires : tie.Need-walk-requires
+walk-requires c κs = (passed (c .before .before .before .before), c .before .before .before .before .before .before .before .tabulate .kept .1 .0, c .before .before .before .before .before .before .before .tabulate .ensures .1 (ap answer (c .before .before .before .before .enum-told .given .1)), refl, refl, refl)
+
+enum-known-walked : tie.Need-enum-known-walked
+enum-known-walked c = search needs
+
+refuse-requires-2 : tie.Need-refuse-requires-2
+refuse-requires-2 c κs = search needs
+
+enum-known-walked-2 : tie.Need-enum-known-walked-2
+enum-known-walked-2 c = search needs
+
+slice-aggregate-degeneralize : tie.Need-slice-aggregate-degeneralize
+slice-aggregate-degeneralize c = search needs
+
+slice-aggregate-degeneralize-2 : tie.Need-slice-aggregate-degeneralize-2
+slice-aggregate-degeneralize-2 c = search needs
+
+degeneralize-requires : tie.Need-degeneralize-requires
+degeneralize-requires c κs =
+    let s = c .before .before .before .before .before .before .before .before .before .before .before .before .before .before .before .before .before .before .before .before .before .before .before .before .before in
+    let walk = c .before .before .before .before .before .before .before .before .before .before .before .walk in
+    (passed (c .before .before .before .before .before .before .before .before .before .before .before .before .before .before .before .before), handed (walk .kept .1 .1 .0) (walks-as (s .args .rule .now) (walk .last .1 .1 .0) (walk .last .1 .1 .1 .0) (walk .last .1 .1 .1 .1 .0) (c .before .before .before .before .before .before .walked2 .given .1) (walk .ensures)), walk .kept .1 .1 .1 .0, walk .kept .1 .1 .1 .1 .0, s .pre .1)
+
+same-length-4 : tie.Need-same-length-4
+same-length-4 c = search needs
+
+same-length-5 : tie.Need-same-length-5
+same-length-5 c = search needs
+
+same-length-6 : tie.Need-same-length-6
+same-length-6 c = search needs
+
+returns-2 : tie.Need-returns-2
+returns-2 c =
+    let walk = c .before .before .before .before .before .before .before .before .before .before .before .before .before .before .before .before .walk in
+    first-refused _ _ _ _ (passed (c .before .before .before .before .before .before .before .before .before .before .before .before .before .before .before .before .before .before .before .before .before)) (walks-as (c .before .before .before .before .before .before .before .before .before .before .before .before .before .before .before .before .before .before .before .before .before .before .before .before .before .before .before .before .before .before .args .rule .now) (walk .last .1 .1 .0) (walk .last .1 .1 .1 .0) (walk .last .1 .1 .1 .1 .0) (c .before .before .before .before .before .before .before .before .before .before .before .walked .given .1) (walk .ensures)) (c .before .before .before .before .before .before .refuse2 .ensures)
+
+same-length-7 : tie.Need-same-length-7
+same-length-7 c = search needs
+
+same-length-8 : tie.Need-same-length-8
+same-length-8 c = search needs
+
+same-length-9 : tie.Need-same-length-9
+same-length-9 c = search needs
+
+returns-3 : tie.Need-returns-3
+returns-3 c = second-is _ _ _ _ (passed (c .before .before .before .before .before .before .before .before .before .before .before .before .before .before .before .before .before .before .before .before .before .before .before)) (c .before .before .before .before .before .before .degeneralize .ensures)
+
+pub build-spec : {M : Type 1} → statement M
+build-spec =
+    tie.close
+    (tie.spec
+    slice-aggregate-tabulate
+    tabulate-requires
+    enum-known-sizes
+    refuse-requires
+    same-length
+    same-length-2
+    same-length-3
+    returns
+    enum-told
+    slice-aggregate-walk
+    slice-aggregate-walk-2
+    slice-aggregate-walk-3
+    slice-aggregate-walk-4
+    walk-requires
+    enum-known-walked
+    refuse-requires-2
+    enum-known-walked-2
+    slice-aggregate-degeneralize
+    slice-aggregate-degeneralize-2
+    degeneralize-requires
+    same-length-4
+    same-length-5
+    same-length-6
+    returns-2
+    same-length-7
+    same-length-8
+    same-length-9
+    returns-3)
