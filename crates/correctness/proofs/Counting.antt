@@ -14,9 +14,8 @@ use Rattle.formula.specs.Rule.{nodeCount, kindAt, untils}
 use Rattle.formula.specs.Formula.{Formula, formula}
 use Rattle.formula.specs.Satisfaction.{Holds}
 use Rattle.term.specs.Term.{Term, cover}
-use Rattle.generalized.specs.Generalized.{fulfils}
 use Rattle.sets.specs.Sets.{In}
-use Rattle.acceptance.specs.Acceptance.{untilCount}
+use Rattle.acceptance.specs.Acceptance.{fulfils, untilCount}
 use Rattle.translation.specs.Degeneralized.{nextLevel}
 use Rattle.automaton.proofs.Positions.{Again}
 use Rattle.sets.proofs.Members.{at-in, in-at, append-in, in-append}

@@ -12,7 +12,7 @@ use Rattle.sets.specs.Sets.{any}
 use Rattle.formula.specs.Formula.{tree}
 use Rattle.sets.specs.Bits.{has, Has}
 use Rattle.term.specs.Term.{Term, terms}
-use Rattle.generalized.specs.Generalized.{within, shows, fulfils}
+use Rattle.acceptance.specs.Acceptance.{within, shows, fulfils}
 use Rattle.automaton.specs.Automaton.{reads}
 use Rattle.sets.proofs.Members.{or-iff, any-iff}
 use Rattle.sets.proofs.Bits.{Sub, has-false, and-disjoint, disjoint-and, or-sub, sub-or}

@@ -24,7 +24,7 @@ use Rattle.automaton.specs.Automaton.{Transition, State, Automaton, noState, re
 use Rattle.sets.specs.Sets.{In}
 use Rattle.acceptance.specs.Acceptance.{untilCount}
 use Rattle.translation.specs.Degeneralized.{nextLevel, Pair, pair, samePair, numbers, initialNumbers, pairTransitions, target, degeneralized, stateOf}
-use Rattle.translation.proofs.Writing.{numbers-length}
+use Rattle.translation.proofs.Codes.{numbers-length}
 use Rattle.sets.proofs.Members.{All, at-in, in-at, map-in, in-map, map-at}
 use Rattle.automaton.specs.Limits.{maxStates}
 use Rattle.correctness.proofs.Runs.{Reads, Represents}

@@ -14,7 +14,7 @@ use Rattle.generalized.proofs.Passed.{in-range, initial-few, few-transitions}
 use Rattle.automaton.specs.Automaton.{Transition, State, Automaton}
 use Rattle.sets.specs.Sets.{In}
 use Rattle.translation.specs.Degeneralized.{Pair, pair, initialNumbers, pairTransitions, degeneralized, stateOf, translation}
-use Rattle.translation.proofs.Writing.{numbers-length}
+use Rattle.translation.proofs.Codes.{numbers-length}
 use Rattle.automaton.proofs.WellFormed.{WellFormedState, WellFormed, Label}
 use Rattle.sets.proofs.Members.{in-at, at-in, map-in}
 use Rattle.correctness.proofs.Labels.{transitions-labelled}

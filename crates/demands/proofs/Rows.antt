@@ -16,7 +16,8 @@ use Rattle.lasso.specs.Lasso.{letter, lassoCheck}
 use Rattle.term.specs.Term.{cover, terms}
 use Rattle.term.specs.Size.{sizeCheck, checked}
 use Rattle.generalized.specs.Explore.{find, meet, meetAll, explore}
-use Rattle.generalized.specs.Generalized.{partialProduct, transitions, productCheck, targets, generalized, shows, fulfils}
+use Rattle.acceptance.specs.Acceptance.{shows, fulfils}
+use Rattle.generalized.specs.Generalized.{partialProduct, transitions, productCheck, targets, generalized}
 use Rattle.generalized.specs.Memory.{allTransitions}
 use Rattle.automaton.specs.Automaton.{Transition, State, Automaton}
 use Rattle.translation.specs.Degeneralized.{climb, nextLevel, numbers, initialNumbers, pairTransitions, target, degeneralized, stateOf, translation}
