@@ -10,6 +10,7 @@ use Rattle.formula.specs.Rule.{nodeCount}
 use Rattle.formula.specs.Formula.{tree, formula}
 use Rattle.sets.specs.Bits.{has}
 use Rattle.term.specs.Term.{Term, term, product, cover, terms}
+use Rattle.generalized.specs.Limits.{maxProduct, maxGeneralizedTransitions, maxGeneralizedStates}
 use Rattle.generalized.specs.Explore.{explore}
 
 abbrev pub times : Bool → List Term → List Term → List Term
@@ -27,15 +28,15 @@ partialProduct rule state (suc n) = times (has state n) (partialProduct rule sta
 unfoldable pub transitions : List ℕ → ℕ → List Term
 transitions rule state = partialProduct rule state (nodeCount rule)
 
--- 21, at the state that is walked: its product, or a partial one on the way, has more than 128 terms (01, First walk
--- and second walk, sentence 4; Numbers that come from the state, 21)
+-- 21, at the state that is walked: its product, or a partial one on the way, has more than maxProduct terms (01, First
+-- walk and second walk, sentence 4; Numbers that come from the state, 21)
 unfoldable pub productCheck : List ℕ → (place state : ℕ) → Check
 productCheck rule place state =
-    lowest (λ n. require (leb (length (partialProduct rule state (suc n))) 128) 21 place) (nodeCount rule)
+    lowest (λ n. require (leb (length (partialProduct rule state (suc n))) maxProduct) 21 place) (nodeCount rule)
 
--- 22, at the state that is walked: a transition that has 1,024 before it (01, Numbers that come from the state, 22)
+-- 22, at the state that is walked: a transition that has the most before it (01, Numbers that come from the state, 22)
 abbrev pub transitionCheck : (place count : ℕ) → Check
-transitionCheck place count = require (ltb count 1024) 22 place
+transitionCheck place count = require (ltb count maxGeneralizedTransitions) 22 place
 
 -- where a state's transitions lead: a transition's target is its obligations (01, First walk and second walk,
 -- sentence 6)
@@ -43,8 +44,9 @@ unfoldable pub targets : List ℕ → ℕ → List ℕ
 targets rule state = map (λ t. t .obligations) (transitions rule state)
 
 -- the states by number: the sets of the root's cover, then those that the walk meets. It ends at its first refusal:
--- 21 as a state is taken, 22 at a transition, then 23 if the target would be one state more than 128 (01, First walk
+-- 21 as a state is taken, 22 at a transition, then 23 if the target would be one state too many (01, First walk
 -- and second walk, sentences 1 to 3, 7 and 8; Numbers that come from the state, 21 to 23)
 unfoldable pub generalized : List ℕ → Result (List ℕ)
 generalized rule =
-    explore eqb 128 23 transitionCheck 0 (targets rule) (productCheck rule) 128 0 0 (cover (formula rule))
+    explore eqb maxGeneralizedStates 23 transitionCheck 0 (targets rule) (productCheck rule)
+    maxGeneralizedStates 0 0 (cover (formula rule))

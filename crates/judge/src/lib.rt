@@ -211,18 +211,6 @@ fn clear_words(rows: &mut [u64], n: usize)
     }
 }
 
-// The first n words those of `from`.
-fn copy_words(rows: &mut [u64], from: &[u64], n: usize)
-    requires { ⌜ (n ≤ length (now rows)) × (n ≤ length (now from)) ⌝ }
-    ensures { λ _. ⌜ now (rows .exit) ≡ take n (now (from .entry)) ++ drop n (now (rows .entry)) ⌝ }
-{
-    let mut i = 0;
-    while i < n {
-        rows[i] = from[i];
-        i += 1;
-    }
-}
-
 // The runs after one letter. In `next` are those that have taken a transition; what it held does not count.
 fn step(image: &[u8], n: usize, letter: u8, rows: &mut [u64], next: &mut [u64])
     requires { ⌜ Readable (now image) × (n ≡ countsAt (now image) .states) × Full (now rows) × Full (now next) × Confined n (now rows) × Confined n (now next) ⌝ }
@@ -230,7 +218,7 @@ fn step(image: &[u8], n: usize, letter: u8, rows: &mut [u64], next: &mut [u64])
 {
     clear_words(next, 4 * n);
     step_states(image, n, letter, rows, next);
-    copy_words(rows, next, 4 * n);
+    answer::copy_words(rows, next, 4 * n);
     lift(image, n, rows, next);
 }
 

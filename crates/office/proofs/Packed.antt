@@ -1,4 +1,5 @@
 -- A packed answer beside what was lent: the call's own equation, carried through the packing.
+-- Assumes nothing.
 use Prim.Native.Nat.{ℕ}
 use mathlib.Core.Path.{_≡_, ap, _∙_}
 use mathlib.Core.List.{List}

@@ -1,4 +1,5 @@
 -- A loop that counts down over the first n of ts is a right fold of that list: one law for each of its needs.
+-- Assumes nothing.
 use mathlib.Core.Path.{_≡_, refl, _∙_}
 use mathlib.Core.List.{List, [], _∷_}
 use mathlib.Core.Bool.{Bool, true, false}

@@ -1,4 +1,4 @@
--- An element put at a place of a list.
+-- An element put at a place of a list. Assumes nothing.
 use mathlib.Core.Path.{_≡_, refl, ap}
 use mathlib.Core.List.{List, [], _∷_}
 use Prim.Native.Nat.{ℕ, zero, suc, _≤_, _<_}
