@@ -11,7 +11,7 @@ use Rattle.answer.specs.Result.{fine}
 use Rattle.formula.specs.Rule.{nodeCount, checked, untils}
 use Rattle.term.specs.Limits.{tablePlaces}
 use Rattle.term.specs.Packed.{obligationsN}
-use Rattle.term.specs.Table.{Rows}
+use Rattle.term.specs.Table.{TermRows}
 use Rattle.acceptance.specs.Acceptance.{within, untilCount}
 
 -- node i of that kind, if it is an until
@@ -27,7 +27,7 @@ pub record IsUntils (rule nodes : List ℕ) (count : ℕ) : Type 0 where
 pub record Known (rule table nodes : List ℕ) (count : ℕ) : Type 0 where
   pub accepted : checked rule ≡ fine
   pub places : length table ≡ tablePlaces
-  pub rows : Rows rule table (nodeCount rule)
+  pub rows : TermRows rule table (nodeCount rule)
   pub untils : IsUntils rule nodes count
 
 -- packed, u shows that t fulfils f: u is within t, part by part, and f is not among its obligations

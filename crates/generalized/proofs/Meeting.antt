@@ -20,7 +20,7 @@ use Rattle.generalized.specs.declared.Met.{Met}
 use Rattle.generalized.specs.declared.Met.the-variants.{Number, Full}
 use Rattle.generalized.specs.Explore.{meet}
 use Rattle.generalized.specs.Generalized.{transitionCheck}
-use Rattle.generalized.specs.Memory.{keptN, kept, Listed, Numbered, Meets, Room, meetTargets, Added}
+use Rattle.generalized.specs.Memory.{keptN, kept, ListedKept, NumberedState, Meets, WalkRoom, meetTargets, Added}
 use Rattle.generalized.proofs.Lists.{drop-next}
 use Rattle.generalized.proofs.Exploring.{all-refused, all-full, all-next, all-met}
 use Rattle.generalized.proofs.Numbers.{listed-on, listed-none, listed-one, listed-both}
@@ -33,13 +33,13 @@ Told rule ts bytes count = take count bytes ≡ map (fulfilment rule) (map unpac
 -- before i are in the table behind the total that were there before
 pub record Meeting (ts bytes : List ℕ) (count place : ℕ) (states₀ : List ℕ) (n : ℕ) (before : List ℕ) (total : ℕ) (states transitions : List ℕ) (seen i : ℕ) : Type 0 where
   pub within : i ≤ count
-  pub room : Room seen (total + i) states transitions
+  pub room : WalkRoom seen (total + i) states transitions
   pub left : meetTargets place (map unpack (drop i (take count ts))) (total + i) (take seen states) ≡ meetTargets place (map unpack (take count ts)) total (take n states₀)
   pub same : take total transitions ≡ take total before
-  pub listed : (rule : List ℕ) → Told rule ts bytes count → Listed rule (take seen states) (map unpack (take i ts)) (take i (drop total transitions))
+  pub listed : (rule : List ℕ) → Told rule ts bytes count → ListedKept rule (take seen states) (map unpack (take i ts)) (take i (drop total transitions))
 
 module _ (ts bytes : List ℕ) (count place : ℕ) (states₀ : List ℕ) (n : ℕ) (before : List ℕ) (total : ℕ) where
-  pub meeting-begins : Room n total states₀ before → Meeting ts bytes count place states₀ n before total states₀ before n 0
+  pub meeting-begins : WalkRoom n total states₀ before → Meeting ts bytes count place states₀ n before total states₀ before n 0
   meeting-begins room = record {
     within = omega arith;
     room = rw add-zero room;
@@ -85,7 +85,7 @@ module _ (ts bytes : List ℕ) (count place : ℕ) (states₀ : List ℕ) (n : �
         meeting-full e = sym left-is ∙ all-full eqb maxGeneralizedStates 23 transitionCheck place _ _ (total + i) (take seen states) in-time (rw (e, inv .room .states-room) at meets)
 
         module _ (target more : ℕ) (told-number : result ≡ Number target more) (size : length after ≡ length states) where
-          met : Numbered (obligationsN t) (take seen states) (meet eqb (length states) 23 place (obligationsN t) (take seen states)) target more after
+          met : NumberedState (obligationsN t) (take seen states) (meet eqb (length states) 23 place (obligationsN t) (take seen states)) target more after
           met = rw told-number at meets
 
           pub target-small : target < maxGeneralizedStates

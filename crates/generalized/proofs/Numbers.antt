@@ -12,7 +12,7 @@ use Rattle.sets.specs.Sets.{In}
 use Rattle.sets.proofs.Members.{append-in}
 use Rattle.term.specs.Term.{Term}
 use Rattle.generalized.specs.Explore.{find}
-use Rattle.generalized.specs.Memory.{kept, Listed}
+use Rattle.generalized.specs.Memory.{kept, ListedKept}
 
 module _ {A : Type 0} (same : A → A → Bool) where
   find-stays : (x : A) (xs ys : List A) → find same x xs < length xs → find same x (xs ++ ys) ≡ find same x xs
@@ -48,20 +48,20 @@ module _ (xs ys : List ℕ) (first : take (length xs) ys ≡ xs) where
   kept-same rule [] found = refl
   kept-same rule (t ∷ ts) found = rw (same-number (t .obligations) (found t (inl refl)), kept-same rule ts (λ u h. found u (inr h)))
 
-  pub listed-on : {rule : List ℕ} {ts : List Term} {ns : List ℕ} → Listed rule xs ts ns → Listed rule ys ts ns
+  pub listed-on : {rule : List ℕ} {ts : List Term} {ns : List ℕ} → ListedKept rule xs ts ns → ListedKept rule ys ts ns
   listed-on {rule} {ts} h = record {
     numbers = h .numbers ∙ kept-same rule ts (h .found);
     found = λ t i. omega (arith, same-number (t .obligations) (h .found t i), h .found t i, ap length parts, length-append xs (drop (length xs) ys));
   }
 
 module _ {rule xs : List ℕ} where
-  pub listed-none : Listed rule xs [] []
+  pub listed-none : ListedKept rule xs [] []
   listed-none = record { numbers = refl; found = λ t h. absurd h }
 
-  pub listed-one : (t : Term) → find eqb (t .obligations) xs < length xs → Listed rule xs (t ∷ []) (kept rule xs t ∷ [])
+  pub listed-one : (t : Term) → find eqb (t .obligations) xs < length xs → ListedKept rule xs (t ∷ []) (kept rule xs t ∷ [])
   listed-one t lt = record { numbers = refl; found = λ u h. ⊎-elim (λ e. subst (λ (v : Term). find eqb (v .obligations) xs < length xs) (sym e) lt) (λ none. absurd none) h }
 
-  pub listed-both : {ts us : List Term} {ns ms : List ℕ} → Listed rule xs ts ns → Listed rule xs us ms → Listed rule xs (ts ++ us) (ns ++ ms)
+  pub listed-both : {ts us : List Term} {ns ms : List ℕ} → ListedKept rule xs ts ns → ListedKept rule xs us ms → ListedKept rule xs (ts ++ us) (ns ++ ms)
   listed-both {ts} {us} g h = record {
     numbers = rw (g .numbers, h .numbers) (sym (map-append (kept rule xs) ts us));
     found = λ t i. ⊎-elim (g .found t) (h .found t) (append-in t ts us i);

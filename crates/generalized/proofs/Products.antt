@@ -22,7 +22,7 @@ use Rattle.term.specs.Limits.{tablePlaces}
 use Rattle.term.specs.Term.{Term, terms}
 use Rattle.term.specs.Size.{checked}
 use Rattle.term.specs.Packed.{pack}
-use Rattle.term.specs.Table.{rowOf, Row}
+use Rattle.term.specs.Table.{rowOf, TermRow}
 use Rattle.term.proofs.Packing.{Numbers, of-terms, numbers-are, canonical, product-numbers, owing-numbers, terms-numbers}
 use Rattle.term.proofs.Rising.{product-one}
 use Rattle.term.proofs.Rows.{row-is, row-fits}
@@ -46,7 +46,7 @@ partial-packed rule state (suc n) ranges =
     times-packed (has state n) (partial-packed rule state n (λ k lt. ranges k (omega arith))) (terms-numbers (tree rule n) (ranges n (omega arith)))
 
 -- a node's row can be multiplied with
-pub factor-of : (rule table : List ℕ) (k : ℕ) → checked rule ≡ fine → length table ≡ tablePlaces → k < nodeCount rule → Row rule table k → Factor table k
+pub factor-of : (rule table : List ℕ) (k : ℕ) → checked rule ≡ fine → length table ≡ tablePlaces → k < nodeCount rule → TermRow rule table k → Factor table k
 factor-of rule table k passed size lt row = record {
   inside = omega (arith, row-fits row size (omega (arith, most-nodes rule passed)));
   few = omega (arith, row .count, few rule passed k lt .terms);
@@ -99,7 +99,7 @@ module _ (rule : List ℕ) (state n : ℕ) where
           passed = λ place. pass-steps _ n k lt (inv .passed place) (rw (le-leb (length (partialProduct rule state (suc k))) maxProduct (omega (arith, size, inv .fits))));
         }
 
-    module _ (ranges : (j : ℕ) → j < n → InRange (tree rule j)) (table : List ℕ) (row : Row rule table k) (own : has state k ≡ true)
+    module _ (ranges : (j : ℕ) → j < n → InRange (tree rule j)) (table : List ℕ) (row : TermRow rule table k) (own : has state k ≡ true)
         (after : List ℕ) (r : ℕ) (size : length after ≡ length items) (turn : Stores after r (insertProductN (take count items) (rowOf table k) [])) where
       next-is : Stores after r (map pack (partialProduct rule state (suc k)))
       unfolding partialProduct

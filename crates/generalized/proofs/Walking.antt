@@ -25,9 +25,9 @@ use Rattle.generalized.specs.declared.Step.the-variants.{On, Stop}
 use Rattle.generalized.specs.declared.Walked.the-variants.{Counts, Refused}
 use Rattle.generalized.specs.Explore.{explore}
 use Rattle.generalized.specs.Generalized.{transitions, productCheck, transitionCheck, targets, generalized}
-use Rattle.generalized.specs.Memory.{Product, Listed, Room, meetTargets, transitionsAt, walkState, Added, Adds, allTransitions, Walks}
+use Rattle.generalized.specs.Memory.{Product, ListedKept, WalkRoom, meetTargets, transitionsOf, walkState, Added, AddsTransitions, allTransitions, Walks}
 use Rattle.generalized.proofs.Exploring.{explore-next, explore-refused, explore-ends}
-use Rattle.generalized.proofs.Explored.{Extends, all-grows, extends-longer}
+use Rattle.generalized.proofs.Explored.{Extends, all-grows}
 use Rattle.generalized.proofs.Passed.{in-range}
 use Rattle.generalized.proofs.Products.{partial-packed}
 use Rattle.generalized.proofs.Numbers.{listed-on, listed-none, listed-both}
@@ -39,8 +39,8 @@ module _ (rule states : List ℕ) (place n total : ℕ) (lt : place < n) (items 
 
   pub state-adds : checked rule ≡ fine → count ≤ maxProduct → (bytes before : List ℕ) (step : Step) (states′ after : List ℕ) → take count bytes ≡ map (fulfilment rule) (map unpack (take count items))
       → ((of : List ℕ) → take count bytes ≡ map (fulfilment of) (map unpack (take count items))
-      → Adds of (map unpack (take count items)) total before (meetTargets place (map unpack (take count items)) total (take n states)) step states′ after)
-      → Adds rule (transitionsAt rule states place) total before (walkState rule place total (take n states)) step states′ after
+      → AddsTransitions of (map unpack (take count items)) total before (meetTargets place (map unpack (take count items)) total (take n states)) step states′ after)
+      → AddsTransitions rule (transitionsOf rule states place) total before (walkState rule place total (take n states)) step states′ after
   unfolding transitions
   state-adds passed le bytes before step states′ after told turn =
       let are : map unpack (take count items) ≡ transitions rule (getD states place 0) =
@@ -50,7 +50,7 @@ module _ (rule states : List ℕ) (place n total : ℕ) (lt : place < n) (items 
 -- the walk of a state only adds states
 state-extends : (rule : List ℕ) (place total : ℕ) (xs ys : List ℕ) → walkState rule place total xs ≡ accepted ys → Extends xs ys
 state-extends rule place total xs ys e =
-    all-grows eqb maxGeneralizedStates 23 transitionCheck place (map (λ t. t .obligations) (transitionsAt rule xs place)) total xs ys (then-accepted (productCheck rule place (getD xs place 0)) _ e .2) .extends
+    all-grows eqb maxGeneralizedStates 23 transitionCheck place (map (λ t. t .obligations) (transitionsOf rule xs place)) total xs ys (then-accepted (productCheck rule place (getD xs place 0)) _ e .2) .extends
 
 -- one state more
 all-last : (rule xs : List ℕ) (x : ℕ) → allTransitions rule (xs ++ (x ∷ [])) ≡ allTransitions rule xs ++ transitions rule x
@@ -62,11 +62,11 @@ all-last rule (y ∷ ys) x = rw (all-last rule ys x) (sym (append-assoc (transit
 pub record Walking (rule : List ℕ) (initial : ℕ) (states transitions ends : List ℕ) (n total place : ℕ) : Type 0 where
   pub within : place ≤ n
   pub begun : initial ≡ length (cover (formula rule))
-  pub room : Room n total states transitions
+  pub room : WalkRoom n total states transitions
   pub ends-room : length ends ≡ maxGeneralizedStates
   pub counted : total ≡ length (allTransitions rule (take place (take n states)))
   pub left : generalized rule ≡ explore eqb maxGeneralizedStates 23 transitionCheck 0 (targets rule) (productCheck rule) (maxGeneralizedStates - place) place total (take n states)
-  pub listed : Listed rule (take n states) (allTransitions rule (take place (take n states))) (take total transitions)
+  pub listed : ListedKept rule (take n states) (allTransitions rule (take place (take n states))) (take total transitions)
   pub ending : (k : ℕ) → k < place → getD ends k 0 ≡ length (allTransitions rule (take (suc k) (take n states)))
 
 pub walk-begins : (rule states transitions ends : List ℕ) (n : ℕ) → take n states ≡ cover (formula rule) → n ≤ maxTerms → length states ≡ maxGeneralizedStates
@@ -100,7 +100,7 @@ walk-ends rule initial states transitions ends n total place inv ge =
 
 -- the walk goes on with the state at place
 module _ (rule : List ℕ) (initial : ℕ) (states transitions ends : List ℕ) (n total place : ℕ) (inv : Walking rule initial states transitions ends n total place) (lt : place < n) (step : Step) (states′ transitions′ : List ℕ)
-    (adds : Adds rule (transitionsAt rule states place) total transitions (walkState rule place total (take n states)) step states′ transitions′) where
+    (adds : AddsTransitions rule (transitionsOf rule states place) total transitions (walkState rule place total (take n states)) step states′ transitions′) where
   fuel : maxGeneralizedStates - place ≡ suc (maxGeneralizedStates - suc place)
   fuel = omega (arith, inv .room .few)
 
@@ -117,7 +117,7 @@ module _ (rule : List ℕ) (initial : ℕ) (states transitions ends : List ℕ) 
 
   module _ (met end : ℕ) (e : step ≡ On met end) where
     abbrev ts : List Term
-    ts = transitionsAt rule states place
+    ts = transitionsOf rule states place
 
     added : Added rule ts total transitions (walkState rule place total (take n states)) met end states′ transitions′
     added = rw e at adds
@@ -150,7 +150,7 @@ module _ (rule : List ℕ) (initial : ℕ) (states transitions ends : List ℕ) 
     left-now =
         inv .left ∙ rw (fuel, explore-next eqb maxGeneralizedStates 23 transitionCheck 0 (targets rule) (productCheck rule) (maxGeneralizedStates - suc place) place total (take n states) inside (added .are), getD-take n states place 0 lt, count-is)
 
-    listed-now : Listed rule (take met states′) (allTransitions rule (take (suc place) (take met states′))) (take end transitions′)
+    listed-now : ListedKept rule (take met states′) (allTransitions rule (take (suc place) (take met states′))) (take end transitions′)
     listed-now =
         rw (all-now, added .counted, take-add total (length ts) transitions′, added .same)
         (listed-both (listed-on _ _ first (inv .listed)) (added .listed))

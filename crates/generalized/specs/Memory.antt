@@ -62,14 +62,14 @@ abbrev pub keptMustNot : ℕ → ℕ
 keptMustNot x = x % 256
 
 -- ts in the table when the states xs are numbered: ns are their numbers, and each leads to one of xs
-pub record Listed (rule xs : List ℕ) (ts : List Term) (ns : List ℕ) : Type 0 where
+pub record ListedKept (rule xs : List ℕ) (ts : List Term) (ns : List ℕ) : Type 0 where
   pub numbers : ns ≡ map (kept rule xs) ts
   pub found : (t : Term) → In t ts → find eqb (t .obligations) xs < length xs
 
 -- ---- a state walked
 
 -- x, met when xs were there: its number, and that count are in items then, xs the first of them
-pub record Numbered (x : ℕ) (xs : List ℕ) (met : Result (List ℕ)) (number count : ℕ) (items : List ℕ) : Type 0 where
+pub record NumberedState (x : ℕ) (xs : List ℕ) (met : Result (List ℕ)) (number count : ℕ) (items : List ℕ) : Type 0 where
   pub are : met ≡ accepted (take count items)
   pub fits : count ≤ length items
   pub first : take (length xs) (take count items) ≡ xs
@@ -77,11 +77,11 @@ pub record Numbered (x : ℕ) (xs : List ℕ) (met : Result (List ℕ)) (number 
   pub inside : number < count
 
 abbrev pub Meets : (full place x : ℕ) (xs : List ℕ) (met : Result (List ℕ)) → Met → (items : List ℕ) → Type 0
-Meets full place x xs met (Number number count) items = Numbered x xs met number count items
+Meets full place x xs met (Number number count) items = NumberedState x xs met number count items
 Meets full place x xs met Full items = met ≡ refused full place
 
 -- places for all states and transitions, n and m of which are taken
-pub record Room (n m : ℕ) (states transitions : List ℕ) : Type 0 where
+pub record WalkRoom (n m : ℕ) (states transitions : List ℕ) : Type 0 where
   pub states-room : length states ≡ maxGeneralizedStates
   pub few : n ≤ maxGeneralizedStates
   pub transitions-room : length transitions ≡ maxGeneralizedTransitions
@@ -93,13 +93,13 @@ meetTargets place ts count xs =
     meetAll eqb maxGeneralizedStates 23 transitionCheck place (map (λ t. t .obligations) ts) count xs
 
 -- the transitions of the state at place among xs
-abbrev pub transitionsAt : (rule xs : List ℕ) (place : ℕ) → List Term
-transitionsAt rule xs place = transitions rule (getD xs place 0)
+abbrev pub transitionsOf : (rule xs : List ℕ) (place : ℕ) → List Term
+transitionsOf rule xs place = transitions rule (getD xs place 0)
 
 -- the walk of the state at place, when count transitions and the states xs are there
 abbrev pub walkState : (rule : List ℕ) (place count : ℕ) (xs : List ℕ) → Result (List ℕ)
 walkState rule place count xs =
-    andThen (productCheck rule place (getD xs place 0)) (λ _. meetTargets place (transitionsAt rule xs place) count xs)
+    andThen (productCheck rule place (getD xs place 0)) (λ _. meetTargets place (transitionsOf rule xs place) count xs)
 
 -- ts added to the total transitions that were in the table before: n states and m transitions are there then
 pub record Added (rule : List ℕ) (ts : List Term) (total : ℕ) (before : List ℕ) (met : Result (List ℕ)) (n m : ℕ) (states after : List ℕ) : Type 0 where
@@ -108,11 +108,11 @@ pub record Added (rule : List ℕ) (ts : List Term) (total : ℕ) (before : List
   pub counted : m ≡ total + length ts
   pub fits : m ≤ maxGeneralizedTransitions
   pub same : take total after ≡ take total before
-  pub listed : Listed rule (take n states) ts (take (length ts) (drop total after))
+  pub listed : ListedKept rule (take n states) ts (take (length ts) (drop total after))
 
-abbrev pub Adds : (rule : List ℕ) (ts : List Term) (total : ℕ) (before : List ℕ) (met : Result (List ℕ)) → Step → (states after : List ℕ) → Type 0
-Adds rule ts total before met (On n m) states after = Added rule ts total before met n m states after
-Adds rule ts total before met (Stop number place) states after = met ≡ refused number place
+abbrev pub AddsTransitions : (rule : List ℕ) (ts : List Term) (total : ℕ) (before : List ℕ) (met : Result (List ℕ)) → Step → (states after : List ℕ) → Type 0
+AddsTransitions rule ts total before met (On n m) states after = Added rule ts total before met n m states after
+AddsTransitions rule ts total before met (Stop number place) states after = met ≡ refused number place
 
 -- ---- the whole walk
 

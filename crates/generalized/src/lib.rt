@@ -15,12 +15,12 @@ ghost use Rattle.term.specs.Limits.{maxTerms, tablePlaces};
 ghost use Rattle.term.specs.Term.{cover};
 ghost use Rattle.term.specs.Size.{checked};
 ghost use Rattle.term.specs.Packed.{unpack};
-ghost use Rattle.term.specs.Table.{rowOf, Rows};
+ghost use Rattle.term.specs.Table.{rowOf, TermRows};
 ghost use Rattle.acceptance.specs.Acceptance.{fulfilment};
 ghost use Rattle.acceptance.specs.Memory.{Known};
 ghost use Rattle.generalized.specs.Limits.{maxProduct, maxGeneralizedStates, maxGeneralizedTransitions};
 ghost use Rattle.generalized.specs.Explore.{find, meet};
-ghost use Rattle.generalized.specs.Memory.{Factor, Product, keptN, keptTarget, keptUntils, keptMust, keptMustNot, Meets, Room, meetTargets, transitionsAt, walkState, Adds, Walks};
+ghost use Rattle.generalized.specs.Memory.{Factor, Product, keptN, keptTarget, keptUntils, keptMust, keptMustNot, Meets, WalkRoom, meetTargets, transitionsOf, walkState, AddsTransitions, Walks};
 
 // The numbers of document 01 by which the first walk is refused.
 pub const PRODUCT_TOO_LARGE: u8 = 21;
@@ -114,7 +114,7 @@ fn find(items: &[u64], n: usize, x: u64) -> usize
 }
 
 // x in a list, the first n of items: an unseen one is put behind them, if there is a place.
-fn meet(items: &mut [u64], n: usize, x: u64) -> Met
+fn meet_state(items: &mut [u64], n: usize, x: u64) -> Met
     requires { ⌜ n ≤ length (now items) ⌝ }
     ensures { λ r. ⌜ ((full place : ℕ) → Meets full place x (take n (now (items .entry))) (meet eqb (length (now (items .entry))) full place x (take n (now (items .entry)))) r (now (items .exit))) ⌝ }
 {
@@ -158,7 +158,7 @@ fn state_terms(
     product: &mut [u64],
     next: &mut [u64],
 ) -> usize
-    requires { ⌜ (checked (now rule) ≡ fine) × (length (now table) ≡ tablePlaces) × Rows (now rule) (now table) (nodeCount (now rule)) × (length (now product) ≡ maxProduct) × (length (now next) ≡ maxProduct) ⌝ }
+    requires { ⌜ (checked (now rule) ≡ fine) × (length (now table) ≡ tablePlaces) × TermRows (now rule) (now table) (nodeCount (now rule)) × (length (now product) ≡ maxProduct) × (length (now next) ≡ maxProduct) ⌝ }
     ensures { λ r. ⌜ Product (now (rule .entry)) state (now (product .exit)) r ⌝ }
 {
     let n = rule.len() / 3;
@@ -190,8 +190,8 @@ fn meet_all(
     transitions: &mut [u64],
     before: Extent,
 ) -> Step
-    requires { ⌜ (count ≤ length (now ts)) × (count ≤ length (now bytes)) × Room (before .states) (before .transitions) (now states) (now transitions) ⌝ }
-    ensures { λ r. ⌜ ((rule : List ℕ) → take count (now (bytes .entry)) ≡ map (fulfilment rule) (map unpack (take count (now (ts .entry)))) → Adds rule (map unpack (take count (now (ts .entry)))) (before .transitions) (now (transitions .entry)) (meetTargets (place .0) (map unpack (take count (now (ts .entry)))) (before .transitions) (take (before .states) (now (states .entry)))) r (now (states .exit)) (now (transitions .exit))) ⌝ }
+    requires { ⌜ (count ≤ length (now ts)) × (count ≤ length (now bytes)) × WalkRoom (before .states) (before .transitions) (now states) (now transitions) ⌝ }
+    ensures { λ r. ⌜ ((rule : List ℕ) → take count (now (bytes .entry)) ≡ map (fulfilment rule) (map unpack (take count (now (ts .entry)))) → AddsTransitions rule (map unpack (take count (now (ts .entry)))) (before .transitions) (now (transitions .entry)) (meetTargets (place .0) (map unpack (take count (now (ts .entry)))) (before .transitions) (take (before .states) (now (states .entry)))) r (now (states .exit)) (now (transitions .exit))) ⌝ }
 {
     let total = before.transitions;
     let mut seen = before.states;
@@ -201,7 +201,7 @@ fn meet_all(
             return Step::Stop(TOO_MANY_TRANSITIONS, place.0);
         }
         let t = ts[i];
-        let met = meet(states, seen, t / 65536);
+        let met = meet_state(states, seen, t / 65536);
         let Met::Number(target, more) = met else {
             return Step::Stop(TOO_MANY_STATES, place.0);
         };
@@ -222,8 +222,8 @@ fn walk_state(
     transitions: &mut [u64],
     before: Extent,
 ) -> Step
-    requires { ⌜ (checked (now rule) ≡ fine) × Known (now rule) (now table) (untils .nodes) (untils .count) × (place .0 < before .states) × Room (before .states) (before .transitions) (now states) (now transitions) ⌝ }
-    ensures { λ r. ⌜ Adds (now (rule .entry)) (transitionsAt (now (rule .entry)) (now (states .entry)) (place .0)) (before .transitions) (now (transitions .entry)) (walkState (now (rule .entry)) (place .0) (before .transitions) (take (before .states) (now (states .entry)))) r (now (states .exit)) (now (transitions .exit)) ⌝ }
+    requires { ⌜ (checked (now rule) ≡ fine) × Known (now rule) (now table) (untils .nodes) (untils .count) × (place .0 < before .states) × WalkRoom (before .states) (before .transitions) (now states) (now transitions) ⌝ }
+    ensures { λ r. ⌜ AddsTransitions (now (rule .entry)) (transitionsOf (now (rule .entry)) (now (states .entry)) (place .0)) (before .transitions) (now (transitions .entry)) (walkState (now (rule .entry)) (place .0) (before .transitions) (take (before .states) (now (states .entry)))) r (now (states .exit)) (now (transitions .exit)) ⌝ }
 {
     let at = place.0;
     let state = states[at];
@@ -271,7 +271,7 @@ pub fn walk(
     transitions: &mut [u64],
     ends: &mut [usize],
 ) -> Walked
-    requires { ⌜ (checked (now rule) ≡ fine) × (length (now table) ≡ tablePlaces) × Rows (now rule) (now table) (nodeCount (now rule)) × (length (now states) ≡ maxGeneralizedStates) × (length (now transitions) ≡ maxGeneralizedTransitions) × (length (now ends) ≡ maxGeneralizedStates) ⌝ }
+    requires { ⌜ (checked (now rule) ≡ fine) × (length (now table) ≡ tablePlaces) × TermRows (now rule) (now table) (nodeCount (now rule)) × (length (now states) ≡ maxGeneralizedStates) × (length (now transitions) ≡ maxGeneralizedTransitions) × (length (now ends) ≡ maxGeneralizedStates) ⌝ }
     ensures { λ r. ⌜ Walks (now (rule .entry)) r (now (states .exit)) (now (transitions .exit)) (now (ends .exit)) ⌝ }
 {
     let untils = acceptance::untils_of(rule);

@@ -15,7 +15,7 @@ use Rattle.answer.specs.Bytes.{twoBytes, numberAt}
 use Rattle.automaton.specs.Tables.{Counts}
 use Rattle.image.specs.Image.{entry, transitionsAt, initialAt, imageLength, contents, contentsBytes}
 use Rattle.image.specs.Reader.{countsAt, countsFit, contentsCheck, readTables, readImage}
-use Rattle.image.specs.Steps.{joined}
+use Rattle.image.specs.Steps.{joinedBodies}
 use Rattle.image.proofs.Contents.{Contents}
 use Rattle.image.proofs.Tables.{Bytes, two-back, Passed, image-length}
 use Rattle.image.proofs.Agree.{Agree, front-agrees, tables-agree}
@@ -44,29 +44,29 @@ module _ (c : Counts) (s t i : List ℕ) (passed : Passed c s t i) where
   abbrev transitionPart : List ℕ
   transitionPart = take (4 * c .transitions) t ++ take (2 * c .initial) i
 
-  transitions-after : drop (transitionsAt c) (joined c s t i) ≡ transitionPart
+  transitions-after : drop (transitionsAt c) (joinedBodies c s t i) ≡ transitionPart
   transitions-after =
-      sym (drop-drop (4 * c .states) contentsBytes (joined c s t i))
+      sym (drop-drop (4 * c .states) contentsBytes (joinedBodies c s t i))
       ∙ ap (drop (4 * c .states)) (contents-dropped c (take (4 * c .states) s ++ transitionPart))
       ∙ drop-at (take (4 * c .states) s) transitionPart (4 * c .states) (length-take-le (4 * c .states) s (passed .state-room))
 
-  initial-after : drop (initialAt c) (joined c s t i) ≡ take (2 * c .initial) i
+  initial-after : drop (initialAt c) (joinedBodies c s t i) ≡ take (2 * c .initial) i
   initial-after =
-      sym (drop-drop (4 * c .transitions) (transitionsAt c) (joined c s t i))
+      sym (drop-drop (4 * c .transitions) (transitionsAt c) (joinedBodies c s t i))
       ∙ ap (drop (4 * c .transitions)) transitions-after
       ∙ drop-at (take (4 * c .transitions) t) (take (2 * c .initial) i) (4 * c .transitions) (length-take-le (4 * c .transitions) t (passed .transition-room))
 
   initial-agrees : Agree (2 * c .initial) i (take (2 * c .initial) i)
   initial-agrees = rw append-nil at (front-agrees (2 * c .initial) i [] (passed .initial-room))
 
-  pub joined-read : (a : Automaton) → countsFit c ≡ true → readTables c s t i ≡ accepted a → readImage (joined c s t i) ≡ accepted a
+  pub joined-read : (a : Automaton) → countsFit c ≡ true → readTables c s t i ≡ accepted a → readImage (joinedBodies c s t i) ≡ accepted a
   unfolding readImage
   joined-read a fit e =
       let bodies = take (4 * c .states) s ++ transitionPart in
-      let found : contentsCheck (joined c s t i) ≡ fine = contents-again c bodies fit (image-length c s t i passed) in
-      rw found (same-counts (countsAt (joined c s t i)) (counts-again c bodies))
+      let found : contentsCheck (joinedBodies c s t i) ≡ fine = contents-again c bodies fit (image-length c s t i passed) in
+      rw found (same-counts (countsAt (joinedBodies c s t i)) (counts-again c bodies))
     where
-      same-counts : (d : Counts) → d ≡ c → readTables d (drop contentsBytes (joined c s t i)) (drop (transitionsAt d) (joined c s t i)) (drop (initialAt d) (joined c s t i)) ≡ accepted a
+      same-counts : (d : Counts) → d ≡ c → readTables d (drop contentsBytes (joinedBodies c s t i)) (drop (transitionsAt d) (joinedBodies c s t i)) (drop (initialAt d) (joinedBodies c s t i)) ≡ accepted a
       same-counts d same =
           rw (same, contents-dropped c (take (4 * c .states) s ++ transitionPart), transitions-after, initial-after)
           (tables-agree c s t i (take (4 * c .states) s ++ transitionPart) transitionPart (take (2 * c .initial) i) (front-agrees (4 * c .states) s transitionPart (passed .state-room)) (front-agrees (4 * c .transitions) t (take (2 * c .initial) i) (passed .transition-room)) initial-agrees a e)
@@ -96,7 +96,7 @@ module _ (image : List ℕ) (bytes : Bytes image) (fits : Contents image) where
       let size = fits .size in
       rw (nine-together 1 (c .states) contentsBytes 2 (c .transitions) (transitionsAt c) 3 (c .initial) (initialAt c) (drop contentsBytes image), number-front image 16 contentsBytes (initialAt c) bytes refl (omega arith) (sym (fits .offset₃)), number-front image 14 16 (c .initial) bytes refl (omega arith) refl, number-front image 12 14 3 bytes refl (omega arith) (sym (fits .kind₃)), number-front image 10 12 (transitionsAt c) bytes refl (omega arith) (sym (fits .offset₂)), number-front image 8 10 (c .transitions) bytes refl (omega arith) refl, number-front image 6 8 2 bytes refl (omega arith) (sym (fits .kind₂)), number-front image 4 6 contentsBytes bytes refl (omega arith) (sym (fits .offset₁)), number-front image 2 4 (c .states) bytes refl (omega arith) refl, number-front image 0 2 1 bytes refl (omega arith) (sym (fits .kind₁)))
 
-  pub whole-image : joined c (drop contentsBytes image) (drop (transitionsAt c) image) (drop (initialAt c) image) ≡ image
+  pub whole-image : joinedBodies c (drop contentsBytes image) (drop (transitionsAt c) image) (drop (initialAt c) image) ≡ image
   whole-image =
       let size = fits .size in
       rw (take-all (2 * c .initial) (drop (initialAt c) image) (rw (length-drop (initialAt c) image) (omega arith)), part-front image (transitionsAt c) (4 * c .transitions) (initialAt c) refl, part-front image contentsBytes (4 * c .states) (transitionsAt c) refl) contents-front

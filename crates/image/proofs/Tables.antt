@@ -15,7 +15,7 @@ use Rattle.automaton.specs.Records.{records, stateRecord, transitionRecord, sta
 use Rattle.answer.specs.Bytes.{twoBytes, numberAt}
 use Rattle.automaton.specs.Tables.{Counts, counts, transitionCount}
 use Rattle.image.specs.Image.{imageLength, imageBytes}
-use Rattle.image.specs.Steps.{joined}
+use Rattle.image.specs.Steps.{joinedBodies}
 use Rattle.image.specs.Reader.{stateCheck, countSum, sumCheck, recordsCheck, transitionsFrom, statesFrom, numbersFrom, automatonFrom}
 use Rattle.image.proofs.Sums.{StateFits, state-fine}
 use Rattle.image.proofs.Sizes.{image-size}
@@ -176,9 +176,9 @@ module _ (c : Counts) (s t i : List ℕ) (passed : Passed c s t i) where
   initial-back = numbers-bytes (c .initial) i (passed .initial-bytes) (passed .initial-room)
 
   -- so its image is the contents and the used bytes
-  pub image-back : imageBytes (automatonFrom c s t i) ≡ joined c s t i
+  pub image-back : imageBytes (automatonFrom c s t i) ≡ joinedBodies c s t i
   unfolding imageBytes
   image-back = rw (counts-back c s t i (passed .checked), states-back, transitions-back, initial-back)
 
-  pub image-length : length (joined c s t i) ≡ imageLength c
+  pub image-length : length (joinedBodies c s t i) ≡ imageLength c
   image-length = ap length (sym image-back) ∙ image-size (automatonFrom c s t i) ∙ ap imageLength (counts-back c s t i (passed .checked))

@@ -13,12 +13,12 @@ use Rattle.image.specs.Image.{imageLength, contents, statesBody, transit
 use Rattle.image.specs.Calls.{Buffer, buffer}
 
 -- the bytes of a written image: the contents, then the used bytes of three tables
-abbrev pub joined : Counts → (states transitions initial : List ℕ) → List ℕ
-joined c s t i = contents c ++ (take (4 * c .states) s ++ (take (4 * c .transitions) t ++ take (2 * c .initial) i))
+abbrev pub joinedBodies : Counts → (states transitions initial : List ℕ) → List ℕ
+joinedBodies c s t i = contents c ++ (take (4 * c .states) s ++ (take (4 * c .transitions) t ++ take (2 * c .initial) i))
 
 -- and the buffer that has them at its start
 abbrev pub joinedOver : Counts → (states transitions initial image : List ℕ) → Buffer
-joinedOver c s t i image = buffer (accepted (imageLength c)) (joined c s t i ++ drop (imageLength c) image)
+joinedOver c s t i image = buffer (accepted (imageLength c)) (joinedBodies c s t i ++ drop (imageLength c) image)
 
 -- tables that have as many records as are counted, and no more states than there may be
 abbrev pub HasRecords : Counts → (states transitions initial : List ℕ) → Type 0

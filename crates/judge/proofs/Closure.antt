@@ -6,15 +6,15 @@ use mathlib.Core.Logic.{_⊎_, inl, inr}
 use native.Mathlib.Omega.{arith}
 use native.Mathlib.Decide.{ℕ-discrete}
 use lib.ListN.{length, replicate}
-use Rattle.judge.specs.RunBits.{Token, Lifted, Is, Adds, Joined, both, met, round, Linked, one, join, joinMet, Via}
+use Rattle.judge.specs.RunBits.{Token, Lifted, Is, Gains, Joined, both, met, round, Linked, one, join, joinMet, Via}
 use Rattle.judge.specs.Limits.{metBit}
 use Rattle.automaton.specs.Limits.{maxStates}
 use Rattle.judge.proofs.Gathers.{Gathering}
 use Rattle.judge.proofs.RunBits.{none-set}
 
 -- the upper half is joined first, which leaves bit m of row q as it was
-pub both-joined : {x y z via : List ℕ} (q m : ℕ) → m < maxStates → Adds x y (λ p k. Token x q (metBit + m) × ((p ≡ q) × Lifted (Token via) 0 k))
-    → Adds y z (λ p k. Token y q m × ((p ≡ q) × Token via 0 k)) → Adds x z (λ p k. (p ≡ q) × Via x via m q k)
+pub both-joined : {x y z via : List ℕ} (q m : ℕ) → m < maxStates → Gains x y (λ p k. Token x q (metBit + m) × ((p ≡ q) × Lifted (Token via) 0 k))
+    → Gains y z (λ p k. Token y q m × ((p ≡ q) × Token via 0 k)) → Gains x z (λ p k. (p ≡ q) × Via x via m q k)
 both-joined {x} {y} {z} {via} q m lt first second = record { only = λ p k h. only p k (second .only p k h); all = all }
   where
     same : Token x q m ⊎ (Token x q (metBit + m) × ((q ≡ q) × Lifted (Token via) 0 m)) → Token x q m
@@ -40,7 +40,7 @@ pub record Through (rows via : List ℕ) (m : ℕ) : Type 0 where
   pub row : (k : ℕ) → Token rows m k → Token via 0 k
   pub again : (k : ℕ) → Token rows m (metBit + m) → Lifted (Token rows) m k → Token via 0 k
 
-pub through : {rows u via : List ℕ} (m : ℕ) → Adds (replicate 4 0) u (λ p k. (p ≡ 0) × Token rows m k) → Adds u via (λ p k. Token u 0 (metBit + m) × ((p ≡ 0) × Lifted (Token rows) m k)) → Through rows via m
+pub through : {rows u via : List ℕ} (m : ℕ) → Gains (replicate 4 0) u (λ p k. (p ≡ 0) × Token rows m k) → Gains u via (λ p k. Token u 0 (metBit + m) × ((p ≡ 0) × Lifted (Token rows) m k)) → Through rows via m
 through {rows} {u} {via} m first second = record {
   only = λ k h. split k (second .only 0 k h);
   row = λ k h. second .all 0 k (inl (first .all 0 k (inr (refl, h))));
@@ -57,7 +57,7 @@ through {rows} {u} {via} m first second = record {
 
 module _ {x via : List ℕ} (m n : ℕ) (t : Through x via m) where
   -- a turn of the loop over the rows: row i is still as it was
-  pub turn-through : {y z : List ℕ} (i : ℕ) → Gathering x (λ p r k. (r ≡ p) × Via x via m p k) n y i → Adds y z (λ p k. (p ≡ i) × Via y via m i k) → Adds y z (λ p k. (p ≡ i) × Via x via m i k)
+  pub turn-through : {y z : List ℕ} (i : ℕ) → Gathering x (λ p r k. (r ≡ p) × Via x via m p k) n y i → Gains y z (λ p k. (p ≡ i) × Via y via m i k) → Gains y z (λ p k. (p ≡ i) × Via x via m i k)
   turn-through {y} {z} i inv adds = record { only = λ p k h. only p k (adds .only p k h); all = λ p k h. adds .all p k (all p k h) }
     where
       same : (k : ℕ) → Token x i k ⊎ ((j : ℕ) × (j < i) × ((i ≡ j) × Via x via m j k)) → Token x i k
@@ -80,7 +80,7 @@ module _ {x via : List ℕ} (m n : ℕ) (t : Through x via m) where
       all p k (inr (e, inl (b, h))) = inr (e, inl (is m b, h))
       all p k (inr (e, inr (b, h))) = inr (e, inr (is (metBit + m) b, h))
 
-  pub all-through : {y : List ℕ} → Adds x y (λ q k. (p : ℕ) × (p < n) × ((q ≡ p) × Via x via m p k)) → Adds x y (λ q k. (q < n) × Joined (Token x) m q k)
+  pub all-through : {y : List ℕ} → Gains x y (λ q k. (p : ℕ) × (p < n) × ((q ≡ p) × Via x via m p k)) → Gains x y (λ q k. (q < n) × Joined (Token x) m q k)
   all-through {y} adds = record { only = λ q k h. only q k (adds .only q k h); all = λ q k h. adds .all q k (all q k h) }
     where
       -- a bit of the lower half was not lifted
@@ -124,7 +124,7 @@ pub record Closing (n : ℕ) (before after : List ℕ) (m : ℕ) : Type 0 where
   pub kept : (q k : ℕ) → Token before q k → Token after q k
   pub closed : (p : ℕ) → p < m → Closed n (Token after) p
 
-module _ (n m : ℕ) (few : n ≤ maxStates) (lm : m < n) {y z : List ℕ} (adds : Adds y z (λ q k. (q < n) × Joined (Token y) m q k)) where
+module _ (n m : ℕ) (few : n ≤ maxStates) (lm : m < n) {y z : List ℕ} (adds : Gains y z (λ q k. (q < n) × Joined (Token y) m q k)) where
   old : {q k : ℕ} → Token y q k → Token z q k
   old {q} {k} h = adds .all q k (inl h)
 

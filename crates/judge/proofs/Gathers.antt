@@ -6,10 +6,10 @@ use mathlib.Core.Logic.{_⊎_, inl, inr}
 use native.Mathlib.Omega.{arith}
 use native.Mathlib.Decide.{ℕ-discrete}
 use lib.ListN.{length}
-use Rattle.judge.specs.RunBits.{Token, Adds}
+use Rattle.judge.specs.RunBits.{Token, Gains}
 
 -- nothing is added
-pub adds-none : {x : List ℕ} {New : (q k : ℕ) → Type 0} → ((q k : ℕ) → New q k → ⊥) → Adds x x New
+pub adds-none : {x : List ℕ} {New : (q k : ℕ) → Type 0} → ((q k : ℕ) → New q k → ⊥) → Gains x x New
 adds-none {x} {New} none = record { only = λ q k h. inl h; all = λ q k h. go q k h }
   where
     go : (q k : ℕ) → Token x q k ⊎ New q k → Token x q k
@@ -20,7 +20,7 @@ adds-none {x} {New} none = record { only = λ q k h. inl h; all = λ q k h. go q
 pub record Gathering (before : List ℕ) (New : (i q k : ℕ) → Type 0) (n : ℕ) (after : List ℕ) (i : ℕ) : Type 0 where
   pub within : i ≤ n
   pub size : length after ≡ length before
-  pub gathered : Adds before after (λ q k. (j : ℕ) × (j < i) × New j q k)
+  pub gathered : Gains before after (λ q k. (j : ℕ) × (j < i) × New j q k)
 
 module _ (x : List ℕ) (New : (i q k : ℕ) → Type 0) (n : ℕ) where
   pub gather-begins : Gathering x New n x 0
@@ -29,7 +29,7 @@ module _ (x : List ℕ) (New : (i q k : ℕ) → Type 0) (n : ℕ) where
       go : (q k : ℕ) → ((j : ℕ) × (j < 0) × New j q k) → ⊥
       go q k (j, lt, h) = omega arith
 
-  pub gather-steps : (y z : List ℕ) (i : ℕ) → i < n → Gathering x New n y i → length z ≡ length y → Adds y z (New i) → Gathering x New n z (i + 1)
+  pub gather-steps : (y z : List ℕ) (i : ℕ) → i < n → Gathering x New n y i → length z ≡ length y → Gains y z (New i) → Gathering x New n z (i + 1)
   gather-steps y z i lt inv size adds = record {
     within = omega arith;
     size = size ∙ inv .size;
@@ -52,13 +52,13 @@ module _ (x : List ℕ) (New : (i q k : ℕ) → Type 0) (n : ℕ) where
       all q k (inl h) = inl (inv .gathered .all q k (inl h))
       all q k (inr (j, l, h)) = pick q k j l h (ℕ-discrete j i)
 
-  pub gather-ends : (y : List ℕ) (i : ℕ) → n ≤ i → Gathering x New n y i → Adds x y (λ q k. (j : ℕ) × (j < n) × New j q k)
+  pub gather-ends : (y : List ℕ) (i : ℕ) → n ≤ i → Gathering x New n y i → Gains x y (λ q k. (j : ℕ) × (j < n) × New j q k)
   gather-ends y i le inv =
       let e : i ≡ n = omega (arith, inv .within) in
       rw e at (inv .gathered)
 
 -- what is added, said otherwise
-pub adds-as : {x y : List ℕ} {New New' : (q k : ℕ) → Type 0} → Adds x y New → ((q k : ℕ) → New q k → New' q k) → ((q k : ℕ) → New' q k → New q k) → Adds x y New'
+pub adds-as : {x y : List ℕ} {New New' : (q k : ℕ) → Type 0} → Gains x y New → ((q k : ℕ) → New q k → New' q k) → ((q k : ℕ) → New' q k → New q k) → Gains x y New'
 adds-as {x} {y} {New} {New'} adds to from = record { only = λ q k h. only q k (adds .only q k h); all = λ q k h. adds .all q k (all q k h) }
   where
     only : (q k : ℕ) → Token x q k ⊎ New q k → Token x q k ⊎ New' q k

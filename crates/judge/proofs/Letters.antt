@@ -10,7 +10,7 @@ use native.Mathlib.Numerals.{add-one}
 use native.Mathlib.Decide.{ℕ-discrete}
 use lib.ListN.{length, getD, replicate}
 use Rattle.automaton.specs.Automaton.{Automaton, Step, Accepts}
-use Rattle.judge.specs.RunBits.{Token, Lifted, Is, Adds, Confined, Moved, moved, lifted, After, Ran}
+use Rattle.judge.specs.RunBits.{Token, Lifted, Is, Gains, Confined, Moved, moved, lifted, After, Ran}
 use Rattle.judge.specs.Limits.{startBit, metBit, rowsWords}
 use Rattle.judge.proofs.RunBits.{none-set}
 use Rattle.judge.proofs.Decisions.{true-false, false-true}
@@ -18,7 +18,7 @@ use Rattle.judge.proofs.Decisions.{true-false, false-true}
 module _ (a : Automaton) (x : ℕ) where
   -- the transitions taken into empty rows, and what stands in an accepting state lifted
   pub stepped : (n : ℕ) {empty next copied after : List ℕ} (rows : List ℕ) → ((p q : ℕ) → Step a p x q → p < n) → ((q k : ℕ) → Token empty q k → ⊥)
-      → Adds empty next (λ t k. (q : ℕ) × (q < n) × (Step a q x t × Token rows q k)) → Is copied (Token next) → Adds copied after (λ q k. Accepts a q × Lifted (Token next) q k) → Is after (Moved a x (Token rows))
+      → Gains empty next (λ t k. (q : ℕ) × (q < n) × (Step a q x t × Token rows q k)) → Is copied (Token next) → Gains copied after (λ q k. Accepts a q × Lifted (Token next) q k) → Is after (Moved a x (Token rows))
   stepped n {empty} {next} {copied} {after} rows inside none step copy lift = record { only = λ q k h. only q k (lift .only q k h); all = λ q k h. all h }
     where
       taken : (q k : ℕ) → Token empty q k ⊎ ((p : ℕ) × (p < n) × (Step a p x q × Token rows p k)) → (p : ℕ) × (Step a p x q × Token rows p k)
@@ -41,7 +41,7 @@ module _ (a : Automaton) (x : ℕ) where
 
   -- no run stands behind the n states
   pub taken-confined : (n : ℕ) {empty next rows : List ℕ} → ((p q : ℕ) → Step a p x q → q < n) → ((q k : ℕ) → Token empty q k → ⊥)
-      → Adds empty next (λ t k. (q : ℕ) × (q < n) × (Step a q x t × Token rows q k)) → Confined n next
+      → Gains empty next (λ t k. (q : ℕ) × (q < n) × (Step a q x t × Token rows q k)) → Confined n next
   taken-confined n {empty} {next} {rows} target none step q k h = go (step .only q k h)
     where
       go : Token empty q k ⊎ ((p : ℕ) × (p < n) × (Step a p x q × Token rows p k)) → q < n

@@ -17,7 +17,7 @@ use Rattle.lasso.proofs.Letters.{letter-round}
 use Rattle.sets.proofs.Members.{All}
 use Rattle.judge.proofs.Runs.{Leads, leads-none, leads-snoc}
 use Rattle.automaton.proofs.InRange.{InRange}
-use Rattle.judge.specs.Search.{Point, point, targets, after, onward}
+use Rattle.judge.specs.Search.{Point, point, readTargets, after, onward}
 use Rattle.judge.proofs.Queue.{Within}
 
 module _ (stem cycle : List ℕ) where
@@ -103,8 +103,8 @@ module _ (stem cycle : List ℕ) where
 
 -- ---- what follows from a point
 
-targets-in : (x next : ℕ) (ts : List Transition) (z : Point) → In z (targets x next ts) → (z .position ≡ next) × ((t : Transition) × In t ts × (reads t x ≡ true) × (z .state ≡ t .target))
-unfolding targets
+targets-in : (x next : ℕ) (ts : List Transition) (z : Point) → In z (readTargets x next ts) → (z .position ≡ next) × ((t : Transition) × In t ts × (reads t x ≡ true) × (z .state ≡ t .target))
+unfolding readTargets
 targets-in x next [] z h = absurd h
 targets-in x next (t ∷ ts) z h = go (reads t x) refl h (targets-in x next ts z)
   where
@@ -114,18 +114,18 @@ targets-in x next (t ∷ ts) z h = go (reads t x) refl h (targets-in x next ts z
     on : Led ts → Led (t ∷ ts)
     on (p, (u, m, r, e)) = (p, (u, inr m, r, e))
 
-    go : (b : Bool) → reads t x ≡ b → In z (elim b [ true ↦ point next (t .target) ∷ targets x next ts | false ↦ targets x next ts ]) → (In z (targets x next ts) → Led ts) → Led (t ∷ ts)
+    go : (b : Bool) → reads t x ≡ b → In z (elim b [ true ↦ point next (t .target) ∷ readTargets x next ts | false ↦ readTargets x next ts ]) → (In z (readTargets x next ts) → Led ts) → Led (t ∷ ts)
     go true q (inl e) ih = (ap (λ (y : Point). y .position) e, (t, inl refl, q, ap (λ (y : Point). y .state) e))
     go true q (inr h) ih = on (ih h)
     go false q h ih = on (ih h)
 
-in-targets : (x next : ℕ) (ts : List Transition) (t : Transition) → In t ts → reads t x ≡ true → In (point next (t .target)) (targets x next ts)
-unfolding targets
+in-targets : (x next : ℕ) (ts : List Transition) (t : Transition) → In t ts → reads t x ≡ true → In (point next (t .target)) (readTargets x next ts)
+unfolding readTargets
 in-targets x next [] t m r = absurd m
-in-targets x next (u ∷ ts) t (inl e) r = subst (λ (b : Bool). In (point next (t .target)) (elim b [ true ↦ point next (u .target) ∷ targets x next ts | false ↦ targets x next ts ])) (sym (subst (λ (v : Transition). reads v x ≡ true) e r)) (inl (ap (λ (v : Transition). point next (v .target)) e))
+in-targets x next (u ∷ ts) t (inl e) r = subst (λ (b : Bool). In (point next (t .target)) (elim b [ true ↦ point next (u .target) ∷ readTargets x next ts | false ↦ readTargets x next ts ])) (sym (subst (λ (v : Transition). reads v x ≡ true) e r)) (inl (ap (λ (v : Transition). point next (v .target)) e))
 in-targets x next (u ∷ ts) t (inr m) r = go (reads u x) (in-targets x next ts t m r)
   where
-    go : (b : Bool) → In (point next (t .target)) (targets x next ts) → In (point next (t .target)) (elim b [ true ↦ point next (u .target) ∷ targets x next ts | false ↦ targets x next ts ])
+    go : (b : Bool) → In (point next (t .target)) (readTargets x next ts) → In (point next (t .target)) (elim b [ true ↦ point next (u .target) ∷ readTargets x next ts | false ↦ readTargets x next ts ])
     go true h = inr h
     go false h = h
 

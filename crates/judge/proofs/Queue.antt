@@ -15,7 +15,7 @@ use borrow.Author.Tests.{eqb-true, eq-eqb}
 use Rattle.sets.specs.Sets.{In}
 use Rattle.sets.proofs.Members.{All, at-in, in-at, in-append, append-in, any-iff}
 use Rattle.automaton.proofs.Positions.{pigeon}
-use Rattle.judge.specs.Search.{Point, point, samePoint, member, meet, meetAll}
+use Rattle.judge.specs.Search.{Point, point, samePoint, member, visit, visitAll}
 
 -- ---- members
 
@@ -78,8 +78,8 @@ met-keeps {xs} {met} {more} m x h =
     let (i, l, q) = in-at (point 0 0) x met h in
     subst (λ (y : Point). In y more) (m .there i l ∙ q) (at-in (point 0 0) more i (omega (arith, m .longer)))
 
-met-one : (x : Point) (met : List Point) → Met (x ∷ []) met (meet x met)
-unfolding meet
+met-one : (x : Point) (met : List Point) → Met (x ∷ []) met (visit x met)
+unfolding visit
 met-one x met = go (member x met) refl
   where
     go : (b : Bool) → member x met ≡ b → Met (x ∷ []) met (elim b [ true ↦ met | false ↦ met ++ (x ∷ []) ])
@@ -116,10 +116,10 @@ met-on x {xs} {met} {more} {most} g h = record {
     later y (inl m) = first y (g .from y m)
     later y (inr m) = inr (inr m)
 
-pub met-all : (xs met : List Point) → Met xs met (meetAll xs met)
-unfolding meetAll
+pub met-all : (xs met : List Point) → Met xs met (visitAll xs met)
+unfolding visitAll
 met-all [] met = record { longer = omega arith; there = λ i l. refl; has = λ y h. absurd h; unique = λ u. u; from = λ y h. inl h }
-met-all (x ∷ xs) met = met-on x (met-one x met) (met-all xs (meet x met))
+met-all (x ∷ xs) met = met-on x (met-one x met) (met-all xs (visit x met))
 
 -- ---- at most as many as there are
 

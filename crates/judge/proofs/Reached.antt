@@ -13,7 +13,7 @@ use borrow.Author.Tests.{ltb-true, ltb-false}
 use Rattle.automaton.specs.Automaton.{Automaton}
 use Rattle.sets.specs.Sets.{In}
 use Rattle.sets.proofs.Members.{All, at-in, in-at}
-use Rattle.judge.specs.Search.{Point, point, meetAll, onward, reach}
+use Rattle.judge.specs.Search.{Point, point, visitAll, onward, reach}
 use Rattle.judge.proofs.Queue.{at, Unique, Met, met-keeps, met-all}
 
 module _ (a : Automaton) (stem cycle : List ℕ) where
@@ -33,7 +33,7 @@ module _ (a : Automaton) (stem cycle : List ℕ) where
       sound : All P met
       closed : (i : ℕ) → i < k → All (λ y. In y met) (onward a stem cycle (at met i))
 
-    begins : All P from → Going 0 (meetAll from [])
+    begins : All P from → Going 0 (visitAll from [])
     begins p =
         let m = met-all from [] in
         record {
@@ -74,12 +74,12 @@ module _ (a : Automaton) (stem cycle : List ℕ) where
     ends (suc fuel) k met f g = go (ltb k (length met)) refl (λ more. ends fuel (suc k) more (omega arith))
       where
         next : List Point
-        next = meetAll (onward a stem cycle (at met k)) met
+        next = visitAll (onward a stem cycle (at met k)) met
 
         go : (b : Bool) → ltb k (length met) ≡ b → ((more : List Point) → Going (suc k) more → Reached P from (reach a stem cycle fuel (suc k) more))
             → Reached P from (elim b [ true ↦ reach a stem cycle fuel (suc k) next | false ↦ met ])
         go true q ih = ih next (goes-on k met next (ltb-true k (length met) q) g (met-all (onward a stem cycle (at met k)) met))
         go false q ih = done k met (ltb-false k (length met) q) g
 
-    pub search-reaches : (fuel : ℕ) → limit ≤ fuel → All P from → Reached P from (reach a stem cycle fuel 0 (meetAll from []))
-    search-reaches fuel le p = ends fuel 0 (meetAll from []) (omega arith) (begins p)
+    pub search-reaches : (fuel : ℕ) → limit ≤ fuel → All P from → Reached P from (reach a stem cycle fuel 0 (visitAll from []))
+    search-reaches fuel le p = ends fuel 0 (visitAll from []) (omega arith) (begins p)

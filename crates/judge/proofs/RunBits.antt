@@ -13,7 +13,7 @@ use lib.Dec.{eqb}
 use lib.Pow.{pow-lt}
 use native.Mathlib.Nat.{one-mul, mod-eq-of-lt, add-zero}
 use borrow.Author.Tests.{eqb-true, eqb-false, eq-eqb, ne-eqb}
-use Rattle.judge.specs.RunBits.{Token, Lifted, Is, Adds, Confined, Ored, Tells}
+use Rattle.judge.specs.RunBits.{Token, Lifted, Is, Gains, Confined, Ored, Tells}
 use Rattle.answer.proofs.Zeros.{zeros-at}
 use Rattle.sets.specs.Bits.{Has}
 use Rattle.sets.proofs.Bits.{or-has, has-or-l, has-or-r, zero-has, pow-has, has-pow}
@@ -81,7 +81,7 @@ apart r t k w e = go (decLt r t)
 
 module _ (x from y : List ℕ) (t q : ℕ) where
   -- a whole row
-  pub ored-row : Ored x (4 * t) from (4 * q) 4 y → Adds x y (λ r k. (r ≡ t) × Token from q k)
+  pub ored-row : Ored x (4 * t) from (4 * q) 4 y → Gains x y (λ r k. (r ≡ t) × Token from q k)
   ored-row o = record { only = λ r k h. only r k h (ℕ-discrete r t); all = λ r k h. all r k h (ℕ-discrete r t) }
     where
       word : (r k : ℕ) → r ≡ t → k < rowBits → getD y (4 * r + k / 64) 0 ≡ bitOr (getD x (4 * r + k / 64) 0) (getD from (4 * q + k / 64) 0)
@@ -101,7 +101,7 @@ module _ (x from y : List ℕ) (t q : ℕ) where
       all r k (inl h) (no e) = record { within = h .within; bit = same-bit (k % 64) (sym (o .outside (4 * r + k / 64) (apart r t k (h .within) e))) (h .bit) }
 
   -- the upper half of a row, from the lower half of another
-  pub ored-met : Ored x (4 * t + 2) from (4 * q) 2 y → Adds x y (λ r k. (r ≡ t) × Lifted (Token from) q k)
+  pub ored-met : Ored x (4 * t + 2) from (4 * q) 2 y → Gains x y (λ r k. (r ≡ t) × Lifted (Token from) q k)
   ored-met o = record { only = λ r k h. only r k h (ℕ-discrete r t) (decLt k metBit); all = λ r k h. all r k h (ℕ-discrete r t) (decLt k metBit) }
     where
       word : (r k : ℕ) → r ≡ t → k < rowBits → metBit ≤ k → getD y (4 * r + k / 64) 0 ≡ bitOr (getD x (4 * r + k / 64) 0) (getD from (4 * q + (k - metBit) / 64) 0)
@@ -245,7 +245,7 @@ abbrev withBits : List ℕ → (q k word : ℕ) → List ℕ
 withBits x q k word = set x (4 * q + k / 64) (bitOr (getD x (4 * q + k / 64) 0) word)
 
 module _ (x : List ℕ) (q k : ℕ) (fits : 4 * q + 4 ≤ length x) (within : k < rowBits) where
-  pub bit-is-set : (word : ℕ) → word ≡ 2 ^ (k % 64) → Adds x (withBits x q k word) (λ r j. (r ≡ q) × (j ≡ k))
+  pub bit-is-set : (word : ℕ) → word ≡ 2 ^ (k % 64) → Gains x (withBits x q k word) (λ r j. (r ≡ q) × (j ≡ k))
   bit-is-set word e = record { only = λ r j h. only r j h (ℕ-discrete (4 * r + j / 64) (4 * q + k / 64)); all = λ r j h. all r j h (ℕ-discrete (4 * r + j / 64) (4 * q + k / 64)) }
     where
       at : (i : ℕ) → i ≡ 4 * q + k / 64 → getD (withBits x q k word) i 0 ≡ bitOr (getD x i 0) word

@@ -13,7 +13,7 @@ use Rattle.automaton.specs.Automaton.{Step, Accepts}
 use Rattle.image.specs.Image.{initialAt, contentsBytes}
 use Rattle.answer.specs.Bytes.{numberAt}
 use Rattle.image.specs.Reader.{countsAt, countSum}
-use Rattle.judge.specs.RunBits.{Token, Lifted, Adds, ByRecord}
+use Rattle.judge.specs.RunBits.{Token, Lifted, Gains, ByRecord}
 use Rattle.image.specs.Lookup.{imageAutomaton, recordsAt, Readable, AcceptingByte, transitionCountOf}
 use Rattle.judge.specs.Limits.{startBit, rowsWords}
 use Rattle.judge.proofs.Decisions.{false-true}
@@ -23,10 +23,10 @@ use Rattle.image.proofs.Lookup.{step-taken, taken-step, accepts-inside, accepts
 -- ---- a turn that a test guards
 
 -- more that holds anyway
-pub adds-if : {x y : List ℕ} {New : (q k : ℕ) → Type 0} {P : Type 0} → P → Adds x y New → Adds x y (λ q k. P × New q k)
+pub adds-if : {x y : List ℕ} {New : (q k : ℕ) → Type 0} {P : Type 0} → P → Gains x y New → Gains x y (λ q k. P × New q k)
 adds-if p adds = adds-as adds (λ q k h. (p, h)) (λ q k h. h .1)
 
-pub adds-not : {x : List ℕ} {New : (q k : ℕ) → Type 0} {P : Type 0} → (P → ⊥) → Adds x x (λ q k. P × New q k)
+pub adds-not : {x : List ℕ} {New : (q k : ℕ) → Type 0} {P : Type 0} → (P → ⊥) → Gains x x (λ q k. P × New q k)
 adds-not np = adds-none (λ q k h. np (h .0))
 
 pub reads-not : {r t : Bool} → r ≡ t → not r ≡ true → t ≡ true → ⊥
@@ -42,7 +42,7 @@ module _ (image : List ℕ) (rows : List ℕ) (q x : ℕ) where
   ByRecords at i t k = ByRecord image (at + 4 * i) x (Token rows) q t k
 
   pub all-records : (before after : List ℕ) (at n : ℕ) → q < countsAt image .states → at ≡ recordsAt image q → n ≡ transitionCountOf image q
-      → Adds before after (λ t k. (i : ℕ) × (i < n) × ByRecords at i t k) → Adds before after (λ t k. Step (imageAutomaton image) q x t × Token rows q k)
+      → Gains before after (λ t k. (i : ℕ) × (i < n) × ByRecords at i t k) → Gains before after (λ t k. Step (imageAutomaton image) q x t × Token rows q k)
   all-records before after at n lq ea en adds = adds-as adds to from
     where
       to : (t k : ℕ) → ((i : ℕ) × (i < n) × ByRecords at i t k) → Step (imageAutomaton image) q x t × Token rows q k
@@ -85,7 +85,7 @@ unfolding countSum
 records-begin image n e = omega arith
 
 pub all-lifted : (image : List ℕ) {before after held : List ℕ} (n : ℕ) → n ≡ countsAt image .states
-    → Adds before after (λ q k. (p : ℕ) × (p < n) × ((AcceptingByte image p) × ((q ≡ p) × Lifted (Token held) p k))) → Adds before after (λ q k. Accepts (imageAutomaton image) q × Lifted (Token held) q k)
+    → Gains before after (λ q k. (p : ℕ) × (p < n) × ((AcceptingByte image p) × ((q ≡ p) × Lifted (Token held) p k))) → Gains before after (λ q k. Accepts (imageAutomaton image) q × Lifted (Token held) q k)
 all-lifted image {before} {after} {held} n en adds = adds-as adds to from
   where
     to : (q k : ℕ) → ((p : ℕ) × (p < n) × ((AcceptingByte image p) × ((q ≡ p) × Lifted (Token held) p k))) → Accepts (imageAutomaton image) q × Lifted (Token held) q k
@@ -101,7 +101,7 @@ pub initial-fits : (image : List ℕ) → Readable image → (at n i : ℕ) {q :
 initial-fits image fine at n i ea en lt eq = rw (eq, ea) (omega (arith, fine .few, initial-inside image fine i (rw en at lt)))
 
 pub all-initial : (image : List ℕ) {before after : List ℕ} (n at : ℕ) → n ≡ countsAt image .initial → at ≡ initialAt (countsAt image)
-    → Adds before after (λ q k. (i : ℕ) × (i < n) × ((q ≡ numberAt image (at + 2 * i)) × (k ≡ startBit))) → Adds before after (λ q k. In q (imageAutomaton image .initial) × (k ≡ startBit))
+    → Gains before after (λ q k. (i : ℕ) × (i < n) × ((q ≡ numberAt image (at + 2 * i)) × (k ≡ startBit))) → Gains before after (λ q k. In q (imageAutomaton image .initial) × (k ≡ startBit))
 all-initial image n at en ea adds = adds-as adds to from
   where
     to : (q k : ℕ) → ((i : ℕ) × (i < n) × ((q ≡ numberAt image (at + 2 * i)) × (k ≡ startBit))) → In q (imageAutomaton image .initial) × (k ≡ startBit)
@@ -113,7 +113,7 @@ all-initial image n at en ea adds = adds-as adds to from
     from : (q k : ℕ) → In q (imageAutomaton image .initial) × (k ≡ startBit) → (i : ℕ) × (i < n) × ((q ≡ numberAt image (at + 2 * i)) × (k ≡ startBit))
     from q k (h, f) = put q k f (initial-number image q h)
 
-pub all-states : {before after : List ℕ} (n : ℕ) → Adds before after (λ q k. (p : ℕ) × (p < n) × ((q ≡ p) × (k ≡ p))) → Adds before after (λ q k. (q < n) × (k ≡ q))
+pub all-states : {before after : List ℕ} (n : ℕ) → Gains before after (λ q k. (p : ℕ) × (p < n) × ((q ≡ p) × (k ≡ p))) → Gains before after (λ q k. (q < n) × (k ≡ q))
 all-states n adds = adds-as adds to from
   where
     to : (q k : ℕ) → ((p : ℕ) × (p < n) × ((q ≡ p) × (k ≡ p))) → (q < n) × (k ≡ q)

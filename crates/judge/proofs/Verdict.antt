@@ -8,7 +8,7 @@ use mathlib.Core.Logic.{_⊎_, inl, inr, ⊎-elim}
 use lib.ListN.{length, getD, replicate}
 use Rattle.automaton.specs.Automaton.{Automaton, Step, Accepts, AcceptingPass}
 use Rattle.sets.specs.Sets.{In}
-use Rattle.judge.specs.RunBits.{Token, Lifted, Is, Adds, Confined, Tells, After, Linked, one, join, joinMet, SomeStarted}
+use Rattle.judge.specs.RunBits.{Token, Lifted, Is, Gains, Confined, Tells, After, Linked, one, join, joinMet, SomeStarted}
 use Rattle.judge.specs.Limits.{startBit, metBit, rowsWords}
 use Rattle.automaton.specs.Limits.{maxStates}
 use Rattle.judge.proofs.RunBits.{none-set}
@@ -34,7 +34,7 @@ lifted-map f q k l = record { low = l .low; half = l .half; high = l .high; held
 ⊎-map f g (inr h) = inr (g h)
 
 -- rows by what the rows before them hold
-is-initial : {rows : List ℕ} {New : (q k : ℕ) → Type 0} (m : ℕ) → Adds (replicate m 0) rows New → Is rows New
+is-initial : {rows : List ℕ} {New : (q k : ℕ) → Type 0} (m : ℕ) → Gains (replicate m 0) rows New → Is rows New
 is-initial {rows} {New} m adds = record { only = λ q k h. go q k (adds .only q k h); all = λ q k h. adds .all q k (inr h) }
   where
     go : (q k : ℕ) → Token (replicate m 0) q k ⊎ New q k → New q k
@@ -47,13 +47,13 @@ is-after a w d p is = record {
   all = λ q k h. is .all q k (after-map a w (p .all) d q k h);
 }
 
-is-more : {x y : List ℕ} {P New : (q k : ℕ) → Type 0} → Is x P → Adds x y New → Is y (λ q k. P q k ⊎ New q k)
+is-more : {x y : List ℕ} {P New : (q k : ℕ) → Type 0} → Is x P → Gains x y New → Is y (λ q k. P q k ⊎ New q k)
 is-more p adds = record {
   only = λ q k h. ⊎-map (p .only q k) (λ n. n) (adds .only q k h);
   all = λ q k h. adds .all q k (⊎-map (p .all q k) (λ n. n) h);
 }
 
-is-lifted : (a : Automaton) {x y : List ℕ} {P : (q k : ℕ) → Type 0} → Is x P → Adds x y (λ q k. Accepts a q × Lifted (Token x) q k) → Is y (λ q k. P q k ⊎ (Accepts a q × Lifted P q k))
+is-lifted : (a : Automaton) {x y : List ℕ} {P : (q k : ℕ) → Type 0} → Is x P → Gains x y (λ q k. Accepts a q × Lifted (Token x) q k) → Is y (λ q k. P q k ⊎ (Accepts a q × Lifted P q k))
 is-lifted a p adds = record {
   only = λ q k h. ⊎-map (p .only q k) (λ n. (n .0, lifted-map (p .only) q k (n .1))) (adds .only q k h);
   all = λ q k h. adds .all q k (⊎-map (p .all q k) (λ n. (n .0, lifted-map (p .all) q k (n .1))) h);
@@ -63,15 +63,15 @@ is-linked : (n : ℕ) {x y : List ℕ} {P : (q k : ℕ) → Type 0} → Is x P �
 is-linked n p is = record { only = λ q k h. linked-map n (p .only) (is .only q k h); all = λ q k h. is .all q k (linked-map n (p .all) h) }
 
 -- no row behind the first n has a bit, once the runs are begun
-more-confined : (n : ℕ) {x y : List ℕ} {New : (q k : ℕ) → Type 0} → Confined n x → ((q k : ℕ) → New q k → q < n) → Adds x y New → Confined n y
+more-confined : (n : ℕ) {x y : List ℕ} {New : (q k : ℕ) → Type 0} → Confined n x → ((q k : ℕ) → New q k → q < n) → Gains x y New → Confined n y
 more-confined n old new adds q k h = ⊎-elim (old q k) (new q k) (adds .only q k h)
 
 module _ (a : Automaton) (n : ℕ) (inside : (q x t : ℕ) → Step a q x t → t < n) (initial : (q : ℕ) → In q (a .initial) → q < n) where
-  pub starts-confined : {r1 : List ℕ} → Adds (replicate rowsWords 0) r1 (λ q k. In q (a .initial) × (k ≡ startBit)) → Confined n r1
+  pub starts-confined : {r1 : List ℕ} → Gains (replicate rowsWords 0) r1 (λ q k. In q (a .initial) × (k ≡ startBit)) → Confined n r1
   starts-confined starts = more-confined n (λ q k h. absurd (none-set rowsWords q k h)) (λ q k h. initial q (h .0)) starts
 
-  pub begun-confined : (stem : List ℕ) {r1 r2 r3 r4 : List ℕ} → Adds (replicate rowsWords 0) r1 (λ q k. In q (a .initial) × (k ≡ startBit)) → Is r2 (After a (λ i. getD stem i 0) (Token r1) (length stem))
-      → Adds r2 r3 (λ q k. (q < n) × (k ≡ q)) → Adds r3 r4 (λ q k. Accepts a q × Lifted (Token r3) q k) → Confined n r4
+  pub begun-confined : (stem : List ℕ) {r1 r2 r3 r4 : List ℕ} → Gains (replicate rowsWords 0) r1 (λ q k. In q (a .initial) × (k ≡ startBit)) → Is r2 (After a (λ i. getD stem i 0) (Token r1) (length stem))
+      → Gains r2 r3 (λ q k. (q < n) × (k ≡ q)) → Gains r3 r4 (λ q k. Accepts a q × Lifted (Token r3) q k) → Confined n r4
   begun-confined stem {r1} {r2} {r3} {r4} starts stemmed placed begun = more-confined n third (λ q k h. third q (h .1 .low) (h .1 .held)) begun
     where
       second : Confined n r2
@@ -82,13 +82,13 @@ module _ (a : Automaton) (n : ℕ) (inside : (q x t : ℕ) → Step a q x t → 
 
 module _ (a : Automaton) (n : ℕ) (stem cycle : List ℕ) (few : n ≤ maxStates) (inside : (q x t : ℕ) → Step a q x t → t < n) (initial : (q : ℕ) → In q (a .initial) → q < n) where
   -- no run from an initial state is left after the stem
-  pub lost-in-stem : {r1 : List ℕ} → Adds (replicate rowsWords 0) r1 (λ q k. In q (a .initial) × (k ≡ startBit)) → ((q : ℕ) → After a (λ i. getD stem i 0) (Token r1) (length stem) q startBit → ⊥) → Tells false (AcceptingPass a stem cycle)
+  pub lost-in-stem : {r1 : List ℕ} → Gains (replicate rowsWords 0) r1 (λ q k. In q (a .initial) × (k ≡ startBit)) → ((q : ℕ) → After a (λ i. getD stem i 0) (Token r1) (length stem) q startBit → ⊥) → Tells false (AcceptingPass a stem cycle)
   lost-in-stem starts lost = holds-not (λ pass.
       let h = pass-stemmed a n stem cycle few inside initial pass in
       lost (h .0) (after-map a (λ i. getD stem i 0) (is-initial rowsWords starts .all) (length stem) (h .0) startBit (h .1)))
 
-  module _ {r1 r2 r3 r4 : List ℕ} (starts : Adds (replicate rowsWords 0) r1 (λ q k. In q (a .initial) × (k ≡ startBit))) (stemmed : Is r2 (After a (λ i. getD stem i 0) (Token r1) (length stem)))
-      (placed : Adds r2 r3 (λ q k. (q < n) × (k ≡ q))) (begun : Adds r3 r4 (λ q k. Accepts a q × Lifted (Token r3) q k)) where
+  module _ {r1 r2 r3 r4 : List ℕ} (starts : Gains (replicate rowsWords 0) r1 (λ q k. In q (a .initial) × (k ≡ startBit))) (stemmed : Is r2 (After a (λ i. getD stem i 0) (Token r1) (length stem)))
+      (placed : Gains r2 r3 (λ q k. (q < n) × (k ≡ q))) (begun : Gains r3 r4 (λ q k. Accepts a q × Lifted (Token r3) q k)) where
     is-begun : Is r4 (Begun a n stem cycle)
     is-begun = is-lifted a (is-more (is-after a (λ i. getD stem i 0) (length stem) (is-initial rowsWords starts) stemmed) placed) begun
 

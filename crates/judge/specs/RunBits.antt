@@ -43,8 +43,8 @@ pub record Is (rows : List ℕ) (Held : (q k : ℕ) → Type 0) : Type 0 where
   pub all : (q k : ℕ) → Held q k → Token rows q k
 
 -- the rows have these bits more than before
-abbrev pub Adds : (before after : List ℕ) (New : (q k : ℕ) → Type 0) → Type 0
-Adds before after New = Is after (λ q k. Token before q k ⊎ New q k)
+abbrev pub Gains : (before after : List ℕ) (New : (q k : ℕ) → Type 0) → Type 0
+Gains before after New = Is after (λ q k. Token before q k ⊎ New q k)
 
 -- no row behind the first n has a bit: with n states no others are read, cleared or copied
 abbrev pub Confined : (n : ℕ) (rows : List ℕ) → Type 0

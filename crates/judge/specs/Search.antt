@@ -24,19 +24,19 @@ abbrev pub member : Point → List Point → Bool
 member x ys = any (samePoint x) ys
 
 -- the points met so far, and one that was not among them at their end
-unfoldable pub meet : Point → List Point → List Point
-meet x met = elim (member x met) [ true ↦ met | false ↦ met ++ (x ∷ []) ]
+unfoldable pub visit : Point → List Point → List Point
+visit x met = elim (member x met) [ true ↦ met | false ↦ met ++ (x ∷ []) ]
 
-unfoldable pub meetAll : List Point → List Point → List Point
-meetAll [] met = met
-meetAll (x ∷ xs) met = meetAll xs (meet x met)
+unfoldable pub visitAll : List Point → List Point → List Point
+visitAll [] met = met
+visitAll (x ∷ xs) met = visitAll xs (visit x met)
 
 -- where the transitions that read the letter lead, in order, at the next position
-unfoldable pub targets : (letter next : ℕ) → List Transition → List Point
-targets x next [] = []
-targets x next (t ∷ ts) = elim (reads t x) [
-  | true ↦ point next (t .target) ∷ targets x next ts
-  | false ↦ targets x next ts
+unfoldable pub readTargets : (letter next : ℕ) → List Transition → List Point
+readTargets x next [] = []
+readTargets x next (t ∷ ts) = elim (reads t x) [
+  | true ↦ point next (t .target) ∷ readTargets x next ts
+  | false ↦ readTargets x next ts
 ]
 
 -- positions run over stem and cycle; after the last comes the cycle's first
@@ -47,20 +47,20 @@ module _ (a : Automaton) (stem cycle : List ℕ) where
   -- the points that a step leads to
   unfoldable pub onward : Point → List Point
   onward x =
-      targets (letter stem cycle (x .position)) (after stem cycle (x .position))
+      readTargets (letter stem cycle (x .position)) (after stem cycle (x .position))
       (getD (a .states) (x .state) noState .transitions)
 
   -- the points met, when the first `taken` of them have been taken: each one taken meets those that it leads to
   unfoldable pub reach : (fuel taken : ℕ) (met : List Point) → List Point
   reach zero taken met = met
   reach (suc fuel) taken met = elim (ltb taken (length met)) [
-    | true ↦ reach fuel (suc taken) (meetAll (onward (getD met taken (point 0 0))) met)
+    | true ↦ reach fuel (suc taken) (visitAll (onward (getD met taken (point 0 0))) met)
     | false ↦ met
   ]
 
   -- all points that can be reached from the given ones: each is taken once, so states times positions are enough
   unfoldable pub reachedFrom : List Point → List Point
-  reachedFrom from = reach (length (a .states) * (length stem + length cycle)) 0 (meetAll from [])
+  reachedFrom from = reach (length (a .states) * (length stem + length cycle)) 0 (visitAll from [])
 
   -- the initial states, at letter 0
   unfoldable pub starts : List Point

@@ -14,7 +14,7 @@ ghost use mathlib.Core.Path.{_≡_};
 ghost use mathlib.Core.Bool.{true, _&&_};
 ghost use Prim.Native.Nat.{ℕ, _+_, _*_, _<_, _≤_};
 ghost use mathlib.Core.List.{_++_};
-ghost use lib.ListN.{length, replicate, take, drop};
+ghost use lib.ListN.{length, replicate, drop};
 ghost use lib.Dec.{eqb};
 ghost use lib.Bits.{bitOr, bitAnd};
 ghost use Rattle.automaton.specs.Automaton.{AcceptingPass, Accepts};
@@ -23,7 +23,7 @@ ghost use Rattle.sets.specs.Sets.{In};
 ghost use Rattle.answer.specs.Bytes.{numberAt};
 ghost use Rattle.judge.specs.Judge.{judgeAnswer, judgement, judgedOn, judged};
 ghost use Rattle.judge.specs.Limits.{startBit, metBit, rowBits};
-ghost use Rattle.judge.specs.RunBits.{HasRow, Full, Token, Lifted, Is, Adds, Ored, Tells, Onward, ByRecord, Moved, AfterAll, Via, Joined, Linked, Started, SomeStarted, Confined, Ran};
+ghost use Rattle.judge.specs.RunBits.{HasRow, Full, Token, Lifted, Is, Gains, Ored, Tells, Onward, ByRecord, Moved, AfterAll, Via, Joined, Linked, Started, SomeStarted, Confined, Ran};
 ghost use Rattle.image.specs.Image.{acceptingAt};
 ghost use Rattle.image.specs.Reader.{countsAt};
 ghost use Rattle.image.specs.Lookup.{imageAutomaton, AcceptingByte, transitionCountOf, recordsAt, Readable};
@@ -73,7 +73,7 @@ fn or_words(into: &mut [u64], a: usize, from: &[u64], b: usize, n: usize)
 // Row t joined with row q.
 fn or_row(into: &mut [u64], t: usize, from: &[u64], q: usize)
     requires { ⌜ HasRow (now into) t × HasRow (now from) q ⌝ }
-    ensures { λ _. ⌜ Adds (now (into .entry)) (now (into .exit)) (λ r k. (r ≡ t) × Token (now (from .entry)) q k) ⌝ }
+    ensures { λ _. ⌜ Gains (now (into .entry)) (now (into .exit)) (λ r k. (r ≡ t) × Token (now (from .entry)) q k) ⌝ }
 {
     or_words(into, 4 * t, from, 4 * q, 4);
 }
@@ -81,7 +81,7 @@ fn or_row(into: &mut [u64], t: usize, from: &[u64], q: usize)
 // The upper half of row t joined with the lower half of row q.
 fn or_met(into: &mut [u64], t: usize, from: &[u64], q: usize)
     requires { ⌜ HasRow (now into) t × HasRow (now from) q ⌝ }
-    ensures { λ _. ⌜ Adds (now (into .entry)) (now (into .exit)) (λ r k. (r ≡ t) × Lifted (Token (now (from .entry))) q k) ⌝ }
+    ensures { λ _. ⌜ Gains (now (into .entry)) (now (into .exit)) (λ r k. (r ≡ t) × Lifted (Token (now (from .entry))) q k) ⌝ }
 {
     or_words(into, 4 * t + 2, from, 4 * q, 2);
 }
@@ -106,7 +106,7 @@ fn row_empty(rows: &[u64], q: usize) -> bool
 // Bit k of row q set.
 fn set_bit(rows: &mut [u64], q: usize, k: usize)
     requires { ⌜ HasRow (now rows) q × (k < rowBits) ⌝ }
-    ensures { λ _. ⌜ Adds (now (rows .entry)) (now (rows .exit)) (λ r j. (r ≡ q) × (j ≡ k)) ⌝ }
+    ensures { λ _. ⌜ Gains (now (rows .entry)) (now (rows .exit)) (λ r j. (r ≡ q) × (j ≡ k)) ⌝ }
 {
     rows[4 * q + k / 64] |= 1 << (k % 64);
 }
@@ -114,7 +114,7 @@ fn set_bit(rows: &mut [u64], q: usize, k: usize)
 // The runs of row q in the target's row, if the transition record at byte `at` reads the letter.
 fn take_transition(image: &[u8], at: usize, letter: u8, rows: &[u64], q: usize, next: &mut [u64])
     requires { ⌜ (at + 3 < length (now image)) × HasRow (now rows) q × HasRow (now next) (numberAt (now image) (at + 2)) ⌝ }
-    ensures { λ _. ⌜ Adds (now (next .entry)) (now (next .exit)) (ByRecord (now (image .entry)) at letter (Token (now (rows .entry))) q) ⌝ }
+    ensures { λ _. ⌜ Gains (now (next .entry)) (now (next .exit)) (ByRecord (now (image .entry)) at letter (Token (now (rows .entry))) q) ⌝ }
 {
     if !reads_letter(image[at], image[at + 1], letter) {
         return;
@@ -133,7 +133,7 @@ fn take_transitions(
     next: &mut [u64],
 )
     requires { ⌜ Readable (now image) × (q < countsAt (now image) .states) × (at ≡ recordsAt (now image) q) × (count ≡ transitionCountOf (now image) q) × Full (now rows) × Full (now next) ⌝ }
-    ensures { λ _. ⌜ Adds (now (next .entry)) (now (next .exit)) (Onward (imageAutomaton (now (image .entry))) letter (Token (now (rows .entry))) q) ⌝ }
+    ensures { λ _. ⌜ Gains (now (next .entry)) (now (next .exit)) (Onward (imageAutomaton (now (image .entry))) letter (Token (now (rows .entry))) q) ⌝ }
 {
     let mut i = 0;
     while i < count {
@@ -152,7 +152,7 @@ fn step_state(
     next: &mut [u64],
 ) -> usize
     requires { ⌜ Readable (now image) × (q < countsAt (now image) .states) × (at ≡ recordsAt (now image) q) × Full (now rows) × Full (now next) ⌝ }
-    ensures { λ r. ⌜ (r ≡ recordsAt (now (image .entry)) (q + 1)) × Adds (now (next .entry)) (now (next .exit)) (Onward (imageAutomaton (now (image .entry))) letter (Token (now (rows .entry))) q) ⌝ }
+    ensures { λ r. ⌜ (r ≡ recordsAt (now (image .entry)) (q + 1)) × Gains (now (next .entry)) (now (next .exit)) (Onward (imageAutomaton (now (image .entry))) letter (Token (now (rows .entry))) q) ⌝ }
 {
     let count = number_at(image, CONTENTS_BYTES + 4 * q);
     let end = at + 4 * count;
@@ -166,7 +166,7 @@ fn step_state(
 // The runs of all rows after the letter.
 fn step_states(image: &[u8], n: usize, letter: u8, rows: &[u64], next: &mut [u64])
     requires { ⌜ Readable (now image) × (n ≡ countsAt (now image) .states) × Full (now rows) × Full (now next) ⌝ }
-    ensures { λ _. ⌜ Adds (now (next .entry)) (now (next .exit)) (λ t k. (q : ℕ) × (q < n) × Onward (imageAutomaton (now (image .entry))) letter (Token (now (rows .entry))) q t k) ⌝ }
+    ensures { λ _. ⌜ Gains (now (next .entry)) (now (next .exit)) (λ t k. (q : ℕ) × (q < n) × Onward (imageAutomaton (now (image .entry))) letter (Token (now (rows .entry))) q t k) ⌝ }
 {
     let mut at = CONTENTS_BYTES + 4 * n;
     let mut q = 0;
@@ -179,7 +179,7 @@ fn step_states(image: &[u8], n: usize, letter: u8, rows: &[u64], next: &mut [u64
 // The runs of row q of `from` have met an accepting state, if q is one.
 fn lift_state(image: &[u8], q: usize, rows: &mut [u64], from: &[u64])
     requires { ⌜ (acceptingAt + 4 * q < length (now image)) × HasRow (now rows) q × HasRow (now from) q ⌝ }
-    ensures { λ _. ⌜ Adds (now (rows .entry)) (now (rows .exit)) (λ r k. (AcceptingByte (now (image .entry)) q) × ((r ≡ q) × Lifted (Token (now (from .entry))) q k)) ⌝ }
+    ensures { λ _. ⌜ Gains (now (rows .entry)) (now (rows .exit)) (λ r k. (AcceptingByte (now (image .entry)) q) × ((r ≡ q) × Lifted (Token (now (from .entry))) q k)) ⌝ }
 {
     if image[ACCEPTING_AT + 4 * q] != 1 {
         return;
@@ -190,7 +190,7 @@ fn lift_state(image: &[u8], q: usize, rows: &mut [u64], from: &[u64])
 // The runs that stand in an accepting state have met one.
 fn lift(image: &[u8], n: usize, rows: &mut [u64], from: &[u64])
     requires { ⌜ Readable (now image) × (n ≡ countsAt (now image) .states) × Full (now rows) × Full (now from) ⌝ }
-    ensures { λ _. ⌜ Adds (now (rows .entry)) (now (rows .exit)) (λ q k. Accepts (imageAutomaton (now (image .entry))) q × Lifted (Token (now (from .entry))) q k) ⌝ }
+    ensures { λ _. ⌜ Gains (now (rows .entry)) (now (rows .exit)) (λ q k. Accepts (imageAutomaton (now (image .entry))) q × Lifted (Token (now (from .entry))) q k) ⌝ }
 {
     let mut q = 0;
     while q < n {
@@ -273,7 +273,7 @@ fn run(image: &[u8], n: usize, word: &[u8], rows: &mut [u64]) -> bool
 // A run begins in each initial state.
 fn begin_runs(image: &[u8], rows: &mut [u64])
     requires { ⌜ Readable (now image) × Full (now rows) ⌝ }
-    ensures { λ _. ⌜ Adds (now (rows .entry)) (now (rows .exit)) (λ q k. In q (imageAutomaton (now (image .entry)) .initial) × (k ≡ startBit)) ⌝ }
+    ensures { λ _. ⌜ Gains (now (rows .entry)) (now (rows .exit)) (λ q k. In q (imageAutomaton (now (image .entry)) .initial) × (k ≡ startBit)) ⌝ }
 {
     let at = CONTENTS_BYTES
         + 4 * number_at(image, STATE_COUNT_AT)
@@ -289,7 +289,7 @@ fn begin_runs(image: &[u8], rows: &mut [u64])
 // A pass begins in each state.
 fn begin_passes(n: usize, rows: &mut [u64])
     requires { ⌜ (n ≤ maxStates) × Full (now rows) ⌝ }
-    ensures { λ _. ⌜ Adds (now (rows .entry)) (now (rows .exit)) (λ q k. (q < n) × (k ≡ q)) ⌝ }
+    ensures { λ _. ⌜ Gains (now (rows .entry)) (now (rows .exit)) (λ q k. (q < n) × (k ≡ q)) ⌝ }
 {
     let mut q = 0;
     while q < n {
@@ -301,7 +301,7 @@ fn begin_passes(n: usize, rows: &mut [u64])
 // Row r of `from` joined to row q, if row q has bit m: the runs to m go on to q.
 fn join_runs(rows: &mut [u64], q: usize, m: usize, from: &[u64], r: usize)
     requires { ⌜ HasRow (now rows) q × HasRow (now from) r × (m < maxStates) ⌝ }
-    ensures { λ _. ⌜ Adds (now (rows .entry)) (now (rows .exit)) (λ p k. Token (now (rows .entry)) q m × ((p ≡ q) × Token (now (from .entry)) r k)) ⌝ }
+    ensures { λ _. ⌜ Gains (now (rows .entry)) (now (rows .exit)) (λ p k. Token (now (rows .entry)) q m × ((p ≡ q) × Token (now (from .entry)) r k)) ⌝ }
 {
     if !has_bit(rows, q, m) {
         return;
@@ -312,7 +312,7 @@ fn join_runs(rows: &mut [u64], q: usize, m: usize, from: &[u64], r: usize)
 // The same for the runs from m to q that meet an accepting state: those that go on have met one.
 fn join_met(rows: &mut [u64], q: usize, m: usize, from: &[u64], r: usize)
     requires { ⌜ HasRow (now rows) q × HasRow (now from) r × (m < maxStates) ⌝ }
-    ensures { λ _. ⌜ Adds (now (rows .entry)) (now (rows .exit)) (λ p k. Token (now (rows .entry)) q (metBit + m) × ((p ≡ q) × Lifted (Token (now (from .entry))) r k)) ⌝ }
+    ensures { λ _. ⌜ Gains (now (rows .entry)) (now (rows .exit)) (λ p k. Token (now (rows .entry)) q (metBit + m) × ((p ≡ q) × Lifted (Token (now (from .entry))) r k)) ⌝ }
 {
     if !has_bit(rows, q, MET + m) {
         return;
@@ -323,7 +323,7 @@ fn join_met(rows: &mut [u64], q: usize, m: usize, from: &[u64], r: usize)
 // Both, of the runs to m in the one row of `via`.
 fn join_state(rows: &mut [u64], q: usize, m: usize, via: &[u64])
     requires { ⌜ HasRow (now rows) q × HasRow (now via) 0 × (m < maxStates) ⌝ }
-    ensures { λ _. ⌜ Adds (now (rows .entry)) (now (rows .exit)) (λ p k. (p ≡ q) × Via (now (rows .entry)) (now (via .entry)) m q k) ⌝ }
+    ensures { λ _. ⌜ Gains (now (rows .entry)) (now (rows .exit)) (λ p k. (p ≡ q) × Via (now (rows .entry)) (now (via .entry)) m q k) ⌝ }
 {
     join_met(rows, q, m, via, 0);
     join_runs(rows, q, m, via, 0);
@@ -333,7 +333,7 @@ fn join_state(rows: &mut [u64], q: usize, m: usize, via: &[u64])
 // goes from m to m and meets an accepting state, all that go round with it meet one too.
 fn join_through(rows: &mut [u64], n: usize, m: usize)
     requires { ⌜ (n ≤ maxStates) × (m < n) × Full (now rows) ⌝ }
-    ensures { λ _. ⌜ Adds (now (rows .entry)) (now (rows .exit)) (λ q k. (q < n) × Joined (Token (now (rows .entry))) m q k) ⌝ }
+    ensures { λ _. ⌜ Gains (now (rows .entry)) (now (rows .exit)) (λ q k. (q < n) × Joined (Token (now (rows .entry))) m q k) ⌝ }
 {
     let mut via = [0u64; 4];
     or_row(&mut via, 0, rows, m);

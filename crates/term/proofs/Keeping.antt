@@ -19,7 +19,7 @@ use Rattle.term.specs.Limits.{maxTerms, rowPlaces}
 use Rattle.term.specs.Term
 use Rattle.term.specs.Size.{sizeCheck}
 use Rattle.term.specs.Packed.{pack}
-use Rattle.term.specs.Table.{Row, Rows}
+use Rattle.term.specs.Table.{TermRow, TermRows}
 use Rattle.term.specs.Descent.{Reaches, FoundTerms, Kept, StoresRow, Keeps}
 use Rattle.term.proofs.Carries.{carried}
 use Rattle.term.proofs.Reached.{below-leaf, below-next, below-pair}
@@ -119,7 +119,7 @@ module _ (rule before : List ℕ) (n : ℕ) (ts : Terms) (after : List ℕ) (sto
       let e : k * rowPlaces + 0 ≡ k * rowPlaces = omega arith in
       rw e at (outside 0 (omega arith))
 
-  row-stays : getD before (k * rowPlaces) 0 ≤ maxTerms → Row rule before k → Row rule after k
+  row-stays : getD before (k * rowPlaces) 0 ≤ maxTerms → TermRow rule before k → TermRow rule after k
   row-stays few row =
       let size = stored .size in
       let m : ℕ = length (Term.terms (tree rule k)) in
@@ -146,7 +146,7 @@ own-kept rule before n ts after stored found = record {
   over = λ lt. found .over (omega (arith, stored .count));
 }
   where
-    row : ts .count ≤ maxTerms → Row rule after n
+    row : ts .count ≤ maxTerms → TermRow rule after n
     row few =
         let is = found .within few in
         let e : ts .count ≡ length (Term.terms (tree rule n)) = omega (arith, is .count, length-map (Term.terms (tree rule n)) pack) in
@@ -185,9 +185,9 @@ module _ (rule : List ℕ) (n : ℕ) {r : Terms} (found : FoundTerms rule n r) {
         pick k (inr reaches) = second .reached k reaches
 
 -- the rows of n nodes, none of which is a 20
-pub rows-fine : (rule table : List ℕ) (n : ℕ) → ((k : ℕ) → k < n → Kept rule table k) → lowest (sizeCheck rule) n ≡ fine → Rows rule table n
+pub rows-fine : (rule table : List ℕ) (n : ℕ) → ((k : ℕ) → k < n → Kept rule table k) → lowest (sizeCheck rule) n ≡ fine → TermRows rule table n
 rows-fine rule table n kept e k lt = pick (decLt maxTerms (getD table (k * rowPlaces) 0))
   where
-    pick : Dec (maxTerms < getD table (k * rowPlaces) 0) → Row rule table k
+    pick : Dec (maxTerms < getD table (k * rowPlaces) 0) → TermRow rule table k
     pick (yes over) = absurd (kept k lt .over over (lowest-below (sizeCheck rule) n e (suc k) (omega arith)))
     pick (no few) = kept k lt .within (omega arith)

@@ -10,9 +10,9 @@ use Rattle.formula.specs.Formula.{tree}
 use Rattle.term.specs.Limits.{rowPlaces, tablePlaces}
 use Rattle.term.specs.Term.{terms}
 use Rattle.term.specs.Packed.{pack}
-use Rattle.term.specs.Table.{rowOf, Row}
+use Rattle.term.specs.Table.{rowOf, TermRow}
 
-module _ {rule table : List ℕ} {k : ℕ} (row : Row rule table k) where
+module _ {rule table : List ℕ} {k : ℕ} (row : TermRow rule table k) where
   pub row-is : rowOf table k ≡ map pack (terms (tree rule k))
   row-is = rw (row .count) (row .terms)
 

@@ -12,7 +12,7 @@ use Rattle.term.specs.Limits.{maxTerms, rowPlaces}
 use Rattle.term.specs.Term.{cover, terms}
 use Rattle.term.specs.Size.{sizeCheck}
 use Rattle.term.specs.Packed.{pack, packSet, IsPacked}
-use Rattle.term.specs.Table.{Row}
+use Rattle.term.specs.Table.{TermRow}
 
 -- node k is n or stands below n
 pub data Reaches (rule : List ℕ) : (n k : ℕ) → Type 0 where
@@ -37,7 +37,7 @@ FoundCover rule n r = Found rule n r (map packSet (cover (tree rule n)))
 
 -- the row of node k says the same of its terms
 pub record Kept (rule table : List ℕ) (k : ℕ) : Type 0 where
-  pub within : getD table (k * rowPlaces) 0 ≤ maxTerms → Row rule table k
+  pub within : getD table (k * rowPlaces) 0 ≤ maxTerms → TermRow rule table k
   pub over : maxTerms < getD table (k * rowPlaces) 0 → Over rule k
 
 -- after is before with ts in the row of node n

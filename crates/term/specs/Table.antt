@@ -13,10 +13,10 @@ abbrev pub rowOf : (table : List ℕ) (k : ℕ) → List ℕ
 rowOf table k = take (getD table (k * rowPlaces) 0) (drop (suc (k * rowPlaces)) table)
 
 -- the row of node k
-pub record Row (rule table : List ℕ) (k : ℕ) : Type 0 where
+pub record TermRow (rule table : List ℕ) (k : ℕ) : Type 0 where
   pub count : getD table (k * rowPlaces) 0 ≡ length (Term.terms (tree rule k))
   pub terms : take (length (Term.terms (tree rule k))) (drop (suc (k * rowPlaces)) table) ≡ map pack (Term.terms (tree rule k))
 
 -- the rows of the first n nodes
-abbrev pub Rows : (rule table : List ℕ) (n : ℕ) → Type 0
-Rows rule table n = (k : ℕ) → k < n → Row rule table k
+abbrev pub TermRows : (rule table : List ℕ) (n : ℕ) → Type 0
+TermRows rule table n = (k : ℕ) → k < n → TermRow rule table k

@@ -16,7 +16,7 @@ ghost use Rattle.term.specs.Limits.{maxTerms, tablePlaces};
 ghost use Rattle.term.specs.Term.{cover, terms};
 ghost use Rattle.term.specs.Size.{sizeCheck, checked, Ready};
 ghost use Rattle.term.specs.Packed.{IsPacked, IsTerms, IsCover};
-ghost use Rattle.term.specs.Table.{Rows};
+ghost use Rattle.term.specs.Table.{TermRows};
 ghost use Rattle.term.specs.Descent.{Kept, FoundCover, StoresRow, Keeps};
 ghost use Rattle.term.specs.Bound.{coverBound, BoundedBelow};
 
@@ -373,7 +373,7 @@ fn check_sizes(rule: &[u8], n: usize, table: &[u64]) -> Checked
 pub fn tabulate(rule: &[u8], table: &mut [u64]) -> Checked
     requires { ⌜ (Rule.checked (now rule) ≡ fine) × (length (now table) ≡ tablePlaces) ⌝ }
     ensures { λ r. ⌜ answer r ≡ lowest (sizeCheck (now (rule .entry))) (nodeCount (now (rule .entry))) ⌝ }
-    ensures { λ r. ⌜ (answer r ≡ fine → Rows (now (rule .entry)) (now (table .exit)) (nodeCount (now (rule .entry)))) ⌝ }
+    ensures { λ r. ⌜ (answer r ≡ fine → TermRows (now (rule .entry)) (now (table .exit)) (nodeCount (now (rule .entry)))) ⌝ }
 {
     let n = rule.len() / 3;
     keep_terms(rule, n - 1, table);

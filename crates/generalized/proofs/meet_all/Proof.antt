@@ -39,8 +39,8 @@ mul-t c = search needs
 shared-slice-read-t : tie.Need-shared-slice-read-t Inv-loop μ-loop
 shared-slice-read-t c = search needs
 
-meet-requires : tie.Need-meet-requires Inv-loop μ-loop
-meet-requires c κs = search needs
+meet-state-requires : tie.Need-meet-state-requires Inv-loop μ-loop
+meet-state-requires c κs = search needs
 
 enum-known-met : tie.Need-enum-known-met Inv-loop μ-loop
 enum-known-met c = search needs
@@ -60,7 +60,7 @@ returns-2 c rule told =
     let test = met .before .before .before in
     let at = test .before .before in
     let s = at .before .before .before .before .before in
-    meeting-full _ _ _ _ _ _ _ _ (s .pre .0) _ _ _ (at .loop .i) (at .loop .inv) (omega arith) (test .if1 .left) (met .meet .result) (met .meet .last .0) (met .meet .ensures 23 _) (c .enum-told .given .1)
+    meeting-full _ _ _ _ _ _ _ _ (s .pre .0) _ _ _ (at .loop .i) (at .loop .inv) (omega arith) (test .if1 .left) (met .meet-state .result) (met .meet-state .last .0) (met .meet-state .ensures 23 _) (c .enum-told .given .1)
 
 shared-slice-read-keep : tie.Need-shared-slice-read-keep Inv-loop μ-loop
 shared-slice-read-keep c = search needs
@@ -71,7 +71,7 @@ keep-requires c κs =
     let test = met .before .before .before in
     let at = test .before .before in
     let s = at .before .before .before .before .before in
-    target-small _ _ _ _ _ _ _ _ (s .pre .0) _ _ _ (at .loop .i) (at .loop .inv) (omega arith) (test .if1 .left) (met .meet .result) (met .meet .last .0) (met .meet .ensures 23 _) _ _ (c .before .before .met .given .1) (met .meet .kept .0)
+    target-small _ _ _ _ _ _ _ _ (s .pre .0) _ _ _ (at .loop .i) (at .loop .inv) (omega arith) (test .if1 .left) (met .meet-state .result) (met .meet-state .last .0) (met .meet-state .ensures 23 _) _ _ (c .before .before .met .given .1) (met .meet-state .kept .0)
 
 add-transitions : tie.Need-add-transitions Inv-loop μ-loop
 add-transitions c = search needs
@@ -94,7 +94,7 @@ loop-again c =
     let test = met .before .before .before in
     let at = test .before .before in
     let s = at .before .before .before .before .before in
-    meeting-steps _ _ _ _ _ _ _ _ (s .pre .0) _ _ _ (at .loop .i) (at .loop .inv) (omega arith) (test .if1 .left) (met .meet .result) (met .meet .last .0) (met .meet .ensures 23 _) _ _ (c .before .before .before .met .given .1) (met .meet .kept .0) (s .pre .1) (c .keep .ensures)
+    meeting-steps _ _ _ _ _ _ _ _ (s .pre .0) _ _ _ (at .loop .i) (at .loop .inv) (omega arith) (test .if1 .left) (met .meet-state .result) (met .meet-state .last .0) (met .meet-state .ensures 23 _) _ _ (c .before .before .before .met .given .1) (met .meet-state .kept .0) (s .pre .1) (c .keep .ensures)
 
 add-t25 : tie.Need-add-t25 Inv-loop μ-loop
 add-t25 c = search needs
@@ -124,7 +124,7 @@ meet-all-spec =
     returns
     mul-t
     shared-slice-read-t
-    meet-requires
+    meet-state-requires
     enum-known-met
     enum-told
     same-length-3

@@ -1,4 +1,4 @@
--- `generalized::meet` meets its contract: a place below n is that of a seen one, and an unseen one goes to place n.
+-- `generalized::meet_state` meets its contract: a place below n is that of a seen one, and an unseen one goes to place n.
 -- Assumes nothing.
 use borrow.Author.Needs.{needs}
 use native.Mathlib.Omega.{arith}
@@ -15,8 +15,8 @@ use Rattle.generalized.specs.Explore.{find, meet}
 use Rattle.generalized.specs.Memory.{Meets}
 use Rattle.generalized.proofs.Exploring.{meet-seen, meet-next, meet-full}
 use Rattle.generalized.proofs.Numbers.{find-next}
-use Rattle.generalized.proofs.meet.Statement.{statement}
-use Rattle.generalized.proofs.meet.Tie as tie
+use Rattle.generalized.proofs.meet_state.Statement.{statement}
+use Rattle.generalized.proofs.meet_state.Tie as tie
 
 module _ (items : List ℕ) (n x k full place : ℕ) (le : n ≤ length items) (is : k ≡ find eqb x (take n items)) where
   count : length (take n items) ≡ n
@@ -81,8 +81,8 @@ returns-3 c full place =
     let s = c .before .before .before .before .before in
     next (s .args .items .now) (s .args .n) (s .args .x) (c .before .before .find .result) full place (s .pre) (c .before .before .find .ensures) (c .before .if1 .left) (c .if2 .left)
 
-pub meet-spec : {M : Type 1} → statement M
-meet-spec =
+pub meet-state-spec : {M : Type 1} → statement M
+meet-state-spec =
     tie.close
     (tie.spec
     find-requires
