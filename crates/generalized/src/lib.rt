@@ -154,19 +154,19 @@ fn times(table: &[u64], k: usize, product: &mut [u64], count: usize, next: &mut 
 fn state_terms(
     rule: &[u8],
     table: &[u64],
-    state: u64,
+    obligations: u64,
     product: &mut [u64],
     next: &mut [u64],
 ) -> usize
     requires { ⌜ (checked (now rule) ≡ fine) × (length (now table) ≡ tablePlaces) × TermRows (now rule) (now table) (nodeCount (now rule)) × (length (now product) ≡ maxProduct) × (length (now next) ≡ maxProduct) ⌝ }
-    ensures { λ r. ⌜ Product (now (rule .entry)) state (now (product .exit)) r ⌝ }
+    ensures { λ r. ⌜ Product (now (rule .entry)) obligations (now (product .exit)) r ⌝ }
 {
     let n = rule.len() / 3;
     product[0] = 0;
     let mut count = 1;
     let mut k = 0;
     while k < n {
-        if !sets::has(state, k) {
+        if !sets::has(obligations, k) {
             k += 1;
             continue;
         }
@@ -179,31 +179,31 @@ fn state_terms(
     count
 }
 
-// The first count of ts, transitions of the state at place, met one after another and put into the table with the
+// The first count of ts, transitions of a state, met one after another and put into the table with the
 // untils that the bytes tell.
 fn meet_all(
     ts: &[u64],
     bytes: &[u8],
     count: usize,
-    place: GeneralizedState,
+    state: GeneralizedState,
     states: &mut [u64],
     transitions: &mut [u64],
     before: Extent,
 ) -> Step
     requires { ⌜ (count ≤ length (now ts)) × (count ≤ length (now bytes)) × WalkRoom (before .states) (before .transitions) (now states) (now transitions) ⌝ }
-    ensures { λ r. ⌜ ((rule : List ℕ) → take count (now (bytes .entry)) ≡ map (fulfilment rule) (map unpack (take count (now (ts .entry)))) → AddsTransitions rule (map unpack (take count (now (ts .entry)))) (before .transitions) (now (transitions .entry)) (meetTargets (place .0) (map unpack (take count (now (ts .entry)))) (before .transitions) (take (before .states) (now (states .entry)))) r (now (states .exit)) (now (transitions .exit))) ⌝ }
+    ensures { λ r. ⌜ ((rule : List ℕ) → take count (now (bytes .entry)) ≡ map (fulfilment rule) (map unpack (take count (now (ts .entry)))) → AddsTransitions rule (map unpack (take count (now (ts .entry)))) (before .transitions) (now (transitions .entry)) (meetTargets (state .0) (map unpack (take count (now (ts .entry)))) (before .transitions) (take (before .states) (now (states .entry)))) r (now (states .exit)) (now (transitions .exit))) ⌝ }
 {
     let total = before.transitions;
     let mut seen = before.states;
     let mut i = 0;
     while i < count {
         if MAX_TRANSITIONS <= total + i {
-            return Step::Stop(TOO_MANY_TRANSITIONS, place.0);
+            return Step::Stop(TOO_MANY_TRANSITIONS, state.0);
         }
         let t = ts[i];
         let met = meet_state(states, seen, t / 65536);
         let Met::Number(target, more) = met else {
-            return Step::Stop(TOO_MANY_STATES, place.0);
+            return Step::Stop(TOO_MANY_STATES, state.0);
         };
         transitions[total + i] = keep(target, bytes[i], t);
         seen = more;
@@ -212,30 +212,30 @@ fn meet_all(
     Step::On(seen, total + count)
 }
 
-// The state at place walked: its transitions worked out, or 21, then the untils that they fulfil, then met.
+// A state walked: its transitions worked out, or 21, then the untils that they fulfil, then met.
 fn walk_state(
     rule: &[u8],
     table: &[u64],
     untils: Untils,
-    place: GeneralizedState,
+    state: GeneralizedState,
     states: &mut [u64],
     transitions: &mut [u64],
     before: Extent,
 ) -> Step
-    requires { ⌜ (checked (now rule) ≡ fine) × Known (now rule) (now table) (untils .nodes) (untils .count) × (place .0 < before .states) × WalkRoom (before .states) (before .transitions) (now states) (now transitions) ⌝ }
-    ensures { λ r. ⌜ AddsTransitions (now (rule .entry)) (transitionsOf (now (rule .entry)) (now (states .entry)) (place .0)) (before .transitions) (now (transitions .entry)) (walkState (now (rule .entry)) (place .0) (before .transitions) (take (before .states) (now (states .entry)))) r (now (states .exit)) (now (transitions .exit)) ⌝ }
+    requires { ⌜ (checked (now rule) ≡ fine) × Known (now rule) (now table) (untils .nodes) (untils .count) × (state .0 < before .states) × WalkRoom (before .states) (before .transitions) (now states) (now transitions) ⌝ }
+    ensures { λ r. ⌜ AddsTransitions (now (rule .entry)) (transitionsOf (now (rule .entry)) (now (states .entry)) (state .0)) (before .transitions) (now (transitions .entry)) (walkState (now (rule .entry)) (state .0) (before .transitions) (take (before .states) (now (states .entry)))) r (now (states .exit)) (now (transitions .exit)) ⌝ }
 {
-    let at = place.0;
-    let state = states[at];
+    let at = state.0;
+    let obligations = states[at];
     let mut product = [0u64; MAX_PRODUCT];
     let mut next = [0u64; MAX_PRODUCT];
-    let count = state_terms(rule, table, state, &mut product, &mut next);
+    let count = state_terms(rule, table, obligations, &mut product, &mut next);
     if MAX_PRODUCT < count {
         return Step::Stop(PRODUCT_TOO_LARGE, at);
     }
     let mut bytes = [0u8; MAX_PRODUCT];
     acceptance::fulfil(rule, table, untils, &product, count, &mut bytes);
-    meet_all(&product, &bytes, count, place, states, transitions, before)
+    meet_all(&product, &bytes, count, state, states, transitions, before)
 }
 
 // The root's cover as the first states; their count.
@@ -253,12 +253,12 @@ fn start(rule: &[u8], states: &mut [u64]) -> usize
     count
 }
 
-// Where the transitions of the state at place end.
-fn put_end(ends: &mut [usize], place: GeneralizedState, end: usize)
-    requires { ⌜ place .0 < length (now ends) ⌝ }
-    ensures { λ _. ⌜ now (ends .exit) ≡ set (now (ends .entry)) (place .0) end ⌝ }
+// Where the transitions of a state end.
+fn put_end(ends: &mut [usize], state: GeneralizedState, end: usize)
+    requires { ⌜ state .0 < length (now ends) ⌝ }
+    ensures { λ _. ⌜ now (ends .exit) ≡ set (now (ends .entry)) (state .0) end ⌝ }
 {
-    let at = place.0;
+    let at = state.0;
     ends[at] = end;
 }
 
@@ -280,17 +280,17 @@ pub fn walk(
         states: initial,
         transitions: 0,
     };
-    let mut place = GeneralizedState(0);
-    while place.0 < size.states {
-        let step = walk_state(rule, table, untils, place, states, transitions, size);
+    let mut state = GeneralizedState(0);
+    while state.0 < size.states {
+        let step = walk_state(rule, table, untils, state, states, transitions, size);
         match step {
             Step::On(n, m) => {
-                put_end(ends, place, m);
+                put_end(ends, state, m);
                 size = Extent {
                     states: n,
                     transitions: m,
                 };
-                place = GeneralizedState(place.0 + 1);
+                state = GeneralizedState(state.0 + 1);
             }
             Step::Stop(number, at) => {
                 return Walked::Refused(number, at);

@@ -6,11 +6,11 @@ use Rattle.generalized.proofs.Walking.{state-refused, state-adds}
 use Rattle.generalized.proofs.walk_state.Statement.{statement}
 use Rattle.generalized.proofs.walk_state.Tie as tie
 
-mul-state : tie.Need-mul-state
-mul-state c = search needs
+mul-obligations : tie.Need-mul-obligations
+mul-obligations c = search needs
 
-slice-read-state : tie.Need-slice-read-state
-slice-read-state c = search needs
+slice-read-obligations : tie.Need-slice-read-obligations
+slice-read-obligations c = search needs
 
 slice-aggregate-state-terms : tie.Need-slice-aggregate-state-terms
 slice-aggregate-state-terms c = search needs
@@ -70,8 +70,8 @@ pub walk-state-spec : {M : Type 1} → statement M
 walk-state-spec =
     tie.close
     (tie.spec
-    mul-state
-    slice-read-state
+    mul-obligations
+    slice-read-obligations
     slice-aggregate-state-terms
     slice-aggregate-state-terms-2
     state-terms-requires
