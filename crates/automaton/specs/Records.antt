@@ -1,5 +1,5 @@
 -- The records of an automaton as bytes: in the caller's tables and in the image alike (01, The image).
-use Prim.Native.Nat.{ℕ}
+use Prim.Native.Nat.{ℕ, suc}
 use mathlib.Core.List.{List, [], _∷_, _++_}
 use mathlib.Core.Bool.{Bool, cond}
 use lib.ListN.{length}
@@ -11,13 +11,23 @@ unfoldable pub records : {A : Type 0} → (A → List ℕ) → List A → List �
 records bytesOf [] = []
 records bytesOf (x ∷ xs) = bytesOf x ++ records bytesOf xs
 
+-- xs, each with its number, of which the first is from
+unfoldable pub numbered : {A : Type 0} → (from : ℕ) → List A → List (ℕ × A)
+numbered from [] = []
+numbered from (x ∷ xs) = (from, x) ∷ numbered (suc from) xs
+
+-- the records of all of xs, where each is made of its number too; the first number is from
+abbrev pub numberedRecords : {A : Type 0} → (ℕ → A → List ℕ) → (from : ℕ) → List A → List ℕ
+numberedRecords bytesOf from xs = records (λ x. bytesOf (x .0) (x .1)) (numbered from xs)
+
 -- a state, in 4 bytes: how many transitions it has, then 1 if it accepts and 0 if not, then a zero (01, The image,
 -- sentence 5)
 abbrev pub stateBytes : (count : ℕ) (accepting : Bool) → List ℕ
 stateBytes count accepting = twoBytes count ++ (cond accepting 1 0 ∷ (0 ∷ []))
 
-unfoldable pub stateRecord : State → List ℕ
-stateRecord s = stateBytes (length (s .transitions)) (s .accepting)
+-- a state that has a number; no byte shows the number, which is where the record stands
+unfoldable pub stateRecord : (number : ℕ) → State → List ℕ
+stateRecord number s = stateBytes (length (s .transitions)) (s .accepting)
 
 -- a transition, in 4 bytes: its propositions, must before mustNot, then the number of its target (01, The image,
 -- sentence 6)
@@ -28,7 +38,7 @@ unfoldable pub transitionRecord : Transition → List ℕ
 transitionRecord t = transitionBytes (t .must) (t .mustNot) (t .target)
 
 unfoldable pub stateRecords : Automaton → List ℕ
-stateRecords a = records stateRecord (a .states)
+stateRecords a = numberedRecords stateRecord 0 (a .states)
 
 -- the transitions of the first state, then those of the next, and so on (01, The image, sentence 6)
 unfoldable pub transitionRecords : Automaton → List ℕ

@@ -21,7 +21,7 @@ use Rattle.generalized.specs.Generalized.{partialProduct, transitions, productC
 use Rattle.generalized.specs.Memory.{allTransitions}
 use Rattle.automaton.specs.Automaton.{Transition, State, Automaton}
 use Rattle.translation.specs.Degeneralized.{climb, nextLevel, numbers, initialNumbers, pairTransitions, target, degeneralized, stateOf, translation}
-use Rattle.automaton.specs.Records.{records, stateRecord, transitionRecord, stateRecords, transitionRecords, initialRecords}
+use Rattle.automaton.specs.Records.{records, numbered, stateRecord, transitionRecord, stateRecords, transitionRecords, initialRecords}
 use Rattle.answer.specs.Bytes.{twoBytes}
 use Rattle.automaton.specs.Tables.{transitionCount}
 use Rattle.sets.proofs.Members.{All}
@@ -172,7 +172,7 @@ unfolding on state transition table p1 p2 p3 p4 p5 p6 p7 p8 p9 insert union inse
 translations = refl
 
 images : map (λ row. map (λ image. imageBytes (row .automaton)) (row .images)) table ≡ map (λ row. map (λ image. image) (row .images)) table
-unfolding on state transition table p1 p2 p3 p4 p5 p6 p7 p8 p9 transitionCount records twoBytes stateRecord transitionRecord stateRecords transitionRecords initialRecords entry contents imageBytes
+unfolding on state transition table p1 p2 p3 p4 p5 p6 p7 p8 p9 transitionCount records numbered twoBytes stateRecord transitionRecord stateRecords transitionRecords initialRecords entry contents imageBytes
 images = refl
 
 fits : map (λ row. map (λ c. lassoCheck (c .stem) (c .cycle)) (row .cases)) table ≡ map (λ row. map (λ c. fine) (row .cases)) table

@@ -22,9 +22,9 @@ use Rattle.image.specs.Image.{entry, transitionsAt, initialAt, imageLeng
 use Rattle.image.specs.Reader.{countsAt, countsFit, contentsCheck, stateCheck, sumCheck, transitionRecordCheck, initialCheck, recordsCheck, automatonFrom, readTables, readImage}
 use Rattle.sets.proofs.Members.{at-in, append-in}
 use Rattle.automaton.proofs.WellFormed.{WellFormed, few-together}
-use Rattle.automaton.proofs.Records.{records-append, number-length, state-length, transition-length}
+use Rattle.automaton.proofs.Records.{records-append, byte-at, number-at, number-length, transition-length, state-byte-at, state-number-at}
 use Rattle.image.proofs.Sizes.{states-size, transitions-size, image-size}
-use Rattle.image.proofs.ReadRecords.{byte-at, number-at, number-read, numbers-read, states-read, counts-add}
+use Rattle.image.proofs.ReadRecords.{number-read, numbers-read, states-read, counts-add}
 
 -- checks that are fine each are fine together
 each-fine : (check : ℕ → Check) (n : ℕ) → ((k : ℕ) → k < n → check k ≡ fine) → lowest check n ≡ fine
@@ -122,7 +122,7 @@ module _ (a : Automaton) where
   -- whatever follows each body
   automaton-read : (s t i : List ℕ) → automatonFrom (counts a) (stateRecords a ++ s) (transitionRecords a ++ t) (initialRecords a ++ i) ≡ a
   unfolding automatonFrom stateRecords transitionRecords initialRecords
-  automaton-read s t i = λ k. record { states = states-read (a .states) s t k; initial = numbers-read (a .initial) i k }
+  automaton-read s t i = λ k. record { states = states-read 0 (a .states) s t k; initial = numbers-read (a .initial) i k }
 
 -- an automaton that keeps the limits
 module _ (a : Automaton) (formed : WellFormed a) where
@@ -138,16 +138,16 @@ module _ (a : Automaton) (formed : WellFormed a) where
     state = getD (a .states) i noState
 
     state-count : numberAt (stateRecords a ++ rest) (4 * i) ≡ length (state .transitions)
-    unfolding stateRecords stateRecord twoBytes
-    state-count = number-at stateRecord 4 state-length noState (a .states) rest i 0 (4 * i) inside (omega arith) (omega arith) ∙ number-read (length (state .transitions))
+    unfolding stateRecord twoBytes
+    state-count = state-number-at a rest i inside 0 (4 * i) (omega arith) (omega arith) ∙ number-read (length (state .transitions))
 
     accepting-byte : getD (stateRecords a ++ rest) (4 * i + 2) 0 ≡ cond (state .accepting) 1 0
-    unfolding stateRecords stateRecord twoBytes
-    accepting-byte = byte-at stateRecord 4 state-length noState (a .states) rest i 2 (4 * i + 2) inside (omega arith) refl
+    unfolding stateRecord twoBytes
+    accepting-byte = state-byte-at a rest i inside 2 (4 * i + 2) (omega arith) refl
 
     last-byte : getD (stateRecords a ++ rest) (4 * i + 3) 0 ≡ 0
-    unfolding stateRecords stateRecord twoBytes
-    last-byte = byte-at stateRecord 4 state-length noState (a .states) rest i 3 (4 * i + 3) inside (omega arith) refl
+    unfolding stateRecord twoBytes
+    last-byte = state-byte-at a rest i inside 3 (4 * i + 3) (omega arith) refl
 
     state-fine : stateCheck (stateRecords a ++ rest) i ≡ fine
     unfolding stateCheck

@@ -7,15 +7,14 @@ use native.Mathlib.Omega.{arith}
 use lib.ListN.{length, length-append}
 use Rattle.automaton.specs.Automaton.{Automaton}
 use Rattle.answer.specs.Bytes.{twoBytes}
-use Rattle.automaton.specs.Records.{stateRecord, stateRecords, transitionRecords, initialRecords}
+use Rattle.automaton.specs.Records.{stateRecords, transitionRecords, initialRecords}
 use Rattle.automaton.specs.Tables.{counts, transitionCount}
-use Rattle.automaton.proofs.Records.{records-length, number-length, state-length, transitions-count}
+use Rattle.automaton.proofs.Records.{records-length, number-length, states-length, transitions-count}
 use Rattle.image.specs.Image.{entry, imageLength, contents, imageBytes}
 
 module _ (a : Automaton) where
   pub states-size : length (stateRecords a) ≡ 4 * length (a .states)
-  unfolding stateRecords
-  states-size = omega (arith, records-length stateRecord 4 state-length (a .states))
+  states-size = omega (arith, states-length a)
 
   pub transitions-size : length (transitionRecords a) ≡ 4 * transitionCount (a .states)
   unfolding transitionRecords

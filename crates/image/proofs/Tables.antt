@@ -11,7 +11,7 @@ use borrow.Author.Tests.{eqb-true}
 use Rattle.answer.specs.Result.{fine, lowest}
 use Rattle.answer.proofs.Lowest.{fine-first, fine-second, lowest-each}
 use Rattle.answer.proofs.Results.{require-fine}
-use Rattle.automaton.specs.Records.{records, stateRecord, transitionRecord, stateRecords, transitionRecords, initialRecords}
+use Rattle.automaton.specs.Records.{records, numbered, numberedRecords, stateRecord, transitionRecord, stateRecords, transitionRecords, initialRecords}
 use Rattle.answer.specs.Bytes.{twoBytes, numberAt}
 use Rattle.automaton.specs.Tables.{Counts, counts, transitionCount}
 use Rattle.image.specs.Image.{imageLength, imageBytes}
@@ -118,13 +118,13 @@ flag-back zero le = refl
 flag-back (suc zero) le = refl
 flag-back (suc (suc x)) le = absurd (omega arith)
 
-states-bytes : (n : ℕ) (s t : List ℕ) → Bytes s → 4 * n ≤ length s → ((k : ℕ) → k < n → StateFits s k) → records stateRecord (statesFrom n s t) ≡ take (4 * n) s
-unfolding records stateRecord statesFrom
-states-bytes zero s t b le fits = refl
-states-bytes (suc n) s t b le fits =
+states-bytes : (from n : ℕ) (s t : List ℕ) → Bytes s → 4 * n ≤ length s → ((k : ℕ) → k < n → StateFits s k) → numberedRecords stateRecord from (statesFrom n s t) ≡ take (4 * n) s
+unfolding records numbered stateRecord statesFrom
+states-bytes from zero s t b le fits = refl
+states-bytes from (suc n) s t b le fits =
     let e : 4 * suc n ≡ suc (suc (suc (suc (4 * n)))) = omega arith in
     let first = fits 0 (omega arith) in
-    rw (e, front-four s (4 * n) (omega arith), transitions-length (numberAt s 0) t, two-back (getD s 0 0) (getD s 1 0) (b 0), flag-back (getD s 2 0) (first .flag), first .last, states-bytes n (drop 4 s) (drop (4 * numberAt s 0) t) (drop-bytes 4 s b) (rw (length-drop 4 s) (omega arith)) (λ k lt. next-fits s k (fits (suc k) (omega arith))))
+    rw (e, front-four s (4 * n) (omega arith), transitions-length (numberAt s 0) t, two-back (getD s 0 0) (getD s 1 0) (b 0), flag-back (getD s 2 0) (first .flag), first .last, states-bytes (suc from) n (drop 4 s) (drop (4 * numberAt s 0) t) (drop-bytes 4 s b) (rw (length-drop 4 s) (omega arith)) (λ k lt. next-fits s k (fits (suc k) (omega arith))))
 
 grouped-bytes : (n : ℕ) (s t : List ℕ) → Bytes t → 4 * countSum s n ≤ length t → records (λ q. records transitionRecord (q .transitions)) (statesFrom n s t) ≡ take (4 * countSum s n) t
 unfolding records statesFrom
@@ -165,7 +165,7 @@ module _ (c : Counts) (s t i : List ℕ) (passed : Passed c s t i) where
 
   pub states-back : stateRecords (automatonFrom c s t i) ≡ take (4 * c .states) s
   unfolding stateRecords automatonFrom
-  states-back = states-bytes (c .states) s t (passed .state-bytes) (passed .state-room) (λ k lt. state-fine s k (lowest-each (stateCheck s) (c .states) (states-fine c s t i (passed .checked)) k lt))
+  states-back = states-bytes 0 (c .states) s t (passed .state-bytes) (passed .state-room) (λ k lt. state-fine s k (lowest-each (stateCheck s) (c .states) (states-fine c s t i (passed .checked)) k lt))
 
   pub transitions-back : transitionRecords (automatonFrom c s t i) ≡ take (4 * c .transitions) t
   unfolding transitionRecords automatonFrom

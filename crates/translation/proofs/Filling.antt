@@ -11,17 +11,8 @@ use lib.Seq.{sets, sets-eq, take-at, take-all, length-take-le}
 use borrow.Rule.Slice.PartMut.{midOf, putMid}
 use Rattle.automaton.specs.Records.{records, stateBytes, transitionBytes}
 use Rattle.answer.specs.Bytes.{twoBytes, filled}
-use Rattle.automaton.proofs.Records.{records-append}
+use Rattle.automaton.proofs.Records.{records-last}
 use Rattle.translation.specs.Memory.{Adds}
-
-module _ {A : Type 0} (bytesOf : A → List ℕ) where
-  pub records-last : (xs : List A) (x : A) → records bytesOf (xs ++ (x ∷ [])) ≡ records bytesOf xs ++ bytesOf x
-  unfolding records
-  records-last xs x = records-append bytesOf xs (x ∷ []) ∙ rw (append-nil (bytesOf x))
-
-pub state-length : (count : ℕ) (accepting : Bool) → length (stateBytes count accepting) ≡ 4
-unfolding twoBytes
-state-length count accepting = refl
 
 pub transition-length : (must mustNot target : ℕ) → length (transitionBytes must mustNot target) ≡ 4
 unfolding twoBytes

@@ -4,7 +4,7 @@ use mathlib.Core.Path.{_≡_, refl, sym, ap, _∙_}
 use mathlib.Core.Logic.{inl, inr}
 use mathlib.Core.List.{List, [], _∷_, map, map-map}
 use mathlib.Core.Bool.{false, _&&_}
-use Prim.Native.Nat.{ℕ, _*_, _/_, _%_, _≤_, _<_}
+use Prim.Native.Nat.{ℕ, suc, _+_, _*_, _/_, _%_, _≤_, _<_}
 use native.Mathlib.Decide.{ℕ-discrete}
 use native.Mathlib.Omega.{arith}
 use lib.ListN.{length, getD, take, length-map}
@@ -14,7 +14,7 @@ use borrow.Author.Tests.{eqb-true, eq-eqb, ne-eqb}
 use Rattle.answer.specs.Result.{Result, accepted, refused, andThen, fine}
 use Rattle.answer.specs.Bytes.{twoBytes, filled}
 use Rattle.sets.specs.Sets.{In}
-use Rattle.sets.proofs.Members.{in-at}
+use Rattle.sets.proofs.Members.{at-in, in-at}
 use Rattle.formula.specs.Limits.{maxUntils}
 use Rattle.term.specs.Term.{Term}
 use Rattle.term.specs.Size.{checked}
@@ -27,7 +27,7 @@ use Rattle.translation.specs.declared.Paired.{Paired}
 use Rattle.translation.specs.declared.Paired.the-variants.{Count, Full}
 use Rattle.automaton.specs.Automaton.{Transition, State, Automaton}
 use Rattle.automaton.specs.Limits.{maxStates}
-use Rattle.automaton.specs.Records.{records, stateBytes, stateRecord, transitionRecord, stateRecords, transitionRecords, initialRecords}
+use Rattle.automaton.specs.Records.{records, numbered, numberedRecords, stateBytes, stateRecord, transitionRecord, stateRecords, transitionRecords, initialRecords}
 use Rattle.automaton.specs.Tables.{Counts, transitionCount, outcome, Outcome}
 use Rattle.automaton.proofs.Records.{transitions-count}
 use Rattle.translation.specs.Degeneralized.{Pair, pair, samePair, numbers, initialNumbers, nextLevel, pairTransitions, target, degeneralized, stateOf}
@@ -63,6 +63,16 @@ records-same : {A B : Type 0} (f : A → List ℕ) (g : B → List ℕ) (h : A �
 unfolding records
 records-same f g h [] same = refl
 records-same f g h (x ∷ ys) same = rw (same x (inl refl), records-same f g h ys (λ y m. same y (inr m)))
+
+-- and where each knows its number
+numbered-same : {A B : Type 0} (f : ℕ → A → List ℕ) (g : ℕ → B → List ℕ) (h : A → B) (none : A) (from : ℕ) (ys : List A) → ((i : ℕ) → i < length ys → f (from + i) (getD ys i none) ≡ g (from + i) (h (getD ys i none)))
+    → numberedRecords f from ys ≡ numberedRecords g from (map h ys)
+unfolding records numbered
+numbered-same f g h none from [] same = refl
+numbered-same f g h none from (x ∷ ys) same =
+    let first : from + 0 ≡ from = omega arith in
+    let next : (i : ℕ) → from + suc i ≡ suc from + i = λ i. omega arith in
+    rw (rw first at (same 0 (omega arith)), numbered-same f g h none (suc from) ys (λ i l. rw (← next i) (same (suc i) (omega arith))))
 
 records-flat : {A : Type 0} (f : A → List ℕ) (ys : List A) → records f ys ≡ records (λ b. b) (map f ys)
 unfolding records
@@ -142,9 +152,9 @@ module _ {rule : List ℕ} {initial : ℕ} {kepts ends : List ℕ} {r : ℕ} {pa
         sym (row-map rule (b .passed) (b .walked-first) (λ i. pairOf (targetN r (code % levelPlaces) (getD kepts i 0))) (target rule states (pairOf code)) (code / levelPlaces) lt (λ i _ l. target-is code i (inside i l)))
         ∙ sym (map-map pairOf (λ i. targetN r (code % levelPlaces) (getD kepts i 0)) (row ends (code / levelPlaces)))
 
-    state-is : (pairs : List Pair) → pairBytes ends r code ≡ stateRecord (stateOf rule states pairs (pairOf code))
+    state-is : (number : ℕ) (pairs : List Pair) → pairBytes ends r number code ≡ stateRecord number (stateOf rule states pairs (pairOf code))
     unfolding stateRecord stateOf pairTransitions
-    state-is pairs =
+    state-is number pairs =
         rw (count-is rule (b .passed) (b .walked-first) (code / levelPlaces) lt, length-map)
         (ap (λ (q : ℕ). stateBytes (length (transitions rule (getD states (code / levelPlaces) 0))) (eqb (code % levelPlaces) q)) (b .levels))
 
@@ -248,11 +258,11 @@ module _ {rule : List ℕ} {initial : ℕ} {kepts ends : List ℕ} {r : ℕ} {pa
       walk-accepted : andThen (generalized rule) (secondWalk rule) ≡ accepted automaton
       walk-accepted = rw (b .walked-first .found, walk-is, counted .0)
 
-      states-are : records (pairBytes ends r) (take count pairs) ≡ stateRecords automaton
+      states-are : numberedRecords (pairBytes ends r) 0 (take count pairs) ≡ stateRecords automaton
       unfolding stateRecords
       states-are =
           rw (map-map (stateOf rule states (map pairOf (take count pairs))) pairOf (take count pairs))
-          (records-same (pairBytes ends r) stateRecord (λ code. stateOf rule states (map pairOf (take count pairs)) (pairOf code)) (take count pairs) (λ code m. state-is code (codes-within code m) (map pairOf (take count pairs))))
+          (numbered-same (pairBytes ends r) stateRecord (λ code. stateOf rule states (map pairOf (take count pairs)) (pairOf code)) 0 0 (take count pairs) (λ i l. state-is _ (codes-within _ (at-in 0 (take count pairs) i l)) _ (map pairOf (take count pairs))))
 
       transitions-are : records (rowN ends kepts r index) (take count pairs) ≡ transitionRecords automaton
       unfolding transitionRecords
@@ -269,7 +279,7 @@ module _ {rule : List ℕ} {initial : ℕ} {kepts ends : List ℕ} {r : ℕ} {pa
       transitions-total = transitions-count (automaton .states)
 
       -- tables filled with these records have the automaton
-      pub written-is : (s t i s′ t′ i′ : List ℕ) (written : ℕ) → s′ ≡ filled s (records (pairBytes ends r) (take count pairs)) → Written t (records (rowN ends kepts r index) (take count pairs)) t′ written
+      pub written-is : (s t i s′ t′ i′ : List ℕ) (written : ℕ) → s′ ≡ filled s (numberedRecords (pairBytes ends r) 0 (take count pairs)) → Written t (records (rowN ends kepts r index) (take count pairs)) t′ written
           → i′ ≡ filled i (records twoBytes (numbers initial)) → outcome (accepted (record { states = count; transitions = written; initial = initial })) s′ t′ i′ ≡ stored (andThen (generalized rule) (secondWalk rule)) s t i
       unfolding stored initialNumbers
       written-is s t i s′ t′ i′ written es wt ei =

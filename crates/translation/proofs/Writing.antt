@@ -8,20 +8,20 @@ use native.Mathlib.Numerals.{add-one}
 use native.Mathlib.Decide.{ℕ-discrete}
 use native.Mathlib.Omega.{arith}
 use lib.ListN.{length, getD, take}
-use lib.Seq.{sets, take-suc, take-all}
+use lib.Seq.{sets, take-suc, take-all, length-take-le}
 use lib.Dec.{eqb}
 use Rattle.sets.specs.Sets.{In}
 use Rattle.sets.proofs.Members.{at-in, in-map}
 use Rattle.translation.specs.Degeneralized.{numbers}
 use Rattle.generalized.specs.Limits.{maxGeneralizedTransitions, maxGeneralizedStates}
 use Rattle.automaton.specs.Limits.{maxStates, maxOfState, transitionsBytes}
-use Rattle.automaton.specs.Records.{records, stateBytes, transitionBytes}
+use Rattle.automaton.specs.Records.{records, numbered, numberedRecords, stateBytes, transitionBytes}
 use Rattle.answer.specs.Bytes.{twoBytes, filled}
 use Rattle.generalized.specs.Memory.{keptTarget, keptMust, keptMustNot}
 use Rattle.translation.specs.Memory.{range, rowStart, rowCount, row, levelPlaces, targetN, numberN, pairBytes, transitionN, rowN, Listed, Rows, Closed, Adds, Written}
 use Rattle.translation.proofs.Within.{row-rises, row-inside, row-few, row-leads}
-use Rattle.translation.proofs.Filling.{records-last, state-length, transition-length, front-more, front-record, adds-more, filled-as}
-use Rattle.automaton.proofs.Records.{number-length, records-length}
+use Rattle.translation.proofs.Filling.{transition-length, front-more, front-record, adds-more, filled-as}
+use Rattle.automaton.proofs.Records.{records-last, records-length, numbered-last, number-length, state-length}
 
 -- ---- the initial numbers
 
@@ -54,18 +54,18 @@ initials-end before n table after i ge inv e =
 pub record States (ends : List ℕ) (r : ℕ) (pairs before table : List ℕ) (p : ℕ) : Type 0 where
   pub within : p ≤ length pairs
   pub size : length table ≡ length before
-  pub front : take (p * 4) table ≡ records (pairBytes ends r) (take p pairs)
+  pub front : take (p * 4) table ≡ numberedRecords (pairBytes ends r) 0 (take p pairs)
 
 pub states-begin : (ends : List ℕ) (r : ℕ) (pairs before : List ℕ) → States ends r pairs before before 0
-unfolding records
+unfolding records numbered
 states-begin ends r pairs before = record { within = omega arith; size = refl; front = refl }
 
 module _ (ends : List ℕ) (r : ℕ) (pairs before table : List ℕ) (p : ℕ) (inv : States ends r pairs before table p) where
-  pub states-end : (after : List ℕ) → length pairs ≤ p → after ≡ filled table (take (length pairs * 4) table) → after ≡ filled before (records (pairBytes ends r) pairs)
+  pub states-end : (after : List ℕ) → length pairs ≤ p → after ≡ filled table (take (length pairs * 4) table) → after ≡ filled before (numberedRecords (pairBytes ends r) 0 pairs)
   states-end after le e =
       let last : p ≡ length pairs = omega (arith, inv .within) in
       let all : take p pairs ≡ pairs = take-all p pairs le in
-      filled-as before table after (records (pairBytes ends r) pairs) (length pairs * 4) (rw (all, last) at (inv .front)) (inv .size) e
+      filled-as before table after (numberedRecords (pairBytes ends r) 0 pairs) (length pairs * 4) (rw (all, last) at (inv .front)) (inv .size) e
 
   module _ (lt : p < length pairs) (room : length pairs * 4 ≤ length before) where
     pub state-room : p * 4 + 4 ≤ length table
@@ -74,12 +74,13 @@ module _ (ends : List ℕ) (r : ℕ) (pairs before table : List ℕ) (p : ℕ) (
     pub states-step : (after : List ℕ) (s t level start end : ℕ) → s ≡ getD pairs p 0 / levelPlaces → t ≡ getD pairs p 0 / levelPlaces → level ≡ getD pairs p 0 % levelPlaces → start ≡ rowStart ends s → end ≡ getD ends t 0
         → length after ≡ length table → after ≡ sets table (p * 4) (stateBytes (end - start) (eqb level r)) → States ends r pairs before after (p + 1)
     states-step after s t level start end es et el estart eend same e =
-        let is : stateBytes (end - start) (eqb level r) ≡ pairBytes ends r (getD pairs p 0) = rw (estart, eend, el, es, et) in
+        let is : stateBytes (end - start) (eqb level r) ≡ pairBytes ends r p (getD pairs p 0) = rw (estart, eend, el, es, et) in
+        let number : 0 + length (take p pairs) ≡ p = omega (arith, length-take-le p pairs (inv .within)) in
         record {
           within = omega arith;
           size = same ∙ inv .size;
-          front = rw (add-one p, take-suc pairs p 0 lt)
-              (front-record (pairBytes ends r) (take p pairs) (getD pairs p 0) table after (p * 4) (suc p * 4) (inv .front) (rw (state-length (rowCount ends (getD pairs p 0 / levelPlaces)) (eqb (getD pairs p 0 % levelPlaces) r)) (omega arith)) (omega (arith, state-room)) (e ∙ ap (sets table (p * 4)) is));
+          front = rw (add-one p, take-suc pairs p 0 lt, numbered-last 0 (take p pairs) (getD pairs p 0), number)
+              (front-record (λ x. pairBytes ends r (x .0) (x .1)) (numbered 0 (take p pairs)) (p, getD pairs p 0) table after (p * 4) (suc p * 4) (inv .front) (rw (state-length (rowCount ends (getD pairs p 0 / levelPlaces)) (eqb (getD pairs p 0 % levelPlaces) r)) (omega arith)) (omega (arith, state-room)) (e ∙ ap (sets table (p * 4)) is));
         }
 
 -- a row as the code reads it: by its start and its end

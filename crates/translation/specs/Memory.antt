@@ -96,9 +96,9 @@ meetAllN place count ts codes = meetAll eqb maxStates 24 (λ _ _. fine) place ts
 abbrev pub numberN : (index : List ℕ) (code : ℕ) → ℕ
 numberN index code = getD index code 0 - 1
 
--- the record of a pair, and of its transition x from a level
-abbrev pub pairBytes : (ends : List ℕ) (r code : ℕ) → List ℕ
-pairBytes ends r code = stateBytes (rowCount ends (code / levelPlaces)) (eqb (code % levelPlaces) r)
+-- the record of the pair that has a number, and of its transition x from a level
+abbrev pub pairBytes : (ends : List ℕ) (r number code : ℕ) → List ℕ
+pairBytes ends r number code = stateBytes (rowCount ends (code / levelPlaces)) (eqb (code % levelPlaces) r)
 
 abbrev pub transitionN : (index : List ℕ) (r level x : ℕ) → List ℕ
 transitionN index r level x = transitionBytes (keptMust x) (keptMustNot x) (numberN index (targetN r level x))

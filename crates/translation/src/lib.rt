@@ -28,7 +28,7 @@ ghost use Rattle.generalized.specs.Explore.{meet};
 ghost use Rattle.generalized.specs.Generalized.{generalized};
 ghost use Rattle.generalized.specs.Memory.{keptTarget, keptMust, keptMustNot};
 ghost use Rattle.automaton.specs.Limits.{maxStates, maxOfState, transitionsBytes, initialBytes};
-ghost use Rattle.automaton.specs.Records.{records, stateBytes, transitionBytes};
+ghost use Rattle.automaton.specs.Records.{records, numberedRecords, stateBytes, transitionBytes};
 ghost use Rattle.automaton.specs.Tables.{outcome};
 ghost use Rattle.translation.specs.Degeneralized.{numbers, translation};
 ghost use Rattle.translation.specs.Memory.{secondWalk, FirstWalk, rowStart, levelPlaces, codeOf, codePlaces, climbN, nextLevelN, targetN, targetsN, meetAllN, numberN, exploreN, pairBytes, rowN, Listed, Rows, Numbered, Closed, Pairs, Adds, Written, Room};
@@ -185,8 +185,8 @@ fn meet_row(
     requires { ⌜ Rows (now ends) (now transitions) r (take n (now pairs)) × Numbered (now pairs) (now index) n × (pair .0 < n) ⌝ }
     ensures { λ met. ⌜ ((count : ℕ) → Pairs (meetAllN (pair .0) count (targetsN (now (ends .entry)) (now (transitions .entry)) r (getD (now (pairs .entry)) (pair .0) 0)) (take n (now (pairs .entry)))) met (now (pairs .exit)) (now (index .exit))) ⌝ }
 {
-    let place = pair.0;
-    let code = pairs[place];
+    let number = pair.0;
+    let code = pairs[number];
     let level = level_of(code);
     let end = row_end(ends, state_of(code));
     let mut k = n;
@@ -242,12 +242,12 @@ fn flag(accepting: bool) -> u8
     if accepting { 1 } else { 0 }
 }
 
-// The record of the state at place: how many transitions it has, and whether it accepts.
-fn put_state(table: &mut [u8], place: State, count: usize, accepting: bool)
-    requires { ⌜ (place .0 * 4 + 4 ≤ length (now table)) × (count < 65536) ⌝ }
-    ensures { λ _. ⌜ now (table .exit) ≡ sets (now (table .entry)) (place .0 * 4) (stateBytes count accepting) ⌝ }
+// The record of a state: how many transitions it has, and whether it accepts.
+fn put_state(table: &mut [u8], state: State, count: usize, accepting: bool)
+    requires { ⌜ (state .0 * 4 + 4 ≤ length (now table)) × (count < 65536) ⌝ }
+    ensures { λ _. ⌜ now (table .exit) ≡ sets (now (table .entry)) (state .0 * 4) (stateBytes count accepting) ⌝ }
 {
-    let at = place.0 * 4;
+    let at = state.0 * 4;
     put_number(table, at, count);
     table[at + 2] = flag(accepting);
     table[at + 3] = 0;
@@ -289,12 +289,12 @@ fn wide(x: u8) -> usize
 // The records of all pairs, as states of the automaton.
 fn write_states(table: &mut [u8], ends: &[usize], r: usize, pairs: &[usize])
     requires { ⌜ Listed (now ends) (now pairs) × (length (now pairs) * 4 ≤ length (now table)) ⌝ }
-    ensures { λ _. ⌜ now (table .exit) ≡ filled (now (table .entry)) (records (pairBytes (now (ends .entry)) r) (now (pairs .entry))) ⌝ }
+    ensures { λ _. ⌜ now (table .exit) ≡ filled (now (table .entry)) (numberedRecords (pairBytes (now (ends .entry)) r) 0 (now (pairs .entry))) ⌝ }
 {
     let mut pair = State(0);
     while pair.0 < pairs.len() {
-        let place = pair.0;
-        let code = pairs[place];
+        let number = pair.0;
+        let code = pairs[number];
         let start = row_start(ends, state_of(code));
         let end = row_end(ends, state_of(code));
         put_state(table, pair, end - start, level_of(code) == r);

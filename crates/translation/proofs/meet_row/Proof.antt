@@ -13,10 +13,10 @@ use Rattle.translation.proofs.meet_row.Statement.{statement}
 use Rattle.translation.proofs.meet_row.Tie as tie
 
 abbrev Inv-loop : tie.InvT-loop
-Inv-loop ends transitions r pairs₀ index₀ n pair place code level end k₀ i₀ pairs index k i = Meeting transitions r level i₀ end (pair .0) (λ count. meetAllN (pair .0) count (targetsN ends transitions r code) (take n pairs₀)) pairs index k i
+Inv-loop ends transitions r pairs₀ index₀ n pair number code level end k₀ i₀ pairs index k i = Meeting transitions r level i₀ end (pair .0) (λ count. meetAllN (pair .0) count (targetsN ends transitions r code) (take n pairs₀)) pairs index k i
 
 abbrev μ-loop : tie.MeasureT-loop
-μ-loop ends transitions r pairs₀ index₀ n pair place code level end k₀ i₀ pairs index k i = end - i
+μ-loop ends transitions r pairs₀ index₀ n pair number code level end k₀ i₀ pairs index k i = end - i
 
 mul-code : tie.Need-mul-code Inv-loop μ-loop
 mul-code c = omega (arith, c .before .before .before .before .pre .1 .room, c .before .before .before .before .pre .1 .few)
