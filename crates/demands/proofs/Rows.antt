@@ -180,7 +180,7 @@ unfolding on state transition table p1 p2 p3 p4 p5 p6 p7 p8 p9 lassoCheck
 fits = refl
 
 verdicts : map (λ row. map (λ c. verdict (row .automaton) (c .stem) (c .cycle)) (row .cases)) table ≡ map (λ row. map (λ c. c .verdict) (row .cases)) table
-unfolding on state transition table p1 p2 p3 p4 p5 p6 p7 p8 p9 letter any Search.meet Search.meetAll Search.targets Search.after Search.onward Search.reach Search.reachedFrom Search.starts Search.hasAcceptingPass verdict
+unfolding on state transition table p1 p2 p3 p4 p5 p6 p7 p8 p9 letter any Search.visit Search.visitAll Search.readTargets Search.after Search.onward Search.reach Search.reachedFrom Search.starts Search.hasAcceptingPass verdict
 verdicts = refl
 
 -- ---- each row by itself

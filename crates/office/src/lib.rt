@@ -9,7 +9,7 @@ use judge::judge;
 use translation::Translated;
 use translation::translate;
 ghost use mathlib.Core.Path.{_≡_};
-ghost use Rattle.translation.specs.Translate.{answer, translated};
+ghost use Rattle.translation.specs.Translate.{translateAnswer, translated};
 ghost use Rattle.image.specs.Calls.{readAnswer, readInto, writeAnswer, writes};
 ghost use Rattle.automaton.specs.Tables.{countsOf};
 ghost use Rattle.judge.specs.Judge.{judgeAnswer, judged};
@@ -41,7 +41,7 @@ fn pack_size(length: usize) -> u64
 
 // The answer of translate: the counts, or the refusal.
 fn pack_translated(made: Translated) -> u64
-    ensures { λ r. ⌜ r ≡ packCounts (answer made) ⌝ }
+    ensures { λ r. ⌜ r ≡ packCounts (translateAnswer made) ⌝ }
 {
     match made {
         Translated::Accepted(states, transitions, initial) => {

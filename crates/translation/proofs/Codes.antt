@@ -9,7 +9,7 @@ use lib.ListN.{length, getD, take, length-append, length-map}
 use Rattle.sets.proofs.Members.{all-last}
 use Rattle.term.specs.Limits.{maxTerms}
 use Rattle.translation.specs.Degeneralized.{numbers}
-use Rattle.translation.specs.Memory.{codeOf, levelPlaces, Within, Numbered}
+use Rattle.translation.specs.Memory.{codeOf, levelPlaces, Within, PairsNumbered}
 use Rattle.translation.proofs.Numbering.{find-none, unmet}
 
 pub numbers-length : (n : ℕ) → length (numbers n) ≡ n
@@ -30,10 +30,10 @@ starts-within (suc n) k le =
 -- a loop that numbers the first n states at level 0 and stands at i
 pub record Starting (n : ℕ) (pairs index : List ℕ) (i : ℕ) : Type 0 where
   pub within : i ≤ n
-  pub numbered : Numbered pairs index i
+  pub numbered : PairsNumbered pairs index i
   pub listed : take i pairs ≡ starts i
 
-pub start-begins : (n : ℕ) (pairs index : List ℕ) → Numbered pairs index 0 → Starting n pairs index 0
+pub start-begins : (n : ℕ) (pairs index : List ℕ) → PairsNumbered pairs index 0 → Starting n pairs index 0
 unfolding numbers
 start-begins n pairs index inv = record { within = omega arith; numbered = inv; listed = refl }
 
@@ -43,7 +43,7 @@ module _ (n : ℕ) (pairs index : List ℕ) (i : ℕ) (inv : Starting n pairs in
       unmet pairs index i (inv .numbered) code (omega arith)
       (rw (inv .listed) (omega (arith, find-none code (starts i) (λ y h same. omega (arith, starts-within i i (omega arith) y h)), length-map (numbers i) (λ k. codeOf k 0), numbers-length i)))
 
-  pub start-steps : (code : ℕ) (pairs′ index′ : List ℕ) → i < n → code ≡ codeOf i 0 → Numbered pairs′ index′ (i + 1) × (take (i + 1) pairs′ ≡ take i pairs ++ (code ∷ [])) → Starting n pairs′ index′ (i + 1)
+  pub start-steps : (code : ℕ) (pairs′ index′ : List ℕ) → i < n → code ≡ codeOf i 0 → PairsNumbered pairs′ index′ (i + 1) × (take (i + 1) pairs′ ≡ take i pairs ++ (code ∷ [])) → Starting n pairs′ index′ (i + 1)
   unfolding numbers
   start-steps code pairs′ index′ lt e added = record {
     within = omega arith;
@@ -51,7 +51,7 @@ module _ (n : ℕ) (pairs index : List ℕ) (i : ℕ) (inv : Starting n pairs in
     listed = added .1 ∙ rw (inv .listed, e, add-one, numbers, map-append (λ k. codeOf k 0) (numbers i) (i ∷ []));
   }
 
-  pub start-ends : n ≤ i → Numbered pairs index n × (take n pairs ≡ starts n)
+  pub start-ends : n ≤ i → PairsNumbered pairs index n × (take n pairs ≡ starts n)
   start-ends ge =
       let e : i ≡ n = omega (arith, inv .within) in
       (rw e at (inv .numbered), rw e at (inv .listed))

@@ -12,7 +12,7 @@ use borrow.Rule.Slice.PartMut.{midOf, putMid}
 use Rattle.automaton.specs.Records.{records, stateBytes, transitionBytes}
 use Rattle.answer.specs.Bytes.{twoBytes, filled}
 use Rattle.automaton.proofs.Records.{records-last}
-use Rattle.translation.specs.Memory.{Adds}
+use Rattle.translation.specs.Memory.{AddsRecords}
 
 pub transition-length : (must mustNot target : ℕ) → length (transitionBytes must mustNot target) ≡ 4
 unfolding twoBytes
@@ -46,7 +46,7 @@ transition-stores table after at a b must mustNot target ea eb e =
     e ∙ rw (ea, eb, two, add-one at)
 
 -- records added after others
-pub adds-more : (before : List ℕ) (k : ℕ) (bytes table : List ℕ) (m : ℕ) (more after : List ℕ) (n : ℕ) → Adds before k bytes table m → Adds table m more after n → Adds before k (bytes ++ more) after n
+pub adds-more : (before : List ℕ) (k : ℕ) (bytes table : List ℕ) (m : ℕ) (more after : List ℕ) (n : ℕ) → AddsRecords before k bytes table m → AddsRecords table m more after n → AddsRecords before k (bytes ++ more) after n
 adds-more before k bytes table m more after n a b = record {
   count = rw length-append (omega (arith, a .count, b .count));
   front = b .front ∙ rw (a .front) (append-assoc (take (k * 4) before) bytes more);

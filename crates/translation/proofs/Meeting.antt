@@ -19,7 +19,7 @@ use Rattle.translation.specs.declared.State.{State}
 use Rattle.translation.specs.declared.Paired.{Paired}
 use Rattle.translation.specs.declared.Paired.the-variants.{Count, Full}
 use Rattle.generalized.specs.Memory.{keptTarget}
-use Rattle.translation.specs.Memory.{rowStart, range, levelPlaces, codePlaces, targetN, targetsN, meetAllN, Rows, Numbered, Pairs}
+use Rattle.translation.specs.Memory.{rowStart, range, levelPlaces, codePlaces, targetN, targetsN, meetAllN, PairRows, PairsNumbered, Pairs}
 use Rattle.translation.proofs.Within.{row-inside, row-leads}
 use Rattle.translation.proofs.Numbering.{seen, unseen}
 
@@ -36,7 +36,7 @@ range-none end i le =
     rw (none, range)
 
 -- the pair at a place of those that are numbered
-module _ (pairs index : List ℕ) (n place : ℕ) (inv : Numbered pairs index n) (lt : place < n) where
+module _ (pairs index : List ℕ) (n place : ℕ) (inv : PairsNumbered pairs index n) (lt : place < n) where
   pub numbered-length : length (take n pairs) ≡ n
   numbered-length = length-take-le n pairs (omega (arith, inv .room, inv .few))
 
@@ -45,7 +45,7 @@ module _ (pairs index : List ℕ) (n place : ℕ) (inv : Numbered pairs index n)
 
 -- ---- one target
 
-module _ (pairs index : List ℕ) (n code : ℕ) (inv : Numbered pairs index n) (lt : code < codePlaces) (place : ℕ) where
+module _ (pairs index : List ℕ) (n code : ℕ) (inv : PairsNumbered pairs index n) (lt : code < codePlaces) (place : ℕ) where
   size : length (take n pairs) ≡ n
   size = length-take-le n pairs (omega (arith, inv .room, inv .few))
 
@@ -59,7 +59,7 @@ module _ (pairs index : List ℕ) (n code : ℕ) (inv : Numbered pairs index n) 
     pub met-full : maxStates ≤ n → meet eqb maxStates 24 place code (take n pairs) ≡ refused 24 place
     met-full le = meet-full eqb maxStates 24 place code (take n pairs) late (rw size le)
 
-    pub met-next : n < maxStates → (pairs′ index′ : List ℕ) → Numbered pairs′ index′ (n + 1) × (take (n + 1) pairs′ ≡ take n pairs ++ (code ∷ [])) → Pairs (meet eqb maxStates 24 place code (take n pairs)) (Count (n + 1)) pairs′ index′
+    pub met-next : n < maxStates → (pairs′ index′ : List ℕ) → PairsNumbered pairs′ index′ (n + 1) × (take (n + 1) pairs′ ≡ take n pairs ++ (code ∷ [])) → Pairs (meet eqb maxStates 24 place code (take n pairs)) (Count (n + 1)) pairs′ index′
     met-next room pairs′ index′ added = (meet-next eqb maxStates 24 place code (take n pairs) late (rw size room) ∙ rw (added .1), added .0)
 
 -- ---- the targets of a pair
@@ -70,10 +70,10 @@ pub record Meeting (transitions : List ℕ) (r level from end place : ℕ) (all 
   pub inside : end ≤ maxGeneralizedTransitions
   pub leads : (j : ℕ) → j < end → keptTarget (getD transitions j 0) < maxGeneralizedStates
   pub begun : from ≤ i
-  pub numbered : Numbered pairs index k
+  pub numbered : PairsNumbered pairs index k
   pub left : (count : ℕ) → meetAllN place (count + (i - from)) (map (λ j. targetN r level (getD transitions j 0)) (range (end - i) i)) (take k pairs) ≡ all count
 
-pub meeting-begins : (ends transitions : List ℕ) (r : ℕ) (pairs index : List ℕ) (n place s t level from end : ℕ) → Rows ends transitions r (take n pairs) → Numbered pairs index n → place < n
+pub meeting-begins : (ends transitions : List ℕ) (r : ℕ) (pairs index : List ℕ) (n place s t level from end : ℕ) → PairRows ends transitions r (take n pairs) → PairsNumbered pairs index n → place < n
     → s ≡ getD pairs place 0 / levelPlaces → t ≡ getD pairs place 0 / levelPlaces → level ≡ getD pairs place 0 % levelPlaces → from ≡ rowStart ends s → end ≡ getD ends t 0
     → Meeting transitions r level from end place (λ count. meetAllN place count (targetsN ends transitions r (getD pairs place 0)) (take n pairs)) pairs index n from
 meeting-begins ends transitions r pairs index n place s t level from end rows inv lt es et el ef ee = record {
@@ -87,7 +87,7 @@ meeting-begins ends transitions r pairs index n place s t level from end rows in
 }
 
 module _ (transitions : List ℕ) (r level from end place : ℕ) (all : (count : ℕ) → Result (List ℕ)) (pairs index : List ℕ) (k i : ℕ) (inv : Meeting transitions r level from end place all pairs index k i) where
-  pub meeting-ends : end ≤ i → (count : ℕ) → (all count ≡ accepted (take k pairs)) × Numbered pairs index k
+  pub meeting-ends : end ≤ i → (count : ℕ) → (all count ≡ accepted (take k pairs)) × PairsNumbered pairs index k
   meeting-ends le count = (
     sym (inv .left count) ∙ rw (range-none end i le) (all-met eqb maxStates 24 (λ _ _. fine) place _ (take k pairs)),
     inv .numbered,

@@ -15,7 +15,7 @@ use borrow.Author.Tests.{eq-eqb, lt-ltb, le-ltb, eqb-true}
 use Rattle.sets.specs.Sets.{In}
 use Rattle.generalized.specs.Explore.{find}
 use Rattle.automaton.specs.Limits.{maxStates}
-use Rattle.translation.specs.Memory.{codePlaces, Numbered, numberN}
+use Rattle.translation.specs.Memory.{codePlaces, PairsNumbered, numberN}
 
 -- ---- places of one more
 
@@ -52,7 +52,7 @@ find-none x (y ∷ xs) other = go (eqb x y) refl (find-none x xs (λ z h. other 
 
 -- ---- the tables
 
-pub numbered-begins : (pairs index : List ℕ) → length pairs ≡ maxStates → index ≡ replicate codePlaces 0 → Numbered pairs index 0
+pub numbered-begins : (pairs index : List ℕ) → length pairs ≡ maxStates → index ≡ replicate codePlaces 0 → PairsNumbered pairs index 0
 numbered-begins pairs index room e = record {
   room = room;
   size = rw e (length-replicate {A = ℕ} codePlaces 0);
@@ -60,7 +60,7 @@ numbered-begins pairs index room e = record {
   number = λ code lt. rw (e, getD-replicate {A = ℕ} codePlaces code 0 0 lt, le-ltb (find eqb code (take 0 pairs)) 0 (omega arith));
 }
 
-module _ (pairs index : List ℕ) (n : ℕ) (inv : Numbered pairs index n) (code : ℕ) (lt : code < codePlaces) where
+module _ (pairs index : List ℕ) (n : ℕ) (inv : PairsNumbered pairs index n) (code : ℕ) (lt : code < codePlaces) where
   pub known-number : find eqb code (take n pairs) < n → getD index code 0 ≡ suc (find eqb code (take n pairs))
   known-number l = inv .number code lt ∙ rw (lt-ltb (find eqb code (take n pairs)) n l)
 
@@ -94,7 +94,7 @@ module _ (pairs index : List ℕ) (n : ℕ) (inv : Numbered pairs index n) (code
     before : length (take n pairs) ≡ n
     before = length-take-le n pairs (omega (arith, inside))
 
-    pub number-more : Numbered (set pairs n code) (set index code (n + 1)) (n + 1)
+    pub number-more : PairsNumbered (set pairs n code) (set index code (n + 1)) (n + 1)
     unfolding find
     number-more = record {
       room = length-set pairs n code ∙ inv .room;

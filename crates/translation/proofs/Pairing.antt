@@ -19,7 +19,7 @@ use Rattle.translation.specs.declared.State.{State}
 use Rattle.translation.specs.declared.Paired.{Paired}
 use Rattle.translation.specs.declared.Paired.the-variants.{Count, Full}
 use Rattle.generalized.specs.Memory.{keptTarget}
-use Rattle.translation.specs.Memory.{range, rowStart, rowCount, row, levelPlaces, targetN, targetsN, meetAllN, exploreN, Within, Ends, Rows, Numbered, Pairs}
+use Rattle.translation.specs.Memory.{range, rowStart, rowCount, row, levelPlaces, targetN, targetsN, meetAllN, exploreN, Within, Ends, PairRows, PairsNumbered, Pairs}
 use Rattle.translation.proofs.Levels.{target-state}
 use Rattle.translation.proofs.Meeting.{among}
 use Rattle.generalized.proofs.Explored.{all-grows}
@@ -42,15 +42,15 @@ targets-within ends transitions r n levels rows closed code lt x h =
 -- the walk that stands at place, with k pairs numbered and count transitions before, comes to what it is to come to
 pub record Pairing (ends transitions : List ℕ) (r : ℕ) (all : Result (List ℕ)) (pairs index : List ℕ) (k place : ℕ) : Type 0 where
   pub count : ℕ
-  pub numbered : Numbered pairs index k
-  pub rows : Rows ends transitions r (take k pairs)
+  pub numbered : PairsNumbered pairs index k
+  pub rows : PairRows ends transitions r (take k pairs)
   pub left : exploreN ends transitions r (maxStates - place) place count (take k pairs) ≡ all
 
 module _ (ends transitions : List ℕ) (r : ℕ) (all : Result (List ℕ)) (pairs index : List ℕ) (k place : ℕ) (inv : Pairing ends transitions r all pairs index k place) where
   size : length (take k pairs) ≡ k
   size = length-take-le k pairs (omega (arith, inv .numbered .room, inv .numbered .few))
 
-  pub pairing-ends : k ≤ place → (all ≡ accepted (take k pairs)) × Numbered pairs index k
+  pub pairing-ends : k ≤ place → (all ≡ accepted (take k pairs)) × PairsNumbered pairs index k
   pairing-ends le = (
     sym (inv .left) ∙ explore-ends eqb maxStates 24 (λ _ _. fine) 0 (targetsN ends transitions r) (λ _ _. fine) (maxStates - place) place (inv .count) (take k pairs) (omega (arith, size)),
     inv .numbered,

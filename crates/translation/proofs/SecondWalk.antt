@@ -33,7 +33,7 @@ use Rattle.automaton.proofs.Records.{transitions-count}
 use Rattle.translation.specs.Degeneralized.{Pair, pair, samePair, numbers, initialNumbers, nextLevel, pairTransitions, target, degeneralized, stateOf}
 use Rattle.translation.specs.Translate.{stored}
 use Rattle.generalized.specs.Memory.{keptTarget}
-use Rattle.translation.specs.Memory.{secondWalk, rowStart, row, levelPlaces, codeOf, codePlaces, pairOf, targetN, targetsN, numberN, exploreN, pairBytes, transitionN, rowN, FirstWalk, Within, Rows, Numbered, Closed, Pairs, Written}
+use Rattle.translation.specs.Memory.{secondWalk, rowStart, row, levelPlaces, codeOf, codePlaces, pairOf, targetN, targetsN, numberN, exploreN, pairBytes, transitionN, rowN, FirstWalk, Within, PairRows, PairsNumbered, Closed, Pairs, Written}
 use Rattle.translation.proofs.Levels.{target-state, target-level, next-level-is}
 use Rattle.generalized.proofs.Explored.{Explored, explored}
 use Rattle.generalized.proofs.Passed.{initial-few}
@@ -103,7 +103,7 @@ pub record Begun (rule : List ℕ) (initial : ℕ) (kepts ends : List ℕ) (r : 
   pub kepts-size : length kepts ≡ maxGeneralizedTransitions
   pub ends-size : length ends ≡ maxGeneralizedStates
   pub levels : r ≡ untilCount rule
-  pub numbered : Numbered pairs index initial
+  pub numbered : PairsNumbered pairs index initial
   pub start : take initial pairs ≡ starts initial
 
 module _ {rule : List ℕ} {initial : ℕ} {kepts ends : List ℕ} {r : ℕ} {pairs₀ index₀ : List ℕ} (b : Begun rule initial kepts ends r pairs₀ index₀) where
@@ -124,7 +124,7 @@ module _ {rule : List ℕ} {initial : ℕ} {kepts ends : List ℕ} {r : ℕ} {pa
       let inside : i < length all = omega (arith, end-inside rule (b .passed) (b .walked-first) s lt) in
       rw (target-at rule (b .passed) (b .walked-first) i inside) (found-at rule (b .passed) (b .walked-first) i inside)
 
-  rows-over : (codes : List ℕ) → Within n codes → Rows ends kepts r codes
+  rows-over : (codes : List ℕ) → Within n codes → PairRows ends kepts r codes
   rows-over codes within = record {
     listed = record { states = n; rows = rows-of rule (b .passed) (b .walked-first) (b .ends-size); within = within };
     size = b .kepts-size;
@@ -167,7 +167,7 @@ module _ {rule : List ℕ} {initial : ℕ} {kepts ends : List ℕ} {r : ℕ} {pa
   first-few : length (starts initial) ≤ maxStates
   first-few = omega (arith, length-map (numbers initial) (λ i. codeOf i 0), numbers-length initial, b .walked-first .begun, initial-few rule (b .passed))
 
-  pub first-rows : Rows ends kepts r (take initial pairs₀)
+  pub first-rows : PairRows ends kepts r (take initial pairs₀)
   first-rows = rw (b .start) (rows-over (starts initial) first-within)
 
   walk-is : degeneralized rule states ≡ mapped pairOf (exploreN ends kepts r maxStates 0 0 (starts initial))
@@ -189,7 +189,7 @@ module _ {rule : List ℕ} {initial : ℕ} {kepts ends : List ℕ} {r : ℕ} {pa
         done ∙ rw (b .walked-first .found, walk-is, full)
 
     module _ {count : ℕ} (e : met ≡ Count count) where
-      counted : (exploreN ends kepts r maxStates 0 0 (starts initial) ≡ accepted (take count pairs)) × Numbered pairs index count
+      counted : (exploreN ends kepts r maxStates 0 0 (starts initial) ≡ accepted (take count pairs)) × PairsNumbered pairs index count
       counted = rw e at explored-is
 
       pub count-inside : count ≤ length pairs
@@ -211,7 +211,7 @@ module _ {rule : List ℕ} {initial : ℕ} {kepts ends : List ℕ} {r : ℕ} {pa
       codes-within : Within n (take count pairs)
       codes-within = whole .every (λ code. code / levelPlaces < n) keeps-within first-within
 
-      pub all-rows : Rows ends kepts r (take count pairs)
+      pub all-rows : PairRows ends kepts r (take count pairs)
       all-rows = rows-over (take count pairs) codes-within
 
       -- every target of a pair has a number, which stands by its code

@@ -9,10 +9,10 @@ use Rattle.sets.specs.Sets.{In}
 use Rattle.automaton.specs.Limits.{maxOfState}
 use Rattle.generalized.specs.Limits.{maxGeneralizedTransitions, maxGeneralizedStates}
 use Rattle.generalized.specs.Memory.{keptTarget}
-use Rattle.translation.specs.Memory.{rowStart, rowCount, levelPlaces, Listed, Rows}
+use Rattle.translation.specs.Memory.{rowStart, rowCount, levelPlaces, InRows, PairRows}
 
 -- the pair of a code, with its state's number as it is read of the code
-module _ (ends codes : List ℕ) (code : ℕ) (listed : Listed ends codes) (among : In code codes) (s : ℕ) (is : s ≡ code / levelPlaces) where
+module _ (ends codes : List ℕ) (code : ℕ) (listed : InRows ends codes) (among : In code codes) (s : ℕ) (is : s ≡ code / levelPlaces) where
   state-within : s < listed .states
   state-within = omega (arith, listed .within code among)
 
@@ -28,7 +28,7 @@ module _ (ends codes : List ℕ) (code : ℕ) (listed : Listed ends codes) (amon
   pub row-few : rowCount ends s ≤ maxOfState
   row-few = listed .rows .few s state-within
 
-pub row-leads : (ends transitions : List ℕ) (r : ℕ) (codes : List ℕ) (code : ℕ) (rows : Rows ends transitions r codes) → In code codes → (s : ℕ) → s ≡ code / levelPlaces
+pub row-leads : (ends transitions : List ℕ) (r : ℕ) (codes : List ℕ) (code : ℕ) (rows : PairRows ends transitions r codes) → In code codes → (s : ℕ) → s ≡ code / levelPlaces
     → (i : ℕ) → i < getD ends s 0 → keptTarget (getD transitions i 0) < maxGeneralizedStates
 row-leads ends transitions r codes code rows among s is i l =
     omega (arith, rows .closed s (state-within ends codes code (rows .listed) among s is) i l, rows .listed .rows .states)

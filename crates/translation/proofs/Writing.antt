@@ -18,7 +18,7 @@ use Rattle.automaton.specs.Limits.{maxStates, maxOfState, transitionsBytes}
 use Rattle.automaton.specs.Records.{records, numbered, numberedRecords, stateBytes, transitionBytes}
 use Rattle.answer.specs.Bytes.{twoBytes, filled}
 use Rattle.generalized.specs.Memory.{keptTarget, keptMust, keptMustNot}
-use Rattle.translation.specs.Memory.{range, rowStart, rowCount, row, levelPlaces, targetN, numberN, pairBytes, transitionN, rowN, Listed, Rows, Closed, Adds, Written}
+use Rattle.translation.specs.Memory.{range, rowStart, rowCount, row, levelPlaces, targetN, numberN, pairBytes, transitionN, rowN, InRows, PairRows, Closed, AddsRecords, Written}
 use Rattle.translation.proofs.Within.{row-rises, row-inside, row-few, row-leads}
 use Rattle.translation.proofs.Filling.{transition-length, front-more, front-record, adds-more, filled-as}
 use Rattle.automaton.proofs.Records.{records-last, records-length, numbered-last, number-length, state-length}
@@ -84,7 +84,7 @@ module _ (ends : List ℕ) (r : ℕ) (pairs before table : List ℕ) (p : ℕ) (
         }
 
 -- a row as the code reads it: by its start and its end
-module _ (ends codes : List ℕ) (code : ℕ) (listed : Listed ends codes) (among : In code codes) {s t start end : ℕ} (es : s ≡ code / levelPlaces) (et : t ≡ code / levelPlaces) (estart : start ≡ rowStart ends s) (eend : end ≡ getD ends t 0) where
+module _ (ends codes : List ℕ) (code : ℕ) (listed : InRows ends codes) (among : In code codes) {s t start end : ℕ} (es : s ≡ code / levelPlaces) (et : t ≡ code / levelPlaces) (estart : start ≡ rowStart ends s) (eend : end ≡ getD ends t 0) where
   same-row : s ≡ t
   same-row = omega arith
 
@@ -139,7 +139,7 @@ pub record Writing (index transitions : List ℕ) (r level from end k : ℕ) (be
   pub size : length table ≡ length before
   pub front : take (next * 4) table ≡ take (k * 4) before ++ records (λ j. transitionN index r level (getD transitions j 0)) (range (i - from) from)
 
-module _ (ends transitions : List ℕ) (r : ℕ) (index : List ℕ) (code s t level from end k : ℕ) (rows : Rows ends transitions r (code ∷ [])) (closed : Closed ends transitions r index (code ∷ []))
+module _ (ends transitions : List ℕ) (r : ℕ) (index : List ℕ) (code s t level from end k : ℕ) (rows : PairRows ends transitions r (code ∷ [])) (closed : Closed ends transitions r index (code ∷ []))
     (es : s ≡ code / levelPlaces) (et : t ≡ code / levelPlaces) (el : level ≡ code % levelPlaces) (ef : from ≡ rowStart ends s) (ee : end ≡ getD ends t 0) where
   pub writing-begins : (before : List ℕ) → Writing index transitions r level from end k before before k from
   unfolding records range
@@ -157,7 +157,7 @@ module _ (ends transitions : List ℕ) (r : ℕ) (index : List ℕ) (code s t le
         front = rw (none, range, records, append-nil);
       }
 
-  pub writing-ends : (before table : List ℕ) (next i : ℕ) → end ≤ i → Writing index transitions r level from end k before table next i → Adds before k (rowN ends transitions r index code) table next
+  pub writing-ends : (before table : List ℕ) (next i : ℕ) → end ≤ i → Writing index transitions r level from end k before table next i → AddsRecords before k (rowN ends transitions r index code) table next
   writing-ends before table next i ge inv =
       let last : i ≡ end = omega (arith, inv .within) in
       let all : records (λ j. transitionN index r level (getD transitions j 0)) (range (i - from) from) ≡ rowN ends transitions r index code = rw (last, ef, ee, el, es, et) in
@@ -194,7 +194,7 @@ module _ (index transitions : List ℕ) (r level from end k : ℕ) (before table
 
 -- what holds of the tables for all pairs holds for the one at a place
 module _ (ends transitions : List ℕ) (r : ℕ) (index pairs : List ℕ) (p : ℕ) (lt : p < length pairs) where
-  pub one-rows : Rows ends transitions r pairs → Rows ends transitions r (getD pairs p 0 ∷ [])
+  pub one-rows : PairRows ends transitions r pairs → PairRows ends transitions r (getD pairs p 0 ∷ [])
   one-rows rows = record {
     listed = record { states = rows .listed .states; rows = rows .listed .rows; within = one };
     size = rows .size;
@@ -215,7 +215,7 @@ pub record Table (ends transitions : List ℕ) (r : ℕ) (index pairs before tab
   pub within : p ≤ length pairs
   pub size : length table ≡ length before
   pub few : k ≤ p * maxOfState
-  pub done : Adds before 0 (records (rowN ends transitions r index) (take p pairs)) table k
+  pub done : AddsRecords before 0 (records (rowN ends transitions r index) (take p pairs)) table k
 
 pub table-begins : (ends transitions : List ℕ) (r : ℕ) (index pairs before : List ℕ) → Table ends transitions r index pairs before before 0 0
 unfolding records
@@ -237,7 +237,7 @@ module _ (ends transitions : List ℕ) (r : ℕ) (index pairs before table : Lis
     pub row-room : k * 4 + 4 * maxOfState ≤ length table
     row-room = omega (arith, inv .few, inv .size)
 
-    pub table-steps : Rows ends transitions r pairs → (after : List ℕ) (next : ℕ) → length after ≡ length table → Adds table k (rowN ends transitions r index (getD pairs p 0)) after next
+    pub table-steps : PairRows ends transitions r pairs → (after : List ℕ) (next : ℕ) → length after ≡ length table → AddsRecords table k (rowN ends transitions r index (getD pairs p 0)) after next
         → Table ends transitions r index pairs before after next (p + 1)
     table-steps rows after next same adds =
         let code = getD pairs p 0 in

@@ -129,21 +129,21 @@ pub record Ends (ends : List ℕ) (n : ℕ) : Type 0 where
   pub few : (s : ℕ) → s < n → rowCount ends s ≤ maxOfState
 
 -- pairs whose rows these are
-pub record Listed (ends codes : List ℕ) : Type 0 where
+pub record InRows (ends codes : List ℕ) : Type 0 where
   pub states : ℕ
   pub rows : Ends ends states
   pub within : Within states codes
 
 -- and the transitions in them lead to such pairs
-pub record Rows (ends transitions : List ℕ) (r : ℕ) (codes : List ℕ) : Type 0 where
-  pub listed : Listed ends codes
+pub record PairRows (ends transitions : List ℕ) (r : ℕ) (codes : List ℕ) : Type 0 where
+  pub listed : InRows ends codes
   pub size : length transitions ≡ maxGeneralizedTransitions
   pub levels : r ≤ maxUntils
   pub closed : (s : ℕ) → s < listed .states → (i : ℕ) → i < getD ends s 0 → keptTarget (getD transitions i 0) < listed .states
 
 -- n pairs are numbered: their codes stand by number in pairs, and index has for each code one more than its pair's
 -- number, or 0 where the pair has none
-pub record Numbered (pairs index : List ℕ) (n : ℕ) : Type 0 where
+pub record PairsNumbered (pairs index : List ℕ) (n : ℕ) : Type 0 where
   pub room : length pairs ≡ maxStates
   pub size : length index ≡ codePlaces
   pub few : n ≤ maxStates
@@ -155,13 +155,13 @@ Closed ends transitions r index codes = (code : ℕ) → In code codes → (x : 
 
 -- pairs met: how many are numbered then, or that there is one too many, and the pair being walked
 abbrev pub Pairs : (met : Result (List ℕ)) → Paired → (pairs index : List ℕ) → Type 0
-Pairs met (Count n) pairs index = (met ≡ accepted (take n pairs)) × Numbered pairs index n
+Pairs met (Count n) pairs index = (met ≡ accepted (take n pairs)) × PairsNumbered pairs index n
 Pairs met (Full pair) pairs index = met ≡ refused 24 (pair .0)
 
 -- ---- records in a table
 
 -- records of 4 bytes put after the first k of a table; there are after of them then
-pub record Adds (before : List ℕ) (k : ℕ) (bytes table : List ℕ) (after : ℕ) : Type 0 where
+pub record AddsRecords (before : List ℕ) (k : ℕ) (bytes table : List ℕ) (after : ℕ) : Type 0 where
   pub count : after * 4 ≡ k * 4 + length bytes
   pub front : take (after * 4) table ≡ take (k * 4) before ++ bytes
 
@@ -171,7 +171,7 @@ pub record Written (before bytes table : List ℕ) (count : ℕ) : Type 0 where
   pub table-is : table ≡ filled before bytes
 
 -- the three tables are large enough
-pub record Room (states transitions initial : List ℕ) : Type 0 where
+pub record TablesRoom (states transitions initial : List ℕ) : Type 0 where
   pub for-states : statesBytes ≤ length states
   pub for-transitions : transitionsBytes ≤ length transitions
   pub for-initial : initialBytes ≤ length initial

@@ -12,10 +12,10 @@ use Rattle.translation.specs.Degeneralized.{translation}
 use Rattle.automaton.specs.Records.{stateRecords, transitionRecords, initialRecords}
 
 -- what the answer of the call says in document 01's numbers and values
-abbrev pub answer : Translated → Result Counts
-answer (Accepted states transitions initial) =
+abbrev pub translateAnswer : Translated → Result Counts
+translateAnswer (Accepted states transitions initial) =
     accepted (record { states = states; transitions = transitions; initial = initial })
-answer (Refused number place) = refused number place
+translateAnswer (Refused number place) = refused number place
 
 -- the outcome for a rule that 25 and 1 to 7 let pass
 unfoldable pub stored : Result Automaton → (states transitions initial : List ℕ) → Outcome

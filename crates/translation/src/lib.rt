@@ -31,8 +31,8 @@ ghost use Rattle.automaton.specs.Limits.{maxStates, maxOfState, transitionsByte
 ghost use Rattle.automaton.specs.Records.{records, numberedRecords, stateBytes, transitionBytes};
 ghost use Rattle.automaton.specs.Tables.{outcome};
 ghost use Rattle.translation.specs.Degeneralized.{numbers, translation};
-ghost use Rattle.translation.specs.Memory.{secondWalk, FirstWalk, rowStart, levelPlaces, codeOf, codePlaces, climbN, nextLevelN, targetN, targetsN, meetAllN, numberN, exploreN, pairBytes, rowN, Listed, Rows, Numbered, Closed, Pairs, Adds, Written, Room};
-ghost use Rattle.translation.specs.Translate.{answer, stored, translated};
+ghost use Rattle.translation.specs.Memory.{secondWalk, FirstWalk, rowStart, levelPlaces, codeOf, codePlaces, climbN, nextLevelN, targetN, targetsN, meetAllN, numberN, exploreN, pairBytes, rowN, InRows, PairRows, PairsNumbered, Closed, Pairs, AddsRecords, Written, TablesRoom};
+ghost use Rattle.translation.specs.Translate.{translateAnswer, stored, translated};
 
 // The number of document 01 by which the second walk is refused.
 pub const TOO_MANY_PAIRS: u8 = 24;
@@ -138,8 +138,8 @@ fn target(transition: u64, r: usize, level: usize) -> usize
 
 // A pair that is not met yet takes number n.
 fn add_pair(pairs: &mut [usize], index: &mut [u8], n: usize, code: usize)
-    requires { ⌜ Numbered (now pairs) (now index) n × (n < maxStates) × (code < codePlaces) × (getD (now index) code 0 ≡ 0) ⌝ }
-    ensures { λ _. ⌜ Numbered (now (pairs .exit)) (now (index .exit)) (n + 1) × (take (n + 1) (now (pairs .exit)) ≡ take n (now (pairs .entry)) ++ (code ∷ [])) ⌝ }
+    requires { ⌜ PairsNumbered (now pairs) (now index) n × (n < maxStates) × (code < codePlaces) × (getD (now index) code 0 ≡ 0) ⌝ }
+    ensures { λ _. ⌜ PairsNumbered (now (pairs .exit)) (now (index .exit)) (n + 1) × (take (n + 1) (now (pairs .exit)) ≡ take n (now (pairs .entry)) ++ (code ∷ [])) ⌝ }
 {
     pairs[n] = code;
     index[code] = (n + 1) as u8;
@@ -147,8 +147,8 @@ fn add_pair(pairs: &mut [usize], index: &mut [u8], n: usize, code: usize)
 
 // The initial pairs: the first n states at level 0.
 fn start_pairs(pairs: &mut [usize], index: &mut [u8], n: usize)
-    requires { ⌜ Numbered (now pairs) (now index) 0 × (n ≤ maxTerms) ⌝ }
-    ensures { λ _. ⌜ Numbered (now (pairs .exit)) (now (index .exit)) n × (take n (now (pairs .exit)) ≡ map (λ i. codeOf i 0) (numbers n)) ⌝ }
+    requires { ⌜ PairsNumbered (now pairs) (now index) 0 × (n ≤ maxTerms) ⌝ }
+    ensures { λ _. ⌜ PairsNumbered (now (pairs .exit)) (now (index .exit)) n × (take n (now (pairs .exit)) ≡ map (λ i. codeOf i 0) (numbers n)) ⌝ }
 {
     let mut i = 0;
     while i < n {
@@ -158,8 +158,8 @@ fn start_pairs(pairs: &mut [usize], index: &mut [u8], n: usize)
 }
 
 // A pair met from another one, when n are numbered: an unseen one takes the next number, if there is one.
-fn meet(pairs: &mut [usize], index: &mut [u8], n: usize, code: usize, from: State) -> Paired
-    requires { ⌜ Numbered (now pairs) (now index) n × (code < codePlaces) ⌝ }
+fn meet_pair(pairs: &mut [usize], index: &mut [u8], n: usize, code: usize, from: State) -> Paired
+    requires { ⌜ PairsNumbered (now pairs) (now index) n × (code < codePlaces) ⌝ }
     ensures { λ met. ⌜ Pairs (meet eqb maxStates 24 (from .0) code (take n (now (pairs .entry)))) met (now (pairs .exit)) (now (index .exit)) ⌝ }
 {
     if index[code] != 0 {
@@ -182,7 +182,7 @@ fn meet_row(
     n: usize,
     pair: State,
 ) -> Paired
-    requires { ⌜ Rows (now ends) (now transitions) r (take n (now pairs)) × Numbered (now pairs) (now index) n × (pair .0 < n) ⌝ }
+    requires { ⌜ PairRows (now ends) (now transitions) r (take n (now pairs)) × PairsNumbered (now pairs) (now index) n × (pair .0 < n) ⌝ }
     ensures { λ met. ⌜ ((count : ℕ) → Pairs (meetAllN (pair .0) count (targetsN (now (ends .entry)) (now (transitions .entry)) r (getD (now (pairs .entry)) (pair .0) 0)) (take n (now (pairs .entry)))) met (now (pairs .exit)) (now (index .exit))) ⌝ }
 {
     let number = pair.0;
@@ -192,7 +192,7 @@ fn meet_row(
     let mut k = n;
     let mut i = row_start(ends, state_of(code));
     while i < end {
-        let met = meet(pairs, index, k, target(transitions[i], r, level), pair);
+        let met = meet_pair(pairs, index, k, target(transitions[i], r, level), pair);
         let Paired::Count(more) = met else {
             return met;
         };
@@ -211,7 +211,7 @@ fn explore_pairs(
     index: &mut [u8],
     n: usize,
 ) -> Paired
-    requires { ⌜ Rows (now ends) (now transitions) r (take n (now pairs)) × Numbered (now pairs) (now index) n ⌝ }
+    requires { ⌜ PairRows (now ends) (now transitions) r (take n (now pairs)) × PairsNumbered (now pairs) (now index) n ⌝ }
     ensures { λ met. ⌜ Pairs (exploreN (now (ends .entry)) (now (transitions .entry)) r maxStates 0 0 (take n (now (pairs .entry)))) met (now (pairs .exit)) (now (index .exit)) ⌝ }
 {
     let mut k = n;
@@ -277,18 +277,12 @@ fn pair_number(index: &[u8], code: usize) -> State
     requires { ⌜ (code < length (now index)) × (0 < getD (now index) code 0) ⌝ }
     ensures { λ s. ⌜ s .0 ≡ numberN (now (index .entry)) code ⌝ }
 {
-    State(wide(index[code]) - 1)
-}
-
-fn wide(x: u8) -> usize
-    ensures { λ r. ⌜ r ≡ x ⌝ }
-{
-    x as usize
+    State(answer::wide(index[code]) - 1)
 }
 
 // The records of all pairs, as states of the automaton.
 fn write_states(table: &mut [u8], ends: &[usize], r: usize, pairs: &[usize])
-    requires { ⌜ Listed (now ends) (now pairs) × (length (now pairs) * 4 ≤ length (now table)) ⌝ }
+    requires { ⌜ InRows (now ends) (now pairs) × (length (now pairs) * 4 ≤ length (now table)) ⌝ }
     ensures { λ _. ⌜ now (table .exit) ≡ filled (now (table .entry)) (numberedRecords (pairBytes (now (ends .entry)) r) 0 (now (pairs .entry))) ⌝ }
 {
     let mut pair = State(0);
@@ -313,8 +307,8 @@ fn write_row(
     index: &[u8],
     code: usize,
 ) -> usize
-    requires { ⌜ Rows (now ends) (now transitions) r (code ∷ []) × Closed (now ends) (now transitions) r (now index) (code ∷ []) × (length (now index) ≡ codePlaces) × (k * 4 + 4 * maxOfState ≤ length (now table)) ⌝ }
-    ensures { λ after. ⌜ Adds (now (table .entry)) k (rowN (now (ends .entry)) (now (transitions .entry)) r (now (index .entry)) code) (now (table .exit)) after ⌝ }
+    requires { ⌜ PairRows (now ends) (now transitions) r (code ∷ []) × Closed (now ends) (now transitions) r (now index) (code ∷ []) × (length (now index) ≡ codePlaces) × (k * 4 + 4 * maxOfState ≤ length (now table)) ⌝ }
+    ensures { λ after. ⌜ AddsRecords (now (table .entry)) k (rowN (now (ends .entry)) (now (transitions .entry)) r (now (index .entry)) code) (now (table .exit)) after ⌝ }
 {
     let level = level_of(code);
     let end = row_end(ends, state_of(code));
@@ -338,7 +332,7 @@ fn write_transitions(
     index: &[u8],
     pairs: &[usize],
 ) -> usize
-    requires { ⌜ Rows (now ends) (now transitions) r (now pairs) × Closed (now ends) (now transitions) r (now index) (now pairs) × (length (now index) ≡ codePlaces) × (length (now pairs) ≤ maxStates) × (transitionsBytes ≤ length (now table)) ⌝ }
+    requires { ⌜ PairRows (now ends) (now transitions) r (now pairs) × Closed (now ends) (now transitions) r (now index) (now pairs) × (length (now index) ≡ codePlaces) × (length (now pairs) ≤ maxStates) × (transitionsBytes ≤ length (now table)) ⌝ }
     ensures { λ count. ⌜ Written (now (table .entry)) (records (rowN (now (ends .entry)) (now (transitions .entry)) r (now (index .entry))) (now (pairs .entry))) (now (table .exit)) count ⌝ }
 {
     let mut k = 0;
@@ -372,7 +366,7 @@ fn refuse(
     transitions: &mut [u8],
     initial: &mut [u8],
 ) -> Translated
-    ensures { λ r. ⌜ outcome (answer r) (now (states .exit)) (now (transitions .exit)) (now (initial .exit)) ≡ stored (refused number place) (now (states .entry)) (now (transitions .entry)) (now (initial .entry)) ⌝ }
+    ensures { λ r. ⌜ outcome (translateAnswer r) (now (states .exit)) (now (transitions .exit)) (now (initial .exit)) ≡ stored (refused number place) (now (states .entry)) (now (transitions .entry)) (now (initial .entry)) ⌝ }
 {
     zero(states);
     zero(transitions);
@@ -391,8 +385,8 @@ fn degeneralize(
     transitions: &mut [u8],
     initial: &mut [u8],
 ) -> Translated
-    requires { ⌜ (checked (now rule) ≡ fine) × FirstWalk (now rule) first (now kept) (now ends) × (length (now kept) ≡ maxGeneralizedTransitions) × (length (now ends) ≡ maxGeneralizedStates) × Room (now states) (now transitions) (now initial) ⌝ }
-    ensures { λ r. ⌜ outcome (answer r) (now (states .exit)) (now (transitions .exit)) (now (initial .exit)) ≡ stored (andThen (generalized (now (rule .entry))) (secondWalk (now (rule .entry)))) (now (states .entry)) (now (transitions .entry)) (now (initial .entry)) ⌝ }
+    requires { ⌜ (checked (now rule) ≡ fine) × FirstWalk (now rule) first (now kept) (now ends) × (length (now kept) ≡ maxGeneralizedTransitions) × (length (now ends) ≡ maxGeneralizedStates) × TablesRoom (now states) (now transitions) (now initial) ⌝ }
+    ensures { λ r. ⌜ outcome (translateAnswer r) (now (states .exit)) (now (transitions .exit)) (now (initial .exit)) ≡ stored (andThen (generalized (now (rule .entry))) (secondWalk (now (rule .entry)))) (now (states .entry)) (now (transitions .entry)) (now (initial .entry)) ⌝ }
 {
     let untils = acceptance::untils_of(rule);
     let r = untils.count;
@@ -413,8 +407,8 @@ fn degeneralize(
 
 // The two walks of a rule that 1 to 7 let pass, and the automaton in the three tables.
 fn build(rule: &[u8], states: &mut [u8], transitions: &mut [u8], initial: &mut [u8]) -> Translated
-    requires { ⌜ (Rule.checked (now rule) ≡ fine) × Room (now states) (now transitions) (now initial) ⌝ }
-    ensures { λ r. ⌜ outcome (answer r) (now (states .exit)) (now (transitions .exit)) (now (initial .exit)) ≡ stored (translation (now (rule .entry))) (now (states .entry)) (now (transitions .entry)) (now (initial .entry)) ⌝ }
+    requires { ⌜ (Rule.checked (now rule) ≡ fine) × TablesRoom (now states) (now transitions) (now initial) ⌝ }
+    ensures { λ r. ⌜ outcome (translateAnswer r) (now (states .exit)) (now (transitions .exit)) (now (initial .exit)) ≡ stored (translation (now (rule .entry))) (now (states .entry)) (now (transitions .entry)) (now (initial .entry)) ⌝ }
 {
     let mut table = [0u64; term::TABLE_PLACES];
     let sizes = term::tabulate(rule, &mut table);
@@ -446,7 +440,7 @@ pub fn translate(
     transitions: &mut [u8],
     initial: &mut [u8],
 ) -> Translated
-    ensures { λ r. ⌜ outcome (answer r) (now (states .exit)) (now (transitions .exit)) (now (initial .exit)) ≡ translated (now (rule .entry)) (now (states .entry)) (now (transitions .entry)) (now (initial .entry)) ⌝ }
+    ensures { λ r. ⌜ outcome (translateAnswer r) (now (states .exit)) (now (transitions .exit)) (now (initial .exit)) ≡ translated (now (rule .entry)) (now (states .entry)) (now (transitions .entry)) (now (initial .entry)) ⌝ }
 {
     if states.len() < STATES_BYTES {
         return Translated::Refused(TABLE_TOO_SHORT, 0);

@@ -2,7 +2,7 @@
 -- image of them, and `judge` gives the verdict on that image. Assumes nothing.
 use mathlib.Core.Path.{sym, ap}
 use lib.Seq.{length-take-le}
-use Rattle.translation.specs.Translate.{answer}
+use Rattle.translation.specs.Translate.{translateAnswer}
 use Rattle.image.specs.Calls.{writeAnswer}
 use Rattle.demands.proofs.Deciding.{rule-refused, write-refused, image-inside, lasso-judged}
 use borrow.Author.Needs.{needs}
@@ -34,7 +34,7 @@ slice-reshare-prefix-judge c =
     let called = matched .before .before .before .before .before .before .before .before in
     let start = called .before .before .before .before .before .before .before .before .before .before .before .before in
     let a = start .args in
-    image-inside (a .rule .now) (a .stem .now) (a .cycle .now) (a .states .now) (a .transitions .now) (a .initial .now) (a .image .now) (a .work .now) (start .pre) _ _ _ (called .translate .ensures) _ (ap answer (matched .n .given .1)) _ (stored .write .ensures) _ (ap writeAnswer (c .before .length .given .1))
+    image-inside (a .rule .now) (a .stem .now) (a .cycle .now) (a .states .now) (a .transitions .now) (a .initial .now) (a .image .now) (a .work .now) (start .pre) _ _ _ (called .translate .ensures) _ (ap translateAnswer (matched .n .given .1)) _ (stored .write .ensures) _ (ap writeAnswer (c .before .length .given .1))
 
 slice-aggregate-judge : tie.Need-slice-aggregate-judge
 slice-aggregate-judge c = sym (length-take-le _ _ (slice-reshare-prefix-judge (c .before)))
@@ -55,7 +55,7 @@ returns : tie.Need-returns
 returns c =
     let called = c .before .before .before .before .before .before .before .before .before in
     let start = called .before .before .before .before .before .before .before .before .before .before .before .before in
-    rule-refused _ _ _ _ _ _ _ _ (start .pre) _ _ _ (called .translate .ensures) (ap answer (c .before .number .given .1))
+    rule-refused _ _ _ _ _ _ _ _ (start .pre) _ _ _ (called .translate .ensures) (ap translateAnswer (c .before .number .given .1))
 
 same-length-4 : tie.Need-same-length-4
 same-length-4 c = search needs
@@ -75,7 +75,7 @@ returns-2 c =
     let matched = stored .before .before .before .before .before .before in
     let called = matched .before .before .before .before .before .before .before .before in
     let start = called .before .before .before .before .before .before .before .before .before .before .before .before in
-    write-refused _ _ _ _ _ _ _ _ (start .pre) _ _ _ (called .translate .ensures) _ (ap answer (matched .n .given .1)) _ (stored .write .ensures) (ap writeAnswer (c .before .number2 .given .1))
+    write-refused _ _ _ _ _ _ _ _ (start .pre) _ _ _ (called .translate .ensures) _ (ap translateAnswer (matched .n .given .1)) _ (stored .write .ensures) (ap writeAnswer (c .before .number2 .given .1))
 
 same-length-8 : tie.Need-same-length-8
 same-length-8 c = search needs
@@ -98,7 +98,7 @@ returns-3 c =
     let matched = stored .before .before .before .before .before .before in
     let called = matched .before .before .before .before .before .before .before .before in
     let start = called .before .before .before .before .before .before .before .before .before .before .before .before in
-    lasso-judged _ _ _ _ _ _ _ _ (start .pre) _ _ _ (called .translate .ensures) _ (ap answer (matched .n .given .1)) _ (stored .write .ensures) _ (ap writeAnswer (c .before .before .before .before .before .before .length .given .1)) (c .before .before .judge .ensures)
+    lasso-judged _ _ _ _ _ _ _ _ (start .pre) _ _ _ (called .translate .ensures) _ (ap translateAnswer (matched .n .given .1)) _ (stored .write .ensures) _ (ap writeAnswer (c .before .before .before .before .before .before .length .given .1)) (c .before .before .judge .ensures)
 
 pub decide-checked-spec : {M : Type 1} → statement M
 decide-checked-spec =

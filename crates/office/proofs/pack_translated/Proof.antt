@@ -1,7 +1,7 @@
 -- `office::pack_translated` meets its contract: each arm returns what `packCounts` gives of the variant that the match found.
 -- Assumes nothing.
 use mathlib.Core.Path.{sym, ap, _∙_}
-use Rattle.translation.specs.Translate.{answer}
+use Rattle.translation.specs.Translate.{translateAnswer}
 use Rattle.office.specs.Packing.{packCounts}
 use borrow.Author.Needs.{needs}
 use Rattle.office.proofs.pack_translated.Statement.{statement}
@@ -21,11 +21,11 @@ pack-refusal-requires c κs = search needs
 
 returns : tie.Need-returns
 unfolding packCounts
-returns c = c .pack-three .ensures ∙ sym (ap packCounts (ap answer (c .before .before .made .given .1)))
+returns c = c .pack-three .ensures ∙ sym (ap packCounts (ap translateAnswer (c .before .before .made .given .1)))
 
 returns-2 : tie.Need-returns-2
 unfolding packCounts
-returns-2 c = c .pack-refusal .ensures ∙ sym (ap packCounts (ap answer (c .before .before .made2 .given .1)))
+returns-2 c = c .pack-refusal .ensures ∙ sym (ap packCounts (ap translateAnswer (c .before .before .made2 .given .1)))
 
 pub pack-translated-spec : {M : Type 1} → statement M
 pack-translated-spec =

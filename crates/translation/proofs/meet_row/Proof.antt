@@ -51,8 +51,8 @@ shared-slice-read-target c = omega (arith, c .before .before .before .before .lo
 target-requires : tie.Need-target-requires Inv-loop μ-loop
 target-requires c κs = (c .before .before .before .before .loop .inv .leads _ (c .before .before .before .loop-test .taken), c .before .before .before .before .before .before .before .before .before .before .before .before .before .before .before .pre .0 .levels)
 
-meet-requires : tie.Need-meet-requires Inv-loop μ-loop
-meet-requires c κs = (c .before .before .before .before .before .loop .inv .numbered, rw (c .target .ensures) (target-inside (c .before .before .before .before .before .before .before .before .before .before .before .before .before .before .before .before .args .r) _ _ (c .before .before .before .before .before .before .before .before .before .before .before .before .before .before .before .before .pre .0 .levels) (c .before .before .before .before .before .loop .inv .leads _ (c .before .before .before .before .loop-test .taken))))
+meet-pair-requires : tie.Need-meet-pair-requires Inv-loop μ-loop
+meet-pair-requires c κs = (c .before .before .before .before .before .loop .inv .numbered, rw (c .target .ensures) (target-inside (c .before .before .before .before .before .before .before .before .before .before .before .before .before .before .before .before .args .r) _ _ (c .before .before .before .before .before .before .before .before .before .before .before .before .before .before .before .before .pre .0 .levels) (c .before .before .before .before .before .loop .inv .leads _ (c .before .before .before .before .loop-test .taken))))
 
 enum-known-met : tie.Need-enum-known-met Inv-loop μ-loop
 enum-known-met c = search needs
@@ -61,13 +61,13 @@ enum-told : tie.Need-enum-told Inv-loop μ-loop
 enum-told c = search needs
 
 same-length : tie.Need-same-length Inv-loop μ-loop
-same-length c = c .before .before .before .before .before .before .meet .kept .0 ∙ c .before .before .before .before .before .before .before .before .before .before .before .before .loop .inv .numbered .room ∙ sym (c .before .before .before .before .before .before .before .before .before .before .before .before .before .before .before .before .before .before .before .before .before .before .before .pre .1 .room)
+same-length c = c .before .before .before .before .before .before .meet-pair .kept .0 ∙ c .before .before .before .before .before .before .before .before .before .before .before .before .loop .inv .numbered .room ∙ sym (c .before .before .before .before .before .before .before .before .before .before .before .before .before .before .before .before .before .before .before .before .before .before .before .pre .1 .room)
 
 same-length-2 : tie.Need-same-length-2 Inv-loop μ-loop
-same-length-2 c = c .before .before .before .before .before .before .meet .kept .1 .0 ∙ c .before .before .before .before .before .before .before .before .before .before .before .before .loop .inv .numbered .size ∙ sym (c .before .before .before .before .before .before .before .before .before .before .before .before .before .before .before .before .before .before .before .before .before .before .before .pre .1 .size)
+same-length-2 c = c .before .before .before .before .before .before .meet-pair .kept .1 .0 ∙ c .before .before .before .before .before .before .before .before .before .before .before .before .loop .inv .numbered .size ∙ sym (c .before .before .before .before .before .before .before .before .before .before .before .before .before .before .before .before .before .before .before .before .before .before .before .pre .1 .size)
 
 returns : tie.Need-returns Inv-loop μ-loop
-returns c = meeting-full _ _ _ _ _ _ _ _ _ _ (c .before .before .before .before .before .before .before .before .before .before .before .before .loop .i) (c .before .before .before .before .before .before .before .before .before .before .before .before .loop .inv) (c .before .before .before .before .before .before .before .before .before .before .before .loop-test .taken) _ (c .before .before .before .before .before .before .before .target .ensures) (c .before .before .before .before .before .before .meet .result) (c .before .before .before .before .before .before .meet .last .0) (c .before .before .before .before .before .before .meet .last .1 .0) (c .before .before .before .before .before .before .meet .ensures) (c .enum-told .given .1)
+returns c = meeting-full _ _ _ _ _ _ _ _ _ _ (c .before .before .before .before .before .before .before .before .before .before .before .before .loop .i) (c .before .before .before .before .before .before .before .before .before .before .before .before .loop .inv) (c .before .before .before .before .before .before .before .before .before .before .before .loop-test .taken) _ (c .before .before .before .before .before .before .before .target .ensures) (c .before .before .before .before .before .before .meet-pair .result) (c .before .before .before .before .before .before .meet-pair .last .0) (c .before .before .before .before .before .before .meet-pair .last .1 .0) (c .before .before .before .before .before .before .meet-pair .ensures) (c .enum-told .given .1)
 
 add-i : tie.Need-add-i Inv-loop μ-loop
 add-i c = search needs
@@ -76,7 +76,7 @@ loop-less : tie.Need-loop-less Inv-loop μ-loop
 loop-less c = search needs
 
 loop-again : tie.Need-loop-again Inv-loop μ-loop
-loop-again c = meeting-steps _ _ _ _ _ _ _ _ _ _ (c .before .before .before .before .before .before .before .before .before .before .before .before .before .loop .i) (c .before .before .before .before .before .before .before .before .before .before .before .before .before .loop .inv) (c .before .before .before .before .before .before .before .before .before .before .before .before .loop-test .taken) _ (c .before .before .before .before .before .before .before .before .target .ensures) (c .before .before .before .before .before .before .before .meet .result) (c .before .before .before .before .before .before .before .meet .last .0) (c .before .before .before .before .before .before .before .meet .last .1 .0) (c .before .before .before .before .before .before .before .meet .ensures) (c .before .met .given .1)
+loop-again c = meeting-steps _ _ _ _ _ _ _ _ _ _ (c .before .before .before .before .before .before .before .before .before .before .before .before .before .loop .i) (c .before .before .before .before .before .before .before .before .before .before .before .before .before .loop .inv) (c .before .before .before .before .before .before .before .before .before .before .before .before .loop-test .taken) _ (c .before .before .before .before .before .before .before .before .target .ensures) (c .before .before .before .before .before .before .before .meet-pair .result) (c .before .before .before .before .before .before .before .meet-pair .last .0) (c .before .before .before .before .before .before .before .meet-pair .last .1 .0) (c .before .before .before .before .before .before .before .meet-pair .ensures) (c .before .met .given .1)
 
 same-length-3 : tie.Need-same-length-3 Inv-loop μ-loop
 same-length-3 c = c .before .loop .inv .numbered .room ∙ sym (c .before .before .before .before .before .before .before .before .before .before .before .before .pre .1 .room)
@@ -104,7 +104,7 @@ meet-row-spec =
     mul-target
     shared-slice-read-target
     target-requires
-    meet-requires
+    meet-pair-requires
     enum-known-met
     enum-told
     same-length

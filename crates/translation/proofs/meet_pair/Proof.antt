@@ -1,10 +1,10 @@
--- `translation::meet` meets its contract: seen, full, or new with the next number.
+-- `translation::meet_pair` meets its contract: seen, full, or new with the next number.
 -- Assumes nothing.
 use borrow.Author.Needs.{needs}
 use native.Mathlib.Omega.{arith}
 use Rattle.translation.proofs.Meeting.{met-seen, met-full, met-next}
-use Rattle.translation.proofs.meet.Statement.{statement}
-use Rattle.translation.proofs.meet.Tie as tie
+use Rattle.translation.proofs.meet_pair.Statement.{statement}
+use Rattle.translation.proofs.meet_pair.Tie as tie
 
 slice-read-if1 : tie.Need-slice-read-if1
 slice-read-if1 c = search needs
@@ -30,8 +30,8 @@ same-length-2 c = search needs
 returns-3 : tie.Need-returns-3
 returns-3 c = met-next _ _ _ _ (c .before .before .before .before .before .before .before .before .before .before .before .before .pre .0) (c .before .before .before .before .before .before .before .before .before .before .before .before .pre .1) _ (c .before .before .before .before .before .before .before .before .if1 .left) (omega arith) _ _ (c .before .before .before .before .add-pair .ensures)
 
-pub meet-spec : {M : Type 1} → statement M
-meet-spec =
+pub meet-pair-spec : {M : Type 1} → statement M
+meet-pair-spec =
     tie.close
     (tie.spec
     slice-read-if1
