@@ -1,4 +1,4 @@
--- A rule that 6 lets pass: each node but the root is a child of a higher one.
+-- A rule that 6 lets pass: every node except the root has a parent, whose number is higher.
 -- Assumes nothing.
 use mathlib.Core.Path.{_≡_, refl, _∙_}
 use mathlib.Core.Bool.{Bool, true, false, cond}
