@@ -10,7 +10,7 @@ use borrow.Author.Tests.{eq-eqb, ne-eqb, eqb-true, eqb-false}
 use Rattle.sets.specs.Sets.{any}
 use Rattle.formula.specs.Formula.{tree, InRange}
 use Rattle.term.specs.Term.{Term, joined, terms}
-use Rattle.term.specs.Packed.{pack, obligationsN, unpack}
+use Rattle.term.specs.Memory.{pack, obligationsN, unpack}
 use Rattle.term.proofs.Packing.{Numbers, none, more, Bytes, of-terms, terms-numbers}
 use Rattle.term.proofs.Unpacking.{pack-unpack, unpack-bytes}
 use Rattle.acceptance.specs.Acceptance.{shows, fulfils}

@@ -20,7 +20,8 @@ within x y = eqb (bitOr x y) y
 -- walk and second walk, sentence 10)
 unfoldable pub shows : (f : ℕ) (t u : Term) → Bool
 shows f t u =
-    within (u .must) (t .must) && (within (u .mustNot) (t .mustNot) && (within (u .obligations) (t .obligations) && not (has (u .obligations) f)))
+    within (u .must) (t .must) && (within (u .mustNot) (t .mustNot) &&
+    (within (u .obligations) (t .obligations) && not (has (u .obligations) f)))
 
 -- whether t fulfils the until f (document 01: is good for it): t does not owe f, or a term of f shows that it does
 -- fulfil it (01, First walk and second walk, sentence 10)

@@ -10,8 +10,7 @@ use Rattle.sets.specs.Bits.{has}
 use Rattle.answer.specs.Result.{fine}
 use Rattle.formula.specs.Rule.{nodeCount, checked, untils}
 use Rattle.term.specs.Limits.{tablePlaces}
-use Rattle.term.specs.Packed.{obligationsN}
-use Rattle.term.specs.Table.{TermRows}
+use Rattle.term.specs.Memory.{obligationsN, TermRows}
 use Rattle.acceptance.specs.Acceptance.{within, untilCount}
 
 -- node i of that kind, if it is an until

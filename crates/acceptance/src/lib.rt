@@ -10,8 +10,7 @@ ghost use Rattle.formula.specs.Limits.{maxNodes, maxUntils};
 ghost use Rattle.formula.specs.Rule.{checked};
 ghost use Rattle.sets.specs.Bits.{has};
 ghost use Rattle.term.specs.Limits.{rowPlaces};
-ghost use Rattle.term.specs.Packed.{obligationsN, unpack};
-ghost use Rattle.term.specs.Table.{rowOf};
+ghost use Rattle.term.specs.Memory.{obligationsN, unpack, rowOf};
 ghost use Rattle.acceptance.specs.Acceptance.{fulfilment};
 ghost use Rattle.acceptance.specs.Memory.{ownUntil, IsUntils, Known, showsN, fulfilsN};
 

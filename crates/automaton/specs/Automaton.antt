@@ -58,7 +58,8 @@ pub record AcceptingPass (automaton : Automaton) (stem cycle : List ℕ) : Type 
   pub begins : In (at 0) (automaton .initial)
   pub steps : (i : ℕ) → i < passBegin stem cycle second → Step automaton (at i) (letter stem cycle i) (at (suc i))
   pub same : at (passBegin stem cycle first) ≡ at (passBegin stem cycle second)
-  pub accepts : (i : ℕ) × (passBegin stem cycle first ≤ i) × (i ≤ passBegin stem cycle second) × Accepts automaton (at i)
+  pub accepts :
+      (i : ℕ) × (passBegin stem cycle first ≤ i) × (i ≤ passBegin stem cycle second) × Accepts automaton (at i)
 
 -- The automaton recognizes the lassos with property P: of those whose cycle has a letter, however long, it has an
 -- accepting pass exactly on these (demand 3, of a rule's automaton and the lassos that satisfy the rule).

@@ -19,7 +19,7 @@ use Rattle.automaton.specs.Records.{stateRecords, transitionRecords, initialRec
 use Rattle.automaton.specs.Tables.{Counts, counts, Outcome, outcome}
 use Rattle.answer.specs.Bytes.{zeros, filled}
 use Rattle.translation.specs.Translate.{stored, translated}
-use Rattle.image.specs.Steps.{Long}
+use Rattle.image.specs.Memory.{Long}
 use Rattle.image.specs.Image.{imageBytes, largestImage}
 use Rattle.image.specs.Calls.{Buffer, buffer, writes}
 use Rattle.image.proofs.Outcomes.{fine-long, filled-long}

@@ -60,7 +60,7 @@ fn decide_checked(
         Translated::Refused(number, place) => Judged::Refused(number, place),
         Translated::Accepted(n, m, k) => match write(states, n, transitions, m, initial, k, image) {
             WrittenImage::Refused(number, place) => Judged::Refused(number, place),
-            WrittenImage::Length(length) => judge(&image[..length], stem, cycle, work),
+            WrittenImage::Accepted(length) => judge(&image[..length], stem, cycle, work),
         },
     }
 }

@@ -9,7 +9,7 @@ use lib.ListN.{length, getD, take, set, length-map, length-set}
 use lib.Seq.{take-suc, take-suc-set}
 use Rattle.term.specs.declared.Terms.{Terms}
 use Rattle.term.specs.Limits.{maxTerms}
-use Rattle.term.specs.Packed.{packSet, obligationsN, IsCover}
+use Rattle.term.specs.Memory.{packSet, obligationsN, IsCover}
 use Rattle.term.proofs.Carries.{carried}
 use Rattle.generalized.specs.Limits.{maxGeneralizedStates}
 

@@ -13,7 +13,7 @@ use borrow.Author.Tests.{lt-ltb, le-ltb}
 use Rattle.answer.specs.Result.{refused, fine}
 use Rattle.sets.proofs.Members.{map-at}
 use Rattle.term.specs.Term.{term}
-use Rattle.term.specs.Packed.{obligationsN, unpack}
+use Rattle.term.specs.Memory.{obligationsN, unpack}
 use Rattle.acceptance.specs.Acceptance.{fulfilment}
 use Rattle.generalized.specs.Limits.{maxGeneralizedStates, maxGeneralizedTransitions}
 use Rattle.generalized.specs.declared.Met.{Met}

@@ -21,8 +21,7 @@ use Rattle.sets.proofs.Stores.{items-are}
 use Rattle.term.specs.Limits.{tablePlaces}
 use Rattle.term.specs.Term.{Term, terms}
 use Rattle.term.specs.Size.{checked}
-use Rattle.term.specs.Packed.{pack}
-use Rattle.term.specs.Table.{rowOf, TermRow}
+use Rattle.term.specs.Memory.{pack, rowOf, TermRow}
 use Rattle.term.proofs.Packing.{Numbers, of-terms, numbers-are, canonical, product-numbers, owing-numbers, terms-numbers}
 use Rattle.term.proofs.Rising.{product-one}
 use Rattle.term.proofs.Rows.{row-is, row-fits}

@@ -16,13 +16,13 @@ use Rattle.formula.specs.Formula.{formula}
 use Rattle.term.specs.Limits.{maxTerms}
 use Rattle.term.specs.Term.{Term, cover}
 use Rattle.term.specs.Size.{checked}
-use Rattle.term.specs.Packed.{unpack}
+use Rattle.term.specs.Memory.{unpack}
 use Rattle.term.proofs.Unpacking.{unpack-all}
 use Rattle.acceptance.specs.Acceptance.{fulfilment}
 use Rattle.generalized.specs.Limits.{maxProduct, maxGeneralizedStates, maxGeneralizedTransitions}
 use Rattle.generalized.specs.declared.Step.{Step}
 use Rattle.generalized.specs.declared.Step.the-variants.{On, Stop}
-use Rattle.generalized.specs.declared.Walked.the-variants.{Counts, Refused}
+use Rattle.generalized.specs.declared.Walked.the-variants.{Accepted, Refused}
 use Rattle.generalized.specs.Explore.{explore}
 use Rattle.generalized.specs.Generalized.{transitions, productCheck, transitionCheck, targets, generalized}
 use Rattle.generalized.specs.Memory.{Product, ListedKept, WalkRoom, meetTargets, transitionsOf, walkState, Added, AddsTransitions, allTransitions, Walks}
@@ -84,7 +84,7 @@ walk-begins rule states transitions ends n is le states-room transitions-room en
 }
 
 pub walk-ends : (rule : List ℕ) (initial : ℕ) (states transitions ends : List ℕ) (n total place : ℕ) → Walking rule initial states transitions ends n total place → n ≤ place
-    → Walks rule (Counts initial n total) states transitions ends
+    → Walks rule (Accepted initial n total) states transitions ends
 walk-ends rule initial states transitions ends n total place inv ge =
     let same : place ≡ n = omega (arith, inv .within) in
     let all : take place (take n states) ≡ take n states = rw (same, take-take n n states (omega arith)) in

@@ -10,8 +10,7 @@ use Rattle.answer.specs.Result.{Result, accepted, refused, andThen, fine}
 use Rattle.formula.specs.Formula.{formula}
 use Rattle.term.specs.Limits.{rowPlaces}
 use Rattle.term.specs.Term.{Term, cover}
-use Rattle.term.specs.Packed.{pack}
-use Rattle.term.specs.Table.{rowOf}
+use Rattle.term.specs.Memory.{pack, rowOf}
 use Rattle.acceptance.specs.Acceptance.{fulfilment}
 use Rattle.generalized.specs.Limits.{maxProduct, maxGeneralizedTransitions, maxGeneralizedStates}
 use Rattle.generalized.specs.declared.Met.{Met}
@@ -19,7 +18,7 @@ use Rattle.generalized.specs.declared.Met.the-variants.{Number, Full}
 use Rattle.generalized.specs.declared.Step.{Step}
 use Rattle.generalized.specs.declared.Step.the-variants.{On, Stop}
 use Rattle.generalized.specs.declared.Walked.{Walked}
-use Rattle.generalized.specs.declared.Walked.the-variants.{Counts, Refused}
+use Rattle.generalized.specs.declared.Walked.the-variants.{Accepted, Refused}
 use Rattle.generalized.specs.Explore.{find, meetAll}
 use Rattle.generalized.specs.Generalized.{transitions, productCheck, transitionCheck, generalized}
 
@@ -133,5 +132,5 @@ pub record Tables (rule : List ℕ) (initial n m : ℕ) (states transitions ends
 
 -- the first walk's answer: how many states and transitions there are, with the tables, or the refusal
 abbrev pub Walks : (rule : List ℕ) → Walked → (states transitions ends : List ℕ) → Type 0
-Walks rule (Counts initial n m) states transitions ends = Tables rule initial n m states transitions ends
+Walks rule (Accepted initial n m) states transitions ends = Tables rule initial n m states transitions ends
 Walks rule (Refused number place) states transitions ends = generalized rule ≡ refused number place

@@ -14,8 +14,7 @@ ghost use Rattle.sets.specs.Sets.{Stores, insertProductN};
 ghost use Rattle.term.specs.Limits.{maxTerms, tablePlaces};
 ghost use Rattle.term.specs.Term.{cover};
 ghost use Rattle.term.specs.Size.{checked};
-ghost use Rattle.term.specs.Packed.{unpack};
-ghost use Rattle.term.specs.Table.{rowOf, TermRows};
+ghost use Rattle.term.specs.Memory.{unpack, rowOf, TermRows};
 ghost use Rattle.acceptance.specs.Acceptance.{fulfilment};
 ghost use Rattle.acceptance.specs.Memory.{Known};
 ghost use Rattle.generalized.specs.Limits.{maxProduct, maxGeneralizedStates, maxGeneralizedTransitions};
@@ -37,7 +36,7 @@ pub const MAX_TRANSITIONS: usize = 1024;
 pub const MAX_STATES: usize = 128;
 
 // A state's number in the first walk; the automaton's states have numbers of another type.
-pub struct GeneralizedState(pub usize);
+pub struct GeneralizedNumber(pub usize);
 
 // How far a walk is: the states that are numbered and the transitions that are in the table.
 struct Extent {
@@ -60,7 +59,7 @@ enum Step {
 
 // The answer of the walk: the counts of initial states, states and transitions, or a refusal's number and place.
 pub enum Walked {
-    Counts(usize, usize, usize),
+    Accepted(usize, usize, usize),
     Refused(u8, usize),
 }
 
@@ -74,10 +73,10 @@ fn keep(target: usize, untils: u8, t: u64) -> u64
 
 // The parts of a transition in the table: the state that it leads to, the untils that it fulfils, a bit each, and the
 // propositions that a letter must have and must not have.
-pub fn target_of(x: u64) -> GeneralizedState
+pub fn target_of(x: u64) -> GeneralizedNumber
     ensures { λ s. ⌜ s .0 ≡ keptTarget x ⌝ }
 {
-    GeneralizedState((x / 16777216) as usize)
+    GeneralizedNumber((x / 16777216) as usize)
 }
 
 pub fn fulfilled_by(x: u64) -> u64
@@ -185,7 +184,7 @@ fn meet_all(
     ts: &[u64],
     bytes: &[u8],
     count: usize,
-    state: GeneralizedState,
+    state: GeneralizedNumber,
     states: &mut [u64],
     transitions: &mut [u64],
     before: Extent,
@@ -217,7 +216,7 @@ fn walk_state(
     rule: &[u8],
     table: &[u64],
     untils: Untils,
-    state: GeneralizedState,
+    state: GeneralizedNumber,
     states: &mut [u64],
     transitions: &mut [u64],
     before: Extent,
@@ -254,7 +253,7 @@ fn start(rule: &[u8], states: &mut [u64]) -> usize
 }
 
 // Where the transitions of a state end.
-fn put_end(ends: &mut [usize], state: GeneralizedState, end: usize)
+fn put_end(ends: &mut [usize], state: GeneralizedNumber, end: usize)
     requires { ⌜ state .0 < length (now ends) ⌝ }
     ensures { λ _. ⌜ now (ends .exit) ≡ set (now (ends .entry)) (state .0) end ⌝ }
 {
@@ -280,7 +279,7 @@ pub fn walk(
         states: initial,
         transitions: 0,
     };
-    let mut state = GeneralizedState(0);
+    let mut state = GeneralizedNumber(0);
     while state.0 < size.states {
         let step = walk_state(rule, table, untils, state, states, transitions, size);
         match step {
@@ -290,12 +289,12 @@ pub fn walk(
                     states: n,
                     transitions: m,
                 };
-                state = GeneralizedState(state.0 + 1);
+                state = GeneralizedNumber(state.0 + 1);
             }
             Step::Stop(number, at) => {
                 return Walked::Refused(number, at);
             }
         }
     }
-    Walked::Counts(initial, size.states, size.transitions)
+    Walked::Accepted(initial, size.states, size.transitions)
 }

@@ -16,7 +16,7 @@ use Rattle.answer.specs.Bytes.{filled, numberAt}
 use Rattle.image.specs.Image.{transitionsAt, initialAt, imageLength, contentsBytes}
 use Rattle.image.specs.Reader.{countsAt, contentsCheck, recordsCheck, automatonFrom, readTables, readImage, bodiesCheck}
 use Rattle.image.specs.Calls.{checks}
-use Rattle.image.specs.Steps.{Loads, Small}
+use Rattle.image.specs.Memory.{Loads, Small}
 use Rattle.image.proofs.Before.{follows, Passes, refuses}
 use Rattle.image.proofs.Tests.{counts-small}
 use Rattle.image.proofs.Tables.{counts-back}

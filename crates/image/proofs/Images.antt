@@ -15,7 +15,7 @@ use Rattle.answer.specs.Bytes.{twoBytes, numberAt}
 use Rattle.automaton.specs.Tables.{Counts}
 use Rattle.image.specs.Image.{entry, transitionsAt, initialAt, imageLength, contents, contentsBytes}
 use Rattle.image.specs.Reader.{countsAt, countsFit, contentsCheck, readTables, readImage}
-use Rattle.image.specs.Steps.{joinedBodies}
+use Rattle.image.specs.Memory.{joinedBodies}
 use Rattle.image.proofs.Contents.{Contents}
 use Rattle.image.proofs.Tables.{Bytes, two-back, Passed, image-length}
 use Rattle.image.proofs.Agree.{Agree, front-agrees, tables-agree}

@@ -19,7 +19,7 @@ use Rattle.answer.specs.Bytes.{filled}
 use Rattle.image.specs.Image.{transitionsAt, initialAt, imageBytes, contentsBytes, largestImage}
 use Rattle.image.specs.Reader.{countsAt, countsFit, recordsCheck, readTables, bodiesCheck}
 use Rattle.image.specs.Calls.{Buffer, buffer, written, writes, loaded, readInto, checks}
-use Rattle.image.specs.Steps.{joinedOver, Loads, Small, Long}
+use Rattle.image.specs.Memory.{joinedOver, Loads, Small, Long}
 use Rattle.image.proofs.Tests.{counts-small}
 use Rattle.image.proofs.Tables.{Bytes, drop-bytes, Passed, counts-back, states-back, transitions-back, initial-back, image-back, image-length}
 use Rattle.image.proofs.Contents.{Contents, contents-fine, read-of, checks-of, checks-refused}

@@ -11,7 +11,7 @@ use Rattle.automaton.specs.Tables.{Counts}
 use Rattle.answer.specs.Result.{accepted}
 use Rattle.image.specs.Image.{entry, transitionsAt, initialAt, imageLength, contents, contentsBytes}
 use Rattle.image.specs.Calls.{buffer}
-use Rattle.image.specs.Steps.{joinedOver}
+use Rattle.image.specs.Memory.{joinedOver}
 
 -- six stores are an entry of the contents
 pub entry-stored : (xs : List ℕ) (kind count offset : ℕ) → 6 ≤ length xs → kind < 256

@@ -15,7 +15,7 @@ use Rattle.automaton.specs.Records.{records, numbered, numberedRecords, stateRe
 use Rattle.answer.specs.Bytes.{twoBytes, numberAt}
 use Rattle.automaton.specs.Tables.{Counts, counts, transitionCount}
 use Rattle.image.specs.Image.{imageLength, imageBytes}
-use Rattle.image.specs.Steps.{joinedBodies}
+use Rattle.image.specs.Memory.{joinedBodies}
 use Rattle.image.specs.Reader.{stateCheck, countSum, sumCheck, recordsCheck, transitionsFrom, statesFrom, numbersFrom, automatonFrom}
 use Rattle.image.proofs.Sums.{StateFits, state-fine}
 use Rattle.image.proofs.Sizes.{image-size}

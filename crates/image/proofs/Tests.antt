@@ -11,7 +11,7 @@ use borrow.Author.Tests.{leb-true, lt-ltb, le-ltb, le-leb, lt-leb, eq-eqb, ne-eq
 use Rattle.answer.specs.Result.{Result, accepted, refused, andThen, Check, fine, lowest}
 use Rattle.automaton.specs.Limits.{maxStates, maxOfState, maxTransitions, maxInitial}
 use Rattle.automaton.specs.Tables.{Counts, countsOf}
-use Rattle.image.specs.Steps.{Small}
+use Rattle.image.specs.Memory.{Small}
 use Rattle.image.specs.Image.{transitionsAt, initialAt, imageLength, contentsBytes}
 use Rattle.answer.specs.Bytes.{numberAt}
 use Rattle.image.specs.Reader.{countsAt, countsFit, contentsCheck, stateCheck, sumCheck, transitionRecordCheck, initialCheck, recordsCheck}

@@ -9,15 +9,15 @@ use Rattle.automaton.specs.Records.{stateRecords, transitionRecords, initialRec
 use Rattle.automaton.specs.Tables.{countsOf, Counts, counts, Outcome, outcome, tableCheck}
 use Rattle.answer.specs.Bytes.{filled}
 use Rattle.image.specs.declared.WrittenImage.{WrittenImage}
-use Rattle.image.specs.declared.WrittenImage.the-variants.{Length, Refused}
+use Rattle.image.specs.declared.WrittenImage.the-variants.{Accepted, Refused}
 use Rattle.image.specs.declared.Loaded.{Loaded}
-use Rattle.image.specs.declared.Loaded.the-variants.{Counted, Refused as NotLoaded}
+use Rattle.image.specs.declared.Loaded.the-variants.{Accepted as IsLoaded, Refused as NotLoaded}
 use Rattle.image.specs.Image.{imageBytes, largestImage}
 use Rattle.image.specs.Reader.{countsFit, readTables, readImage}
 
 -- what the answer of write says in document 01's numbers and values
 abbrev pub writeAnswer : WrittenImage → Result ℕ
-writeAnswer (Length n) = accepted n
+writeAnswer (Accepted n) = accepted n
 writeAnswer (Refused number place) = refused number place
 
 -- an answer, and the lent buffer afterwards
@@ -51,7 +51,7 @@ writes c s t i image =
 
 -- what the answer of read says in document 01's numbers and values
 abbrev pub readAnswer : Loaded → Result Counts
-readAnswer (Counted states transitions initial) = accepted (countsOf states transitions initial)
+readAnswer (IsLoaded states transitions initial) = accepted (countsOf states transitions initial)
 readAnswer (NotLoaded number place) = refused number place
 
 -- the counts, the records, and zero in all unused bytes; a refusal leaves all as it was

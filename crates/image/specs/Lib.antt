@@ -3,4 +3,4 @@ pub mod Image
 pub mod Reader
 pub mod Lookup
 pub mod Calls
-pub mod Steps
+pub mod Memory

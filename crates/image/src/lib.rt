@@ -23,7 +23,7 @@ ghost use Rattle.answer.specs.Bytes.{filled, numberAt};
 ghost use Rattle.image.specs.Image.{entry, entryBytes, imageLength, contents, contentsBytes, largestImage};
 ghost use Rattle.image.specs.Reader.{countsAt, countsFit, kindsFit, offsetsFit, contentsCheck, stateCheck, countSum, transitionRecordCheck, initialCheck, recordsCheck, bodiesCheck};
 ghost use Rattle.image.specs.Calls.{writeAnswer, buffer, writes, readAnswer, readInto, checks};
-ghost use Rattle.image.specs.Steps.{stateAnswer, joinedOver, HasRecords, Small, Long, Loads};
+ghost use Rattle.image.specs.Memory.{stateAnswer, joinedOver, HasRecords, Small, Long, Loads};
 
 // The numbers of document 01 by which an image or tables are refused.
 pub const BAD_CONTENTS: u8 = 10;
@@ -62,19 +62,19 @@ pub const IMAGE_BYTES: usize = CONTENTS_BYTES + STATES_BYTES + TRANSITIONS_BYTES
 
 // The answer of write: the image's length, or a refusal's number and place.
 pub enum WrittenImage {
-    Length(usize),
+    Accepted(usize),
     Refused(u8, usize),
 }
 
 // The answer of read: how many states, transitions and initial states, or a refusal's number and place.
 pub enum Loaded {
-    Counted(usize, usize, usize),
+    Accepted(usize, usize, usize),
     Refused(u8, usize),
 }
 
 // The transition count of a state record, or that the record is refused.
 enum StateCount {
-    Count(usize),
+    Accepted(usize),
     Refused,
 }
 
@@ -119,7 +119,7 @@ fn check_state(states: &[u8], i: usize) -> StateCount
     if states[4 * i + 3] != 0 {
         return StateCount::Refused;
     }
-    StateCount::Count(count)
+    StateCount::Accepted(count)
 }
 
 // 11 for the first n state records, whose counts are to add up to transition_count.
@@ -131,7 +131,7 @@ fn check_states(states: &[u8], n: usize, transition_count: usize) -> Checked
     let mut i = 0;
     while i < n {
         let state = check_state(states, i);
-        let StateCount::Count(count) = state else {
+        let StateCount::Accepted(count) = state else {
             return Checked::Refused(BAD_STATE, i);
         };
         total += count;
@@ -271,7 +271,7 @@ fn check_contents(image: &[u8]) -> Loaded
     if image.len() != initial_at + 2 * initial {
         return Loaded::Refused(BAD_CONTENTS, 0);
     }
-    Loaded::Counted(states, transitions, initial)
+    Loaded::Accepted(states, transitions, initial)
 }
 
 // 11 to 13 of an image that has its contents and its length.
@@ -296,14 +296,14 @@ pub fn check(image: &[u8]) -> Loaded
     ensures { λ r. ⌜ readAnswer r ≡ checks (now (image .entry)) ⌝ }
 {
     let contents = check_contents(image);
-    let Loaded::Counted(states, transitions, initial) = contents else {
+    let Loaded::Accepted(states, transitions, initial) = contents else {
         return contents;
     };
     let bodies = check_bodies(image, states, transitions, initial);
     if let Checked::Refused(number, place) = bodies {
         return Loaded::Refused(number, place);
     }
-    Loaded::Counted(states, transitions, initial)
+    Loaded::Accepted(states, transitions, initial)
 }
 
 // The first n bytes of source in a table, and zero behind them.
@@ -343,7 +343,7 @@ pub fn read(image: &[u8], states: &mut [u8], transitions: &mut [u8], initial: &m
         return Loaded::Refused(TABLE_TOO_SHORT, 0);
     }
     let found = check(image);
-    let Loaded::Counted(state_count, transition_count, initial_count) = found else {
+    let Loaded::Accepted(state_count, transition_count, initial_count) = found else {
         return found;
     };
     load_bodies(
@@ -355,7 +355,7 @@ pub fn read(image: &[u8], states: &mut [u8], transitions: &mut [u8], initial: &m
         transitions,
         initial,
     );
-    Loaded::Counted(state_count, transition_count, initial_count)
+    Loaded::Accepted(state_count, transition_count, initial_count)
 }
 
 // An entry of the table of contents in the first six bytes.
@@ -455,5 +455,5 @@ pub fn write(
         initial_count,
         image,
     );
-    WrittenImage::Length(n)
+    WrittenImage::Accepted(n)
 }

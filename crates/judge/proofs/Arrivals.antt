@@ -5,7 +5,7 @@ use mathlib.Core.Logic.{_⊎_, inl, inr}
 use native.Mathlib.Omega.{arith}
 use native.Mathlib.Decide.{ℕ-discrete}
 use Rattle.automaton.specs.Automaton.{Automaton, Step, Accepts}
-use Rattle.judge.specs.RunBits.{moved, lifted, After}
+use Rattle.judge.specs.Memory.{moved, lifted, After}
 use Rattle.judge.specs.Limits.{metBit}
 use Rattle.judge.proofs.Runs.{Leads, Meets, leads-none, leads-init, leads-last, leads-snoc, meets-snoc, meets-here}
 

@@ -6,7 +6,7 @@ use mathlib.Core.Logic.{_⊎_, inl, inr}
 use native.Mathlib.Omega.{arith}
 use native.Mathlib.Decide.{ℕ-discrete}
 use lib.ListN.{length, replicate}
-use Rattle.judge.specs.RunBits.{Token, Lifted, Is, Gains, Joined, both, met, round, Linked, one, join, joinMet, Via}
+use Rattle.judge.specs.Memory.{Token, Lifted, Is, Gains, Joined, both, met, round, Linked, one, join, joinMet, Via}
 use Rattle.judge.specs.Limits.{metBit}
 use Rattle.automaton.specs.Limits.{maxStates}
 use Rattle.judge.proofs.Gathers.{Gathering}

@@ -5,7 +5,7 @@ use mathlib.Core.Bool.{Bool, true, false, not}
 use native.Mathlib.Omega.{arith}
 use borrow.Author.Tests.{not-true, not-false}
 use borrow.Author.Count.{below-more}
-use Rattle.judge.specs.RunBits.{Tells}
+use Rattle.judge.specs.Memory.{Tells}
 
 pub true-false : {A : Type 0} → _≡_ {A = Bool} true false → A
 true-false e = let z : _≡_ {A = ℕ} 0 1 = cc in absurd (omega arith)

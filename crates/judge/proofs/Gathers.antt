@@ -6,7 +6,7 @@ use mathlib.Core.Logic.{_⊎_, inl, inr}
 use native.Mathlib.Omega.{arith}
 use native.Mathlib.Decide.{ℕ-discrete}
 use lib.ListN.{length}
-use Rattle.judge.specs.RunBits.{Token, Gains}
+use Rattle.judge.specs.Memory.{Token, Gains}
 
 -- nothing is added
 pub adds-none : {x : List ℕ} {New : (q k : ℕ) → Type 0} → ((q k : ℕ) → New q k → ⊥) → Gains x x New

@@ -14,7 +14,7 @@ use Rattle.image.proofs.Contents.{read-of, checks-of, checks-refused}
 use Rattle.judge.specs.Search.{hasAcceptingPass}
 use Rattle.judge.specs.Judge.{workBytes, Verdict, kept, broken, judgeable, verdict, Judgement, judgement, judgedBy, judged, lassoJudgeable}
 use Rattle.lasso.specs.Lasso.{lassoCheck}
-use Rattle.judge.specs.RunBits.{Tells}
+use Rattle.judge.specs.Memory.{Tells}
 use Rattle.image.specs.Lookup.{imageAutomaton}
 use Rattle.judge.proofs.Decisions.{true-false}
 use Rattle.automaton.proofs.InRange.{InRange}

@@ -10,7 +10,7 @@ use native.Mathlib.Numerals.{add-one}
 use native.Mathlib.Decide.{ℕ-discrete}
 use lib.ListN.{length, getD, replicate}
 use Rattle.automaton.specs.Automaton.{Automaton, Step, Accepts}
-use Rattle.judge.specs.RunBits.{Token, Lifted, Is, Gains, Confined, Moved, moved, lifted, After, Ran}
+use Rattle.judge.specs.Memory.{Token, Lifted, Is, Gains, Confined, Moved, moved, lifted, After, Ran}
 use Rattle.judge.specs.Limits.{startBit, metBit, rowsWords}
 use Rattle.judge.proofs.RunBits.{none-set}
 use Rattle.judge.proofs.Decisions.{true-false, false-true}

@@ -12,7 +12,7 @@ use borrow.Author.Tests.{lt-ltb, le-ltb}
 use Rattle.lasso.specs.Lasso.{letter}
 use Rattle.automaton.specs.Automaton.{Automaton, Step, Accepts, AcceptingPass, passBegin}
 use Rattle.sets.specs.Sets.{In}
-use Rattle.judge.specs.RunBits.{Lifted, After, Linked, one, join, joinMet}
+use Rattle.judge.specs.Memory.{Lifted, After, Linked, one, join, joinMet}
 use Rattle.judge.specs.Limits.{startBit, metBit}
 use Rattle.automaton.specs.Limits.{maxStates}
 use Rattle.judge.proofs.Runs.{Leads, Meets, leads-as, meets-as, leads-on, on-early, on-late}

@@ -13,7 +13,7 @@ use lib.Dec.{eqb}
 use lib.Pow.{pow-lt}
 use native.Mathlib.Nat.{one-mul, mod-eq-of-lt, add-zero}
 use borrow.Author.Tests.{eqb-true, eqb-false, eq-eqb, ne-eqb}
-use Rattle.judge.specs.RunBits.{Token, Lifted, Is, Gains, Confined, Ored, Tells}
+use Rattle.judge.specs.Memory.{Token, Lifted, Is, Gains, Confined, Ored, Tells}
 use Rattle.answer.proofs.Zeros.{zeros-at}
 use Rattle.sets.specs.Bits.{Has}
 use Rattle.sets.proofs.Bits.{or-has, has-or-l, has-or-r, zero-has, pow-has, has-pow}

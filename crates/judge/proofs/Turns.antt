@@ -13,7 +13,7 @@ use Rattle.automaton.specs.Automaton.{Step, Accepts}
 use Rattle.image.specs.Image.{initialAt, contentsBytes}
 use Rattle.answer.specs.Bytes.{numberAt}
 use Rattle.image.specs.Reader.{countsAt, countSum}
-use Rattle.judge.specs.RunBits.{Token, Lifted, Gains, ByRecord}
+use Rattle.judge.specs.Memory.{Token, Lifted, Gains, ByRecord}
 use Rattle.image.specs.Lookup.{imageAutomaton, recordsAt, Readable, AcceptingByte, transitionCountOf}
 use Rattle.judge.specs.Limits.{startBit, rowsWords}
 use Rattle.judge.proofs.Decisions.{false-true}

@@ -8,7 +8,7 @@ use mathlib.Core.Logic.{_⊎_, inl, inr, ⊎-elim}
 use lib.ListN.{length, getD, replicate}
 use Rattle.automaton.specs.Automaton.{Automaton, Step, Accepts, AcceptingPass}
 use Rattle.sets.specs.Sets.{In}
-use Rattle.judge.specs.RunBits.{Token, Lifted, Is, Gains, Confined, Tells, After, Linked, one, join, joinMet, SomeStarted}
+use Rattle.judge.specs.Memory.{Token, Lifted, Is, Gains, Confined, Tells, After, Linked, one, join, joinMet, SomeStarted}
 use Rattle.judge.specs.Limits.{startBit, metBit, rowsWords}
 use Rattle.automaton.specs.Limits.{maxStates}
 use Rattle.judge.proofs.RunBits.{none-set}

@@ -2,4 +2,4 @@
 pub mod Limits
 pub mod Search
 pub mod Judge
-pub mod RunBits
+pub mod Memory

@@ -23,7 +23,7 @@ ghost use Rattle.sets.specs.Sets.{In};
 ghost use Rattle.answer.specs.Bytes.{numberAt};
 ghost use Rattle.judge.specs.Judge.{judgeAnswer, judgement, judgedOn, judged};
 ghost use Rattle.judge.specs.Limits.{startBit, metBit, rowBits};
-ghost use Rattle.judge.specs.RunBits.{HasRow, Full, Token, Lifted, Is, Gains, Ored, Tells, Onward, ByRecord, Moved, AfterAll, Via, Joined, Linked, Started, SomeStarted, Confined, Ran};
+ghost use Rattle.judge.specs.Memory.{HasRow, Full, Token, Lifted, Is, Gains, Ored, Tells, Onward, ByRecord, Moved, AfterAll, Via, Joined, Linked, Started, SomeStarted, Confined, Ran};
 ghost use Rattle.image.specs.Image.{acceptingAt};
 ghost use Rattle.image.specs.Reader.{countsAt};
 ghost use Rattle.image.specs.Lookup.{imageAutomaton, AcceptingByte, transitionCountOf, recordsAt, Readable};
@@ -31,7 +31,7 @@ ghost use Rattle.image.specs.Lookup.{imageAutomaton, AcceptingByte, transitionC
 // How many working bytes judging asks for.
 pub const WORK_BYTES: usize = automaton::MAX_STATES * lasso::MAX_LETTERS;
 
-// The words of the rows of all states, four each (specs/RunBits.antt has what the bits are).
+// The words of the rows of all states, four each (specs/Memory.antt has what the bits are).
 const ROWS_WORDS: usize = 4 * automaton::MAX_STATES;
 
 // The bit of the runs from an initial state at letter 0, and how far above a bit the one lies that says the same of

@@ -22,7 +22,7 @@ use Rattle.translation.specs.Degeneralized.{degeneralized, translation}
 use Rattle.automaton.specs.Limits.{maxTransitions}
 use Rattle.automaton.specs.Tables.{Counts, Outcome, tableCheck}
 use Rattle.translation.specs.Translate.{stored, unless, translated}
-use Rattle.image.specs.Steps.{Small}
+use Rattle.image.specs.Memory.{Small}
 use Rattle.image.specs.Reader.{countsAt, countsFit, contentsCheck, stateCheck, transitionRecordCheck, initialCheck, recordsCheck, readTables, readImage}
 use Rattle.image.specs.Calls.{bufferCheck, written, writes, loaded, readInto}
 use Rattle.image.proofs.Tests.{counts-small}

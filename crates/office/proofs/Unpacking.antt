@@ -13,7 +13,7 @@ use Rattle.translation.specs.Degeneralized.{translation}
 use Rattle.automaton.specs.Limits.{maxStates, maxTransitions, maxInitial}
 use Rattle.automaton.specs.Tables.{Counts, counts, tableCheck, countsOf}
 use Rattle.translation.specs.Translate.{stored, unless, translated}
-use Rattle.image.specs.Steps.{Small}
+use Rattle.image.specs.Memory.{Small}
 use Rattle.image.specs.Image.{imageLength, largestImage}
 use Rattle.image.specs.Reader.{countsFit, recordsCheck, automatonFrom, readTables, readImage}
 use Rattle.image.specs.Calls.{buffer, bufferCheck, writes, loaded, readInto, checks}

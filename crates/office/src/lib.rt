@@ -56,7 +56,7 @@ fn pack_loaded(loaded: Loaded) -> u64
     ensures { λ r. ⌜ r ≡ packCounts (readAnswer loaded) ⌝ }
 {
     match loaded {
-        Loaded::Counted(states, transitions, initial) => pack_three(states, transitions, initial),
+        Loaded::Accepted(states, transitions, initial) => pack_three(states, transitions, initial),
         Loaded::Refused(number, place) => pack_refusal(number, place),
     }
 }
@@ -66,7 +66,7 @@ fn pack_written(written: WrittenImage) -> u64
     ensures { λ r. ⌜ r ≡ packLength (writeAnswer written) ⌝ }
 {
     match written {
-        WrittenImage::Length(length) => pack_size(length),
+        WrittenImage::Accepted(length) => pack_size(length),
         WrittenImage::Refused(number, place) => pack_refusal(number, place),
     }
 }

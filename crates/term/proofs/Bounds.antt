@@ -16,7 +16,7 @@ use Rattle.formula.specs.Limits.{maxNodes}
 use Rattle.formula.specs.Formula.{Formula, bottom, top, proposition, negatedProposition, conjunction, disjunction, next, until, release, build, tree}
 use Rattle.term.specs.Limits.{maxTerms}
 use Rattle.term.specs.Term.{cover}
-use Rattle.term.specs.Bound.{coverBound, BoundedBelow}
+use Rattle.term.specs.Memory.{coverBound, BoundedBelow}
 
 pub bound-most : (f : Formula) → coverBound f ≤ suc maxTerms
 unfolding coverBound

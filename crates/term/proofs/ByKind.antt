@@ -7,7 +7,7 @@ use native.Mathlib.Omega.{arith}
 use Rattle.sets.specs.Sets.{unionN, insertProductN}
 use Rattle.formula.specs.Formula.{Formula, bottom, build, InRange}
 use Rattle.term.specs.Term.{term, cover, terms}
-use Rattle.term.specs.Packed.{pack, packSet}
+use Rattle.term.specs.Memory.{pack, packSet}
 use Rattle.term.proofs.Packing.{pack-unions, pack-union, pack-owing, pack-conjunction, pack-disjunction, pack-until, pack-release}
 
 -- a kind above 8 builds bottom

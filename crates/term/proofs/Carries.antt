@@ -10,7 +10,7 @@ use Rattle.sets.specs.Sets.{Stores, unionN}
 use Rattle.sets.proofs.Stores.{count-fits, items-are}
 use Rattle.sets.proofs.Inserts.{union-shorter}
 use Rattle.term.specs.Limits.{maxTerms}
-use Rattle.term.specs.Packed.{Carries}
+use Rattle.term.specs.Memory.{Carries}
 
 pub carries-of : {capacity n : ℕ} {xs ws : List ℕ} → length xs ≡ capacity → Stores xs n ws → Carries capacity xs n ws
 carries-of l h = record { count = omega (arith, h .count); items = λ le. h .items (omega arith) }

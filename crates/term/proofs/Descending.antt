@@ -15,8 +15,7 @@ use Rattle.term.specs.declared.Terms.{Terms}
 use Rattle.term.specs.Limits.{maxTerms}
 use Rattle.term.specs.Term.{terms, cover}
 use Rattle.term.specs.Size.{sizeCheck, checked}
-use Rattle.term.specs.Packed.{IsPacked, IsTerms, IsCover, pack, packSet}
-use Rattle.term.specs.Descent.{Over, Found, FoundTerms, FoundCover}
+use Rattle.term.specs.Memory.{IsPacked, IsTerms, IsCover, pack, packSet, Over, Found, FoundTerms, FoundCover}
 use Rattle.term.proofs.Sizes.{bytes-fine, sizes-fine, over-above, over-many}
 
 module _ (rule : List ℕ) (n : ℕ) where

@@ -18,9 +18,7 @@ use Rattle.term.specs.declared.Terms.{Terms}
 use Rattle.term.specs.Limits.{maxTerms, rowPlaces}
 use Rattle.term.specs.Term
 use Rattle.term.specs.Size.{sizeCheck}
-use Rattle.term.specs.Packed.{pack}
-use Rattle.term.specs.Table.{TermRow, TermRows}
-use Rattle.term.specs.Descent.{Reaches, FoundTerms, Kept, StoresRow, Keeps}
+use Rattle.term.specs.Memory.{pack, TermRow, TermRows, Reaches, FoundTerms, Kept, StoresRow, Keeps}
 use Rattle.term.proofs.Carries.{carried}
 use Rattle.term.proofs.Reached.{below-leaf, below-next, below-pair}
 

@@ -13,7 +13,7 @@ use Rattle.sets.specs.Sets.{insert, union, insertJoin, insertJoins, insertProdu
 use Rattle.formula.specs.Limits.{propositions}
 use Rattle.formula.specs.Formula.{Formula, bottom, top, proposition, negatedProposition, conjunction, disjunction, next, until, release, InRange}
 use Rattle.term.specs.Term.{Term, term, lessThen, less, joined, consistent, product, unions, cover, terms}
-use Rattle.term.specs.Packed.{pack, packSet}
+use Rattle.term.specs.Memory.{pack, packSet}
 
 -- what a number for each element of A keeps, on the elements that are Good
 pub record Packs {A : Type 0} (less : A → A → Bool) (joined : A → A → A) (consistent : A → Bool) (number : A → ℕ) (Good : A → Type 0) : Type 0 where

@@ -9,7 +9,7 @@ use native.Mathlib.Omega.{arith}
 use Rattle.answer.specs.Result.{fine}
 use Rattle.formula.specs.Rule.{nodeCount, root, kindAt, leftAt, rightAt, checked}
 use Rattle.formula.proofs.Parents.{Parent, by-left, by-right, parent-of}
-use Rattle.term.specs.Descent.{Reaches, here, left, right}
+use Rattle.term.specs.Memory.{Reaches, here, left, right}
 
 -- what stands below a node, by its kind
 pub below-leaf : (rule : List ℕ) (n k : ℕ) → kindAt rule n ≤ 3 → Reaches rule n k → k ≡ n

@@ -11,7 +11,7 @@ use Rattle.sets.proofs.Rising.{Rising, Consistent, union-rises, product-rises, 
 use Rattle.formula.specs.Limits.{propositions}
 use Rattle.formula.specs.Formula.{Formula, bottom, top, proposition, negatedProposition, conjunction, disjunction, next, until, release, InRange}
 use Rattle.term.specs.Term.{term, cover, terms}
-use Rattle.term.specs.Packed.{pack, packSet}
+use Rattle.term.specs.Memory.{pack, packSet}
 use Rattle.term.proofs.Packing.{set-drops, pack-unions, pack-union, pack-owing, pack-conjunction, pack-disjunction, pack-until, pack-release}
 
 -- a join that is kept is consistent

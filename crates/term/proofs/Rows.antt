@@ -9,8 +9,7 @@ use Rattle.formula.specs.Limits.{maxNodes}
 use Rattle.formula.specs.Formula.{tree}
 use Rattle.term.specs.Limits.{rowPlaces, tablePlaces}
 use Rattle.term.specs.Term.{terms}
-use Rattle.term.specs.Packed.{pack}
-use Rattle.term.specs.Table.{rowOf, TermRow}
+use Rattle.term.specs.Memory.{pack, rowOf, TermRow}
 
 module _ {rule table : List ℕ} {k : ℕ} (row : TermRow rule table k) where
   pub row-is : rowOf table k ≡ map pack (terms (tree rule k))

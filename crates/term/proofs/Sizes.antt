@@ -19,7 +19,7 @@ use Rattle.formula.proofs.Trees.{tree-in-range}
 use Rattle.term.specs.Limits.{maxTerms}
 use Rattle.term.specs.Term.{terms, cover}
 use Rattle.term.specs.Size.{sizeCheck, checked, Ready}
-use Rattle.term.specs.Descent.{Over}
+use Rattle.term.specs.Memory.{Over}
 
 pub record Few (rule : List ℕ) (k : ℕ) : Type 0 where
   pub terms : length (terms (tree rule k)) ≤ maxTerms

@@ -5,7 +5,7 @@ use mathlib.Core.List.{List, map}
 use Prim.Native.Nat.{ℕ, _/_, _%_}
 use native.Mathlib.Omega.{arith}
 use Rattle.term.specs.Term.{Term}
-use Rattle.term.specs.Packed.{pack, obligationsN, unpack}
+use Rattle.term.specs.Memory.{pack, obligationsN, unpack}
 use Rattle.term.proofs.Packing.{Numbers, none, more, Bytes, of-terms}
 
 pub pack-unpack : (t : ℕ) → pack (unpack t) ≡ t

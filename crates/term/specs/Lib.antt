@@ -2,7 +2,4 @@
 pub mod Limits
 pub mod Term
 pub mod Size
-pub mod Packed
-pub mod Table
-pub mod Descent
-pub mod Bound
+pub mod Memory

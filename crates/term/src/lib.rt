@@ -15,10 +15,7 @@ ghost use Rattle.formula.specs.Formula.{Formula, build, tree, formula, InRange}
 ghost use Rattle.term.specs.Limits.{maxTerms, tablePlaces};
 ghost use Rattle.term.specs.Term.{cover, terms};
 ghost use Rattle.term.specs.Size.{sizeCheck, checked, Ready};
-ghost use Rattle.term.specs.Packed.{IsPacked, IsTerms, IsCover};
-ghost use Rattle.term.specs.Table.{TermRows};
-ghost use Rattle.term.specs.Descent.{Kept, FoundCover, StoresRow, Keeps};
-ghost use Rattle.term.specs.Bound.{coverBound, BoundedBelow};
+ghost use Rattle.term.specs.Memory.{IsPacked, IsTerms, IsCover, TermRows, Kept, FoundCover, StoresRow, Keeps, coverBound, BoundedBelow};
 
 // The number of document 01 by which a rule with too many terms or cover sets is refused.
 pub const TOO_MANY_TERMS: u8 = 20;

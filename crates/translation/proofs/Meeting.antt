@@ -15,7 +15,7 @@ use Rattle.generalized.specs.Limits.{maxGeneralizedTransitions, maxGeneralizedS
 use Rattle.generalized.specs.Explore.{find, meet}
 use Rattle.generalized.proofs.Exploring.{meet-seen, meet-next, meet-full, all-full, all-next, all-met}
 use Rattle.automaton.specs.Limits.{maxStates}
-use Rattle.translation.specs.declared.State.{State}
+use Rattle.translation.specs.declared.StateNumber.{StateNumber}
 use Rattle.translation.specs.declared.Paired.{Paired}
 use Rattle.translation.specs.declared.Paired.the-variants.{Count, Full}
 use Rattle.generalized.specs.Memory.{keptTarget}
@@ -97,7 +97,7 @@ module _ (transitions : List ℕ) (r level from end place : ℕ) (all : (count :
     left-is : (count : ℕ) → meetAllN place (count + (i - from)) (x ∷ map (λ j. targetN r level (getD transitions j 0)) (range (end - (i + 1)) (i + 1))) (take k pairs) ≡ all count
     left-is count = rw (is, ← inv .left count, range-next end i lt)
 
-    pub meeting-full : {at : State} → met ≡ Full at → (count : ℕ) → Pairs (all count) met pairs′ index′
+    pub meeting-full : {at : StateNumber} → met ≡ Full at → (count : ℕ) → Pairs (all count) met pairs′ index′
     meeting-full e count = rw (e, ← left-is count) (all-full eqb maxStates 24 (λ _ _. fine) place _ _ (count + (i - from)) (take k pairs) refl (rw e at meets))
 
     pub meeting-steps : {more : ℕ} → met ≡ Count more → Meeting transitions r level from end place all pairs′ index′ more (i + 1)

@@ -15,7 +15,7 @@ use Rattle.sets.proofs.Members.{map-in}
 use Rattle.formula.specs.Limits.{maxUntils}
 use Rattle.generalized.proofs.Exploring.{explore-next, explore-refused, explore-ends}
 use Rattle.automaton.specs.Limits.{maxStates}
-use Rattle.translation.specs.declared.State.{State}
+use Rattle.translation.specs.declared.StateNumber.{StateNumber}
 use Rattle.translation.specs.declared.Paired.{Paired}
 use Rattle.translation.specs.declared.Paired.the-variants.{Count, Full}
 use Rattle.generalized.specs.Memory.{keptTarget}
@@ -66,7 +66,7 @@ module _ (ends transitions : List ℕ) (r : ℕ) (all : Result (List ℕ)) (pair
     now-is : Pairs (meetAllN place (inv .count) (targetsN ends transitions r (getD (take k pairs) place 0)) (take k pairs)) met pairs′ index′
     now-is = rw (getD-take k pairs place 0 lt) (meets (inv .count))
 
-    pub pairing-full : {at : State} → met ≡ Full at → Pairs all met pairs′ index′
+    pub pairing-full : {at : StateNumber} → met ≡ Full at → Pairs all met pairs′ index′
     pairing-full e =
         rw (e, ← inv .left, fuel) (explore-refused eqb maxStates 24 (λ _ _. fine) 0 (targetsN ends transitions r) (λ _ _. fine) (maxStates - suc place) place (inv .count) (take k pairs) inside (rw e at now-is))
 

@@ -22,7 +22,7 @@ use Rattle.generalized.specs.Limits.{maxGeneralizedTransitions, maxGeneralizedS
 use Rattle.generalized.specs.Explore.{find}
 use Rattle.generalized.specs.Generalized.{transitions, generalized}
 use Rattle.acceptance.specs.Acceptance.{untilCount}
-use Rattle.translation.specs.declared.State as Number
+use Rattle.translation.specs.declared.StateNumber.{StateNumber}
 use Rattle.translation.specs.declared.Paired.{Paired}
 use Rattle.translation.specs.declared.Paired.the-variants.{Count, Full}
 use Rattle.automaton.specs.Automaton.{Transition, State, Automaton}
@@ -183,7 +183,7 @@ module _ {rule : List ℕ} {initial : ℕ} {kepts ends : List ℕ} {r : ℕ} {pa
     explored-is : Pairs (exploreN ends kepts r maxStates 0 0 (starts initial)) met pairs index
     explored-is = rw (← b .start) met-is
 
-    pub full-is : {at : Number.State} → met ≡ Full at → {o : Outcome} (s t i : List ℕ) → o ≡ stored (refused 24 (at .0)) s t i → o ≡ stored (andThen (generalized rule) (secondWalk rule)) s t i
+    pub full-is : {at : StateNumber} → met ≡ Full at → {o : Outcome} (s t i : List ℕ) → o ≡ stored (refused 24 (at .0)) s t i → o ≡ stored (andThen (generalized rule) (secondWalk rule)) s t i
     full-is {at} e s t i done =
         let full : exploreN ends kepts r maxStates 0 0 (starts initial) ≡ refused 24 (at .0) = rw e at explored-is in
         done ∙ rw (b .walked-first .found, walk-is, full)

@@ -39,7 +39,8 @@ pub record FirstWalk (rule : List ℕ) (initial : ℕ) (transitions ends : List 
   pub found : generalized rule ≡ accepted states
   pub begun : initial ≡ length (cover (formula rule))
   pub most : length (allTransitions rule states) ≤ maxGeneralizedTransitions
-  pub listed : take (length (allTransitions rule states)) transitions ≡ map (kept rule states) (allTransitions rule states)
+  pub listed :
+      take (length (allTransitions rule states)) transitions ≡ map (kept rule states) (allTransitions rule states)
   pub ending : (s : ℕ) → s < length states → getD ends s 0 ≡ length (allTransitions rule (take (suc s) states))
 
 -- count numbers, the first is from
@@ -139,7 +140,8 @@ pub record PairRows (ends transitions : List ℕ) (r : ℕ) (codes : List ℕ) :
   pub listed : InRows ends codes
   pub size : length transitions ≡ maxGeneralizedTransitions
   pub levels : r ≤ maxUntils
-  pub closed : (s : ℕ) → s < listed .states → (i : ℕ) → i < getD ends s 0 → keptTarget (getD transitions i 0) < listed .states
+  pub closed :
+      (s : ℕ) → s < listed .states → (i : ℕ) → i < getD ends s 0 → keptTarget (getD transitions i 0) < listed .states
 
 -- n pairs are numbered: their codes stand by number in pairs, and index has for each code one more than its pair's
 -- number, or 0 where the pair has none
@@ -147,11 +149,15 @@ pub record PairsNumbered (pairs index : List ℕ) (n : ℕ) : Type 0 where
   pub room : length pairs ≡ maxStates
   pub size : length index ≡ codePlaces
   pub few : n ≤ maxStates
-  pub number : (code : ℕ) → code < codePlaces → getD index code 0 ≡ cond (ltb (find eqb code (take n pairs)) n) (suc (find eqb code (take n pairs))) 0
+  pub number :
+      (code : ℕ) → code < codePlaces
+      → getD index code 0 ≡ cond (ltb (find eqb code (take n pairs)) n) (suc (find eqb code (take n pairs))) 0
 
 -- every target of the pairs codes has a number
 abbrev pub Closed : (ends transitions : List ℕ) (r : ℕ) (index codes : List ℕ) → Type 0
-Closed ends transitions r index codes = (code : ℕ) → In code codes → (x : ℕ) → In x (targetsN ends transitions r code) → (0 < getD index x 0) × (getD index x 0 ≤ maxStates)
+Closed ends transitions r index codes =
+    (code : ℕ) → In code codes → (x : ℕ) → In x (targetsN ends transitions r code)
+    → (0 < getD index x 0) × (getD index x 0 ≤ maxStates)
 
 -- pairs met: how many are numbered then, or that there is one too many, and the pair being walked
 abbrev pub Pairs : (met : Result (List ℕ)) → Paired → (pairs index : List ℕ) → Type 0

@@ -8,7 +8,7 @@ use automaton::INITIAL_BYTES;
 use automaton::MAX_STATES;
 use automaton::STATES_BYTES;
 use automaton::TRANSITIONS_BYTES;
-use generalized::GeneralizedState;
+use generalized::GeneralizedNumber;
 use generalized::Walked;
 ghost use mathlib.Core.Path.{_≡_};
 ghost use mathlib.Core.Bool.{cond};
@@ -44,7 +44,7 @@ const LEVEL_PLACES: usize = 16;
 const CODE_PLACES: usize = generalized::MAX_STATES * LEVEL_PLACES;
 
 // A state's number in the automaton; the first walk's states have numbers of another type.
-pub struct State(pub usize);
+pub struct StateNumber(pub usize);
 
 // The answer of translate: how many states, transitions and initial states, or a refusal's number and place.
 pub enum Translated {
@@ -55,7 +55,7 @@ pub enum Translated {
 // What the second walk comes to: how many pairs, or that there is one too many, and the pair being walked.
 enum Paired {
     Count(usize),
-    Full(State),
+    Full(StateNumber),
 }
 
 // The level reached from one on: one more for each until in the set, up to the first that is not.
@@ -85,17 +85,17 @@ fn next_level(untils: u64, r: usize, level: usize) -> usize
 }
 
 // A pair as one number.
-fn code_of(state: GeneralizedState, level: usize) -> usize
+fn code_of(state: GeneralizedNumber, level: usize) -> usize
     requires { ⌜ (state .0 < maxGeneralizedStates) × (level < levelPlaces) ⌝ }
     ensures { λ c. ⌜ c ≡ codeOf (state .0) level ⌝ }
 {
     state.0 * LEVEL_PLACES + level
 }
 
-fn state_of(code: usize) -> GeneralizedState
+fn state_of(code: usize) -> GeneralizedNumber
     ensures { λ s. ⌜ s .0 ≡ code / levelPlaces ⌝ }
 {
-    GeneralizedState(code / LEVEL_PLACES)
+    GeneralizedNumber(code / LEVEL_PLACES)
 }
 
 fn level_of(code: usize) -> usize
@@ -105,7 +105,7 @@ fn level_of(code: usize) -> usize
 }
 
 // Where the transitions of a state begin.
-fn row_start(ends: &[usize], state: GeneralizedState) -> usize
+fn row_start(ends: &[usize], state: GeneralizedNumber) -> usize
     requires { ⌜ state .0 < length (now ends) ⌝ }
     ensures { λ i. ⌜ i ≡ rowStart (now (ends .entry)) (state .0) ⌝ }
 {
@@ -117,7 +117,7 @@ fn row_start(ends: &[usize], state: GeneralizedState) -> usize
 }
 
 // Where they end.
-fn row_end(ends: &[usize], state: GeneralizedState) -> usize
+fn row_end(ends: &[usize], state: GeneralizedNumber) -> usize
     requires { ⌜ state .0 < length (now ends) ⌝ }
     ensures { λ i. ⌜ i ≡ getD (now (ends .entry)) (state .0) 0 ⌝ }
 {
@@ -152,13 +152,19 @@ fn start_pairs(pairs: &mut [usize], index: &mut [u8], n: usize)
 {
     let mut i = 0;
     while i < n {
-        add_pair(pairs, index, i, code_of(GeneralizedState(i), 0));
+        add_pair(pairs, index, i, code_of(GeneralizedNumber(i), 0));
         i += 1;
     }
 }
 
 // A pair met from another one, when n are numbered: an unseen one takes the next number, if there is one.
-fn meet_pair(pairs: &mut [usize], index: &mut [u8], n: usize, code: usize, from: State) -> Paired
+fn meet_pair(
+    pairs: &mut [usize],
+    index: &mut [u8],
+    n: usize,
+    code: usize,
+    from: StateNumber,
+) -> Paired
     requires { ⌜ PairsNumbered (now pairs) (now index) n × (code < codePlaces) ⌝ }
     ensures { λ met. ⌜ Pairs (meet eqb maxStates 24 (from .0) code (take n (now (pairs .entry)))) met (now (pairs .exit)) (now (index .exit)) ⌝ }
 {
@@ -180,7 +186,7 @@ fn meet_row(
     pairs: &mut [usize],
     index: &mut [u8],
     n: usize,
-    pair: State,
+    pair: StateNumber,
 ) -> Paired
     requires { ⌜ PairRows (now ends) (now transitions) r (take n (now pairs)) × PairsNumbered (now pairs) (now index) n × (pair .0 < n) ⌝ }
     ensures { λ met. ⌜ ((count : ℕ) → Pairs (meetAllN (pair .0) count (targetsN (now (ends .entry)) (now (transitions .entry)) r (getD (now (pairs .entry)) (pair .0) 0)) (take n (now (pairs .entry)))) met (now (pairs .exit)) (now (index .exit))) ⌝ }
@@ -215,14 +221,14 @@ fn explore_pairs(
     ensures { λ met. ⌜ Pairs (exploreN (now (ends .entry)) (now (transitions .entry)) r maxStates 0 0 (take n (now (pairs .entry)))) met (now (pairs .exit)) (now (index .exit)) ⌝ }
 {
     let mut k = n;
-    let mut pair = State(0);
+    let mut pair = StateNumber(0);
     while pair.0 < k {
         let met = meet_row(ends, transitions, r, pairs, index, k, pair);
         let Paired::Count(more) = met else {
             return met;
         };
         k = more;
-        pair = State(pair.0 + 1);
+        pair = StateNumber(pair.0 + 1);
     }
     Paired::Count(k)
 }
@@ -243,7 +249,7 @@ fn flag(accepting: bool) -> u8
 }
 
 // The record of a state: how many transitions it has, and whether it accepts.
-fn put_state(table: &mut [u8], state: State, count: usize, accepting: bool)
+fn put_state(table: &mut [u8], state: StateNumber, count: usize, accepting: bool)
     requires { ⌜ (state .0 * 4 + 4 ≤ length (now table)) × (count < 65536) ⌝ }
     ensures { λ _. ⌜ now (table .exit) ≡ sets (now (table .entry)) (state .0 * 4) (stateBytes count accepting) ⌝ }
 {
@@ -254,7 +260,7 @@ fn put_state(table: &mut [u8], state: State, count: usize, accepting: bool)
 }
 
 // The record of transition number k, a transition of the first walk with its target among the pairs.
-fn put_transition(table: &mut [u8], k: usize, transition: u64, target: State)
+fn put_transition(table: &mut [u8], k: usize, transition: u64, target: StateNumber)
     requires { ⌜ (k * 4 + 4 ≤ length (now table)) × (target .0 < 65536) ⌝ }
     ensures { λ _. ⌜ now (table .exit) ≡ sets (now (table .entry)) (k * 4) (transitionBytes (keptMust transition) (keptMustNot transition) (target .0)) ⌝ }
 {
@@ -265,7 +271,7 @@ fn put_transition(table: &mut [u8], k: usize, transition: u64, target: State)
 }
 
 // Entry i of the initial states.
-fn put_initial(table: &mut [u8], i: usize, state: State)
+fn put_initial(table: &mut [u8], i: usize, state: StateNumber)
     requires { ⌜ (i * 2 + 2 ≤ length (now table)) × (state .0 < 65536) ⌝ }
     ensures { λ _. ⌜ now (table .exit) ≡ sets (now (table .entry)) (i * 2) (twoBytes (state .0)) ⌝ }
 {
@@ -273,11 +279,11 @@ fn put_initial(table: &mut [u8], i: usize, state: State)
 }
 
 // The number of a pair that has one.
-fn pair_number(index: &[u8], code: usize) -> State
+fn pair_number(index: &[u8], code: usize) -> StateNumber
     requires { ⌜ (code < length (now index)) × (0 < getD (now index) code 0) ⌝ }
     ensures { λ s. ⌜ s .0 ≡ numberN (now (index .entry)) code ⌝ }
 {
-    State(answer::wide(index[code]) - 1)
+    StateNumber(answer::wide(index[code]) - 1)
 }
 
 // The records of all pairs, as states of the automaton.
@@ -285,14 +291,14 @@ fn write_states(table: &mut [u8], ends: &[usize], r: usize, pairs: &[usize])
     requires { ⌜ InRows (now ends) (now pairs) × (length (now pairs) * 4 ≤ length (now table)) ⌝ }
     ensures { λ _. ⌜ now (table .exit) ≡ filled (now (table .entry)) (numberedRecords (pairBytes (now (ends .entry)) r) 0 (now (pairs .entry))) ⌝ }
 {
-    let mut pair = State(0);
+    let mut pair = StateNumber(0);
     while pair.0 < pairs.len() {
         let number = pair.0;
         let code = pairs[number];
         let start = row_start(ends, state_of(code));
         let end = row_end(ends, state_of(code));
         put_state(table, pair, end - start, level_of(code) == r);
-        pair = State(pair.0 + 1);
+        pair = StateNumber(pair.0 + 1);
     }
     zero_behind(table, pairs.len() * 4);
 }
@@ -352,7 +358,7 @@ fn write_initial(table: &mut [u8], n: usize)
 {
     let mut i = 0;
     while i < n {
-        put_initial(table, i, State(i));
+        put_initial(table, i, StateNumber(i));
         i += 1;
     }
     zero_behind(table, n * 2);
@@ -421,7 +427,7 @@ fn build(rule: &[u8], states: &mut [u8], transitions: &mut [u8], initial: &mut [
     let walked = generalized::walk(rule, &table, &mut sets, &mut kept, &mut ends);
     match walked {
         Walked::Refused(number, place) => refuse(number, place, states, transitions, initial),
-        Walked::Counts(first, _, _) => degeneralize(
+        Walked::Accepted(first, _, _) => degeneralize(
             rule,
             first,
             &kept,

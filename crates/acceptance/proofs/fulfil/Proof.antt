@@ -8,7 +8,7 @@ use mathlib.Core.List.{List, [], _∷_, map, map-append}
 use Prim.Native.Nat.{ℕ, _+_, _-_, _≤_, _<_}
 use lib.ListN.{length, getD, take, set, length-set}
 use lib.Seq.{take-suc, take-suc-set}
-use Rattle.term.specs.Packed.{unpack}
+use Rattle.term.specs.Memory.{unpack}
 use Rattle.acceptance.specs.Acceptance.{fulfilment}
 use Rattle.acceptance.proofs.fulfil.Statement.{statement}
 use Rattle.acceptance.proofs.fulfil.Tie as tie

@@ -14,8 +14,7 @@ use Rattle.formula.specs.Rule.{nodeCount, untils}
 use Rattle.formula.proofs.Accepted.{accepted-fine}
 use Rattle.formula.proofs.Trees.{accepted-in-range}
 use Rattle.term.specs.Limits.{rowPlaces}
-use Rattle.term.specs.Packed.{unpack}
-use Rattle.term.specs.Table.{rowOf}
+use Rattle.term.specs.Memory.{unpack, rowOf}
 use Rattle.term.proofs.Rows.{row-is, row-fits}
 use Rattle.acceptance.specs.Acceptance.{fulfilsNext, bitsOf, fulfilment}
 use Rattle.acceptance.specs.Memory.{Known, fulfilsN}

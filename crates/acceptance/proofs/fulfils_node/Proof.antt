@@ -8,7 +8,7 @@ use mathlib.Core.List.{List}
 use Prim.Native.Nat.{ℕ, suc, _+_, _-_, _*_}
 use lib.ListN.{getD, take, drop}
 use Rattle.term.specs.Limits.{rowPlaces}
-use Rattle.term.specs.Table.{rowOf}
+use Rattle.term.specs.Memory.{rowOf}
 use Rattle.acceptance.specs.Memory.{fulfilsN}
 use Rattle.acceptance.proofs.fulfils_node.Statement.{statement}
 use Rattle.acceptance.proofs.fulfils_node.Tie as tie

@@ -11,7 +11,7 @@ use lib.Seq.{take-suc, take-take, take-at, length-take-le}
 use Rattle.sets.specs.Sets.{Stores, insertProductN}
 use Rattle.sets.proofs.Stores.{empty, items-are}
 use Rattle.term.specs.Limits.{rowPlaces}
-use Rattle.term.specs.Table.{rowOf}
+use Rattle.term.specs.Memory.{rowOf}
 use Rattle.generalized.specs.Limits.{maxProduct}
 use Rattle.generalized.specs.Memory.{Factor}
 use Rattle.generalized.proofs.times.Statement.{statement}

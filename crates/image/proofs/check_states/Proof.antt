@@ -4,7 +4,7 @@ use borrow.Author.Needs.{needs}
 use native.Mathlib.Omega.{arith}
 use Prim.Native.Nat.{_-_}
 use mathlib.Core.Path.{sym, ap, _∙_}
-use Rattle.image.specs.Steps.{stateAnswer}
+use Rattle.image.specs.Memory.{stateAnswer}
 use Rattle.image.proofs.Sums.{Summing, sum-begins, sum-steps, sum-fails, sum-differs, sum-agrees}
 use Rattle.image.proofs.check_states.Statement.{statement}
 use Rattle.image.proofs.check_states.Tie as tie

@@ -4,7 +4,7 @@ use borrow.Author.Needs.{needs}
 use native.Mathlib.Omega.{arith}
 use Prim.Native.Nat.{_-_}
 use mathlib.Core.Path.{_≡_}
-use Rattle.judge.specs.RunBits.{Via}
+use Rattle.judge.specs.Memory.{Via}
 use Rattle.judge.proofs.Gathers.{Gathering, gather-begins, gather-steps, gather-ends}
 use Rattle.judge.proofs.Closure.{through, turn-through, all-through}
 use Rattle.judge.proofs.join_through.Statement.{statement}

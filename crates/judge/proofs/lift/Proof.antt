@@ -4,7 +4,7 @@ use borrow.Author.Needs.{needs}
 use native.Mathlib.Omega.{arith}
 use Prim.Native.Nat.{_-_}
 use mathlib.Core.Path.{_≡_}
-use Rattle.judge.specs.RunBits.{Token, Lifted}
+use Rattle.judge.specs.Memory.{Token, Lifted}
 use Rattle.image.specs.Lookup.{AcceptingByte}
 use Rattle.judge.proofs.Gathers.{Gathering, gather-begins, gather-steps, gather-ends}
 use Rattle.judge.proofs.Turns.{all-lifted}

@@ -3,7 +3,7 @@
 use borrow.Author.Needs.{needs}
 use native.Mathlib.Omega.{arith}
 use Prim.Native.Nat.{_-_}
-use Rattle.judge.specs.RunBits.{Started}
+use Rattle.judge.specs.Memory.{Started}
 use Rattle.judge.proofs.Decisions.{Missing, miss-begins, miss-steps, miss-finds, miss-ends}
 use Rattle.judge.proofs.some_started.Statement.{statement}
 use Rattle.judge.proofs.some_started.Tie as tie

@@ -5,7 +5,7 @@ use mathlib.Core.Bool.{Bool, true, false, not}
 use mathlib.Core.List.{List}
 use Prim.Native.Nat.{ℕ, _+_}
 use Rattle.judge.specs.Limits.{startBit, metBit}
-use Rattle.judge.specs.RunBits.{Token, Tells, Started}
+use Rattle.judge.specs.Memory.{Token, Tells, Started}
 use Rattle.judge.proofs.Decisions.{false-true, true-false, decided-not, decided-so, holds-not, holds-so, both-so}
 use borrow.Author.Needs.{needs}
 use Rattle.judge.proofs.started.Statement.{statement}

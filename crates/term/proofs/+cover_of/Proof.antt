@@ -11,7 +11,7 @@ use Rattle.formula.proofs.kind_of.Reads as kind-of-reads
 use Rattle.formula.proofs.left_of.Reads as left-of-reads
 use Rattle.formula.proofs.right_of.Reads as right-of-reads
 use Rattle.term.specs.Term.{cover}
-use Rattle.term.specs.Packed.{IsCover}
+use Rattle.term.specs.Memory.{IsCover}
 use Rattle.term.proofs.Sizes.{own-node, ready-small, ready-below}
 use Rattle.term.proofs.Descending.{found-cover, pair-cover}
 use Rattle.term.proofs.cover_of.Reads as cover-of

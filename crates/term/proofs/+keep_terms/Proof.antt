@@ -14,7 +14,7 @@ use Rattle.formula.proofs.kind_of.Reads as kind-of-reads
 use Rattle.formula.proofs.left_of.Reads as left-of-reads
 use Rattle.formula.proofs.right_of.Reads as right-of-reads
 use Rattle.term.specs.Term.{cover, terms}
-use Rattle.term.specs.Packed.{pack, packSet, IsTerms}
+use Rattle.term.specs.Memory.{pack, packSet, IsTerms}
 use Rattle.term.proofs.ByKind.{of-next}
 use Rattle.term.proofs.Sizes.{own-node, ready-small, ready-below, ready-in-range}
 use Rattle.term.proofs.Descending.{found-terms, next-terms, pair-terms}

@@ -5,7 +5,7 @@ use native.Mathlib.Omega.{arith}
 use lib.ListN.{length-map}
 use Rattle.formula.specs.Formula.{tree}
 use Rattle.term.specs.Term.{cover}
-use Rattle.term.specs.Packed.{packSet}
+use Rattle.term.specs.Memory.{packSet}
 use Rattle.term.proofs.Sizes.{ready-small, fine-few, over-own}
 use Rattle.term.proofs.Bounds.{cover-bounded}
 use Rattle.term.proofs.check_size.Statement.{statement}

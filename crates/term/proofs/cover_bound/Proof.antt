@@ -5,7 +5,7 @@ use native.Mathlib.Omega.{arith}
 use mathlib.Core.Path.{_≡_, refl, sym}
 use Rattle.formula.specs.Formula.{tree}
 use Rattle.formula.proofs.Trees.{left-below, right-below, leaf-in, pair-in}
-use Rattle.term.specs.Bound.{coverBound}
+use Rattle.term.specs.Memory.{coverBound}
 use Rattle.term.proofs.Sizes.{own-node, ready-small}
 use Rattle.term.proofs.Bounds.{bound-most, bound-leaf}
 use Rattle.term.proofs.cover_bound.Statement.{statement}

@@ -8,13 +8,14 @@ use Rattle.automaton.specs.Limits.{maxStates, maxTransitions, maxInitial, state
 use Rattle.automaton.specs.Tables.{Counts}
 use Rattle.answer.specs.Bytes.{filled}
 use Rattle.image.specs.declared.StateCount.{StateCount}
-use Rattle.image.specs.declared.StateCount.the-variants.{Count, Refused}
+use Rattle.image.specs.declared.StateCount.the-variants.{Accepted, Refused}
 use Rattle.image.specs.Image.{imageLength, contents, statesBody, transitionsBody, initialBody}
 use Rattle.image.specs.Calls.{Buffer, buffer}
 
 -- the bytes of a written image: the contents, then the used bytes of three tables
 abbrev pub joinedBodies : Counts → (states transitions initial : List ℕ) → List ℕ
-joinedBodies c s t i = contents c ++ (take (4 * c .states) s ++ (take (4 * c .transitions) t ++ take (2 * c .initial) i))
+joinedBodies c s t i =
+    contents c ++ (take (4 * c .states) s ++ (take (4 * c .transitions) t ++ take (2 * c .initial) i))
 
 -- and the buffer that has them at its start
 abbrev pub joinedOver : Counts → (states transitions initial image : List ℕ) → Buffer
@@ -45,5 +46,5 @@ pub record Loads (image : List ℕ) (c : Counts) (s t i states transitions initi
 
 -- what the check of state record i comes to: its transition count, or 11
 abbrev pub stateAnswer : ℕ → StateCount → Result ℕ
-stateAnswer i (Count n) = accepted n
+stateAnswer i (Accepted n) = accepted n
 stateAnswer i Refused = refused 11 i

@@ -1,0 +1,123 @@
+-- How terms lie in memory: each as one number, those of a node as one value, those of all nodes in one table; and what
+-- the functions that fill the table find on their way.
+use Prim.Native.Nat.{ℕ, suc, _+_, _*_, _/_, _%_, _≤_, min, _<_}
+use mathlib.Core.List.{List, map}
+use mathlib.Core.Logic.{_⊎_}
+use mathlib.Core.Path.{_≡_}
+use lib.ListN.{take, length, getD, drop}
+use Rattle.answer.specs.Result.{fine, lowest}
+use Rattle.formula.specs.Formula.{tree, Formula, bottom, top, proposition, negatedProposition, conjunction, disjunction, next, until, release}
+use Rattle.formula.specs.Rule.{kindAt, leftAt, rightAt}
+use Rattle.term.specs.Limits.{maxTerms, rowPlaces}
+use Rattle.term.specs.Size.{sizeCheck}
+use Rattle.term.specs.Term.{Term, term, cover, terms}
+use Rattle.term.specs.declared.Terms.{Terms}
+use Rattle.term.specs.Term
+
+-- ---- a term as one number, a node's terms as one value
+
+-- obligations, must and mustNot from the top: the order of terms is the order of their numbers
+abbrev pub pack : Term → ℕ
+pack t = t .obligations * 65536 + t .must * 256 + t .mustNot
+
+-- the obligations of a packed term, and the whole term
+abbrev pub obligationsN : ℕ → ℕ
+obligationsN t = t / 65536
+
+abbrev pub unpack : ℕ → Term
+unpack t = term (t / 256 % 256) (t % 256) (obligationsN t)
+
+-- a cover set is packed as the term that asks it of the next letter
+abbrev pub packSet : ℕ → ℕ
+packSet c = c * 65536
+
+-- the first n of places are the numbers ws, or n is one more than capacity and ws has more than that
+pub record Carries (capacity : ℕ) (places : List ℕ) (n : ℕ) (ws : List ℕ) : Type 0 where
+  pub count : n ≡ min (suc capacity) (length ws)
+  pub items : length ws ≤ capacity → take n places ≡ ws
+
+-- the value in which a node's terms, or its cover, are handed on: 64 places and how many of them are used (01,
+-- Duties, covers and terms, sentence 10)
+abbrev pub IsPacked : Terms → List ℕ → Type 0
+IsPacked ts ws = Carries maxTerms (ts .items) (ts .count) ws
+
+abbrev pub IsTerms : Terms → List Term → Type 0
+IsTerms r ts = IsPacked r (map pack ts)
+
+abbrev pub IsCover : Terms → List ℕ → Type 0
+IsCover r cs = IsPacked r (map packSet cs)
+
+-- ---- the terms of all nodes in one table, a row for each node, which begins with how many there are
+
+-- the numbers in row k, as many as the row begins with
+abbrev pub rowOf : (table : List ℕ) (k : ℕ) → List ℕ
+rowOf table k = take (getD table (k * rowPlaces) 0) (drop (suc (k * rowPlaces)) table)
+
+-- the row of node k
+pub record TermRow (rule table : List ℕ) (k : ℕ) : Type 0 where
+  pub count : getD table (k * rowPlaces) 0 ≡ length (Term.terms (tree rule k))
+  pub terms :
+      take (length (Term.terms (tree rule k))) (drop (suc (k * rowPlaces)) table) ≡ map pack (Term.terms (tree rule k))
+
+-- the rows of the first n nodes
+abbrev pub TermRows : (rule table : List ℕ) (n : ℕ) → Type 0
+TermRows rule table n = (k : ℕ) → k < n → TermRow rule table k
+
+-- ---- what a descent from a node to its children finds, and what it leaves in the table
+
+-- node k is n or stands below n
+pub data Reaches (rule : List ℕ) : (n k : ℕ) → Type 0 where
+  here : (n : ℕ) → Reaches rule n n
+  left : (n k : ℕ) → 3 < kindAt rule n → Reaches rule (leftAt rule n) k → Reaches rule n k
+  right : (n k : ℕ) → 3 < kindAt rule n → (kindAt rule n ≡ 6 → ⊥) → Reaches rule (rightAt rule n) k → Reaches rule n k
+
+-- a node up to n is a 20
+abbrev pub Over : (rule : List ℕ) (n : ℕ) → Type 0
+Over rule n = lowest (sizeCheck rule) (suc n) ≡ fine → ⊥
+
+-- r has the numbers ws of node n, or its count is above maxTerms and a node up to n is a 20
+pub record Found (rule : List ℕ) (n : ℕ) (r : Terms) (ws : List ℕ) : Type 0 where
+  pub within : r .count ≤ maxTerms → IsPacked r ws
+  pub over : maxTerms < r .count → Over rule n
+
+abbrev pub FoundTerms : (rule : List ℕ) (n : ℕ) → Terms → Type 0
+FoundTerms rule n r = Found rule n r (map pack (terms (tree rule n)))
+
+abbrev pub FoundCover : (rule : List ℕ) (n : ℕ) → Terms → Type 0
+FoundCover rule n r = Found rule n r (map packSet (cover (tree rule n)))
+
+-- the row of node k says the same of its terms
+pub record Kept (rule table : List ℕ) (k : ℕ) : Type 0 where
+  pub within : getD table (k * rowPlaces) 0 ≤ maxTerms → TermRow rule table k
+  pub over : maxTerms < getD table (k * rowPlaces) 0 → Over rule k
+
+-- after is before with ts in the row of node n
+pub record StoresRow (before : List ℕ) (n : ℕ) (ts : Terms) (after : List ℕ) : Type 0 where
+  pub size : length after ≡ length before
+  pub count : getD after (n * rowPlaces) 0 ≡ ts .count
+  pub items : ts .count ≤ maxTerms → take (ts .count) (drop (suc (n * rowPlaces)) after) ≡ take (ts .count) (ts .items)
+  pub others : (i : ℕ) → (i < n * rowPlaces) ⊎ (suc n * rowPlaces ≤ i) → getD after i 0 ≡ getD before i 0
+
+-- r has the terms of node n, and after the rows of n, of the nodes below it and of those that had theirs before
+pub record Keeps (rule : List ℕ) (n : ℕ) (before : List ℕ) (r : Terms) (after : List ℕ) : Type 0 where
+  pub value : FoundTerms rule n r
+  pub reached : (k : ℕ) → Reaches rule n k → Kept rule after k
+  pub stay : (k : ℕ) → Kept rule before k → Kept rule after k
+
+-- ---- how many sets a cover has at most, without the sets
+
+-- the most sets that the cover of a formula can have by those of its parts; all above maxTerms are one more than that
+unfoldable pub coverBound : Formula → ℕ
+coverBound bottom = 1
+coverBound top = 1
+coverBound (proposition n p) = 1
+coverBound (negatedProposition n p) = 1
+coverBound (conjunction a b) = min (suc maxTerms) (coverBound a * coverBound b)
+coverBound (disjunction a b) = min (suc maxTerms) (coverBound a + coverBound b)
+coverBound (next n a) = 1
+coverBound (until n a b) = 1
+coverBound (release n a b) = 1
+
+-- the bounds of the first n nodes
+abbrev pub BoundedBelow : (rule : List ℕ) (n : ℕ) (bounds : List ℕ) → Type 0
+BoundedBelow rule n bounds = (k : ℕ) → k < n → getD bounds k 0 ≡ coverBound (tree rule k)
