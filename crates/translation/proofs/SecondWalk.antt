@@ -25,7 +25,7 @@ use Rattle.acceptance.specs.Acceptance.{untilCount}
 use Rattle.translation.specs.declared.StateNumber.{StateNumber}
 use Rattle.translation.specs.declared.Paired.{Paired}
 use Rattle.translation.specs.declared.Paired.the-variants.{Count, Full}
-use Rattle.automaton.specs.Automaton.{Transition, State, Automaton}
+use Rattle.automaton.specs.Automaton.{Transition, Automaton}
 use Rattle.automaton.specs.Limits.{maxStates}
 use Rattle.automaton.specs.Records.{records, numbered, numberedRecords, stateBytes, stateRecord, transitionRecord, stateRecords, transitionRecords, initialRecords}
 use Rattle.automaton.specs.Tables.{Counts, transitionCount, outcome, Outcome}
