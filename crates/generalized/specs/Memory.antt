@@ -68,7 +68,8 @@ pub record ListedKept (rule xs : List ℕ) (ts : List Term) (ns : List ℕ) : Ty
 -- ---- a state walked
 
 -- x, met when xs were there: its number, and that count are in items then, xs the first of them
-pub record NumberedState (x : ℕ) (xs : List ℕ) (met : Result (List ℕ)) (number count : ℕ) (items : List ℕ) : Type 0 where
+pub record NumberedState (x : ℕ) (xs : List ℕ) (met : Result (List ℕ)) (number count : ℕ) (items : List ℕ)
+    : Type 0 where
   pub are : met ≡ accepted (take count items)
   pub fits : count ≤ length items
   pub first : take (length xs) (take count items) ≡ xs
@@ -101,7 +102,8 @@ walkState rule place count xs =
     andThen (productCheck rule place (getD xs place 0)) (λ _. meetTargets place (transitionsOf rule xs place) count xs)
 
 -- ts added to the total transitions that were in the table before: n states and m transitions are there then
-pub record Added (rule : List ℕ) (ts : List Term) (total : ℕ) (before : List ℕ) (met : Result (List ℕ)) (n m : ℕ) (states after : List ℕ) : Type 0 where
+pub record Added (rule : List ℕ) (ts : List Term) (total : ℕ) (before : List ℕ) (met : Result (List ℕ))
+    (n m : ℕ) (states after : List ℕ) : Type 0 where
   pub are : met ≡ accepted (take n states)
   pub few : n ≤ maxGeneralizedStates
   pub counted : m ≡ total + length ts
@@ -109,7 +111,8 @@ pub record Added (rule : List ℕ) (ts : List Term) (total : ℕ) (before : List
   pub same : take total after ≡ take total before
   pub listed : ListedKept rule (take n states) ts (take (length ts) (drop total after))
 
-abbrev pub AddsTransitions : (rule : List ℕ) (ts : List Term) (total : ℕ) (before : List ℕ) (met : Result (List ℕ)) → Step → (states after : List ℕ) → Type 0
+abbrev pub AddsTransitions : (rule : List ℕ) (ts : List Term) (total : ℕ) (before : List ℕ) (met : Result (List ℕ))
+    → Step → (states after : List ℕ) → Type 0
 AddsTransitions rule ts total before met (On n m) states after = Added rule ts total before met n m states after
 AddsTransitions rule ts total before met (Stop number place) states after = met ≡ refused number place
 

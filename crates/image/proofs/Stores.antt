@@ -1,10 +1,10 @@
 -- What stores leave in a slice: copies, zeros, and parts that were lent. Assumes nothing.
 use mathlib.Core.Path.{_≡_, refl, _∙_}
 use mathlib.Core.List.{List, [], _∷_, _++_, append-nil, append-assoc}
-use Prim.Native.Nat.{ℕ, _+_, _-_, _*_, _/_, _%_, _≤_, _<_}
+use Prim.Native.Nat.{ℕ, _+_, _-_, _*_, _/_, _%_, _≤_}
 use native.Mathlib.Omega.{arith}
-use lib.ListN.{length, take, drop, set, replicate, length-append, length-drop, drop-of-length-le}
-use lib.Seq.{sets-eq, take-all, take-at, drop-at, drop-drop, length-take-le}
+use lib.ListN.{length, take, drop, replicate, length-append, length-drop, drop-of-length-le}
+use lib.Seq.{sets, sets-eq, take-all, take-at, drop-at, drop-drop, length-take-le}
 use borrow.Rule.Slice.PartMut.{midOf, putMid}
 use Rattle.answer.specs.Bytes.{twoBytes, filled}
 use Rattle.automaton.specs.Tables.{Counts}
@@ -13,14 +13,11 @@ use Rattle.image.specs.Image.{entry, transitionsAt, initialAt, imageLeng
 use Rattle.image.specs.Calls.{buffer}
 use Rattle.image.specs.Memory.{joinedOver}
 
--- six stores are an entry of the contents
-pub entry-stored : (xs : List ℕ) (kind count offset : ℕ) → 6 ≤ length xs → kind < 256
-    → set (set (set (set (set (set xs 0 kind) 1 0) 2 (count % 256)) 3 (count / 256)) 4 (offset % 256)) 5 (offset / 256) ≡ entry kind count offset ++ drop 6 xs
+-- three numbers are an entry of the contents
+pub entry-stored : (xs : List ℕ) (kind count offset : ℕ) → 6 ≤ length xs → sets (sets (sets xs 0 (twoBytes kind)) 2 (twoBytes count)) 4 (twoBytes offset) ≡ entry kind count offset ++ drop 6 xs
 unfolding entry twoBytes
-entry-stored xs kind count offset le lt =
-    let low : kind % 256 ≡ kind = omega arith in
-    let high : kind / 256 ≡ 0 = omega arith in
-    rw (low, high) (sets-eq (kind ∷ (0 ∷ (count % 256 ∷ (count / 256 ∷ (offset % 256 ∷ (offset / 256 ∷ [])))))) xs 0 le)
+entry-stored xs kind count offset le =
+    sets-eq (kind % 256 ∷ (kind / 256 ∷ (count % 256 ∷ (count / 256 ∷ (offset % 256 ∷ (offset / 256 ∷ [])))))) xs 0 le
 
 -- the part from a on of what begins with p is what was there
 module _ (p rest xs : List ℕ) (a : ℕ) (size : length p ≡ a) (whole : xs ≡ p ++ rest) where

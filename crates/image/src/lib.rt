@@ -359,16 +359,13 @@ pub fn read(image: &[u8], states: &mut [u8], transitions: &mut [u8], initial: &m
 }
 
 // An entry of the table of contents in the first six bytes.
-fn write_entry(bytes: &mut [u8], kind: u8, count: usize, offset: usize)
-    requires { ⌜ (entryBytes ≤ length (now bytes)) × (count < 65536) × (offset < 65536) ⌝ }
+fn write_entry(bytes: &mut [u8], kind: usize, count: usize, offset: usize)
+    requires { ⌜ (entryBytes ≤ length (now bytes)) × (kind < 65536) × (count < 65536) × (offset < 65536) ⌝ }
     ensures { λ _. ⌜ now (bytes .exit) ≡ entry kind count offset ++ drop entryBytes (now (bytes .entry)) ⌝ }
 {
-    bytes[0] = kind;
-    bytes[1] = 0;
-    bytes[2] = (count % 256) as u8;
-    bytes[3] = (count / 256) as u8;
-    bytes[4] = (offset % 256) as u8;
-    bytes[5] = (offset / 256) as u8;
+    answer::put_number(bytes, 0, kind);
+    answer::put_number(bytes, 2, count);
+    answer::put_number(bytes, 4, offset);
 }
 
 // The table of contents at the start.

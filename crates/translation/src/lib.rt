@@ -421,10 +421,10 @@ fn build(rule: &[u8], states: &mut [u8], transitions: &mut [u8], initial: &mut [
     if let Checked::Refused(number, place) = sizes {
         return refuse(number, place, states, transitions, initial);
     }
-    let mut sets = [0u64; generalized::MAX_STATES];
+    let mut found = [0u64; generalized::MAX_STATES];
     let mut kept = [0u64; generalized::MAX_TRANSITIONS];
     let mut ends = [0usize; generalized::MAX_STATES];
-    let walked = generalized::walk(rule, &table, &mut sets, &mut kept, &mut ends);
+    let walked = generalized::walk(rule, &table, &mut found, &mut kept, &mut ends);
     match walked {
         Walked::Refused(number, place) => refuse(number, place, states, transitions, initial),
         Walked::Accepted(first, _, _) => degeneralize(
