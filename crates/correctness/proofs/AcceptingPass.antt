@@ -8,7 +8,7 @@ use lib.ListN.{length}
 use Rattle.answer.specs.Result.{accepted}
 use Rattle.lasso.specs.Lasso.{letter}
 use Rattle.formula.specs.Satisfaction.{Satisfies}
-use Rattle.term.specs.Size.{checked}
+use Rattle.term.specs.Size.{sizesChecked}
 use Rattle.generalized.specs.Generalized.{generalized}
 use Rattle.automaton.specs.Automaton.{Automaton, AcceptingPass, Recognizes}
 use Rattle.translation.specs.Degeneralized.{degeneralized, translation}
@@ -26,7 +26,7 @@ pub accepting-pass-iff-satisfied : (rule stem cycle : List ℕ) (a : Automaton) 
     → AcceptingPass a stem cycle ↔ Satisfies rule stem cycle
 unfolding translation Satisfies
 accepting-pass-iff-satisfied rule stem cycle a e pos =
-    let (_, fine, p) = then-accepted (checked rule) _ e in
+    let (_, fine, p) = then-accepted (sizesChecked rule) _ e in
     let (states, first, q) = then-accepted (generalized rule) _ p in
     let (pairs, second, r) = then-accepted (degeneralized rule states) _ q in
     let same : automatonOf rule states pairs ≡ a = cc in

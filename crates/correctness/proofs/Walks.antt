@@ -14,7 +14,7 @@ use borrow.Author.Tests.{eqb-true, eq-eqb}
 use Rattle.answer.specs.Result.{accepted, fine}
 use Rattle.formula.specs.Formula.{formula}
 use Rattle.term.specs.Term.{Term, cover}
-use Rattle.term.specs.Size.{checked}
+use Rattle.term.specs.Size.{sizesChecked}
 use Rattle.generalized.specs.Limits.{maxGeneralizedStates}
 use Rattle.generalized.specs.Explore.{find}
 use Rattle.generalized.specs.Generalized.{transitions, transitionCheck, productCheck, targets, generalized}
@@ -87,7 +87,7 @@ module _ (states : List ℕ) (pairs : List Pair) where
 abbrev pub automatonOf : (rule states : List ℕ) → List Pair → Automaton
 automatonOf rule states pairs = record { states = map (stateOf rule states pairs) pairs; initial = initialNumbers rule }
 
-module _ (rule : List ℕ) (accepted-rule : checked rule ≡ fine) (states : List ℕ) (first : generalized rule ≡ accepted states)
+module _ (rule : List ℕ) (accepted-rule : sizesChecked rule ≡ fine) (states : List ℕ) (first : generalized rule ≡ accepted states)
     (pairs : List Pair) (second : degeneralized rule states ≡ accepted pairs) where
   abbrev count : ℕ
   count = length (cover (formula rule))

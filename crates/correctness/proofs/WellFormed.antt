@@ -8,7 +8,7 @@ use Rattle.answer.specs.Result.{accepted, fine}
 use Rattle.formula.specs.Formula.{formula}
 use Rattle.answer.proofs.Results.{then-accepted}
 use Rattle.term.specs.Term.{Term, cover}
-use Rattle.term.specs.Size.{checked}
+use Rattle.term.specs.Size.{sizesChecked}
 use Rattle.generalized.specs.Generalized.{transitions, generalized}
 use Rattle.generalized.proofs.Passed.{in-range, initial-few, few-transitions}
 use Rattle.automaton.specs.Automaton.{Transition, State, Automaton}
@@ -20,7 +20,7 @@ use Rattle.sets.proofs.Members.{in-at, at-in, map-in}
 use Rattle.correctness.proofs.Labels.{transitions-labelled}
 use Rattle.correctness.proofs.Walks.{numbers-at, automatonOf, Valid, first-walked, second-walked, initial-valid, pairs-known, leads, lands}
 
-module _ (rule : List ℕ) (accepted-rule : checked rule ≡ fine) (states : List ℕ) (first : generalized rule ≡ accepted states)
+module _ (rule : List ℕ) (accepted-rule : sizesChecked rule ≡ fine) (states : List ℕ) (first : generalized rule ≡ accepted states)
     (pairs : List Pair) (second : degeneralized rule states ≡ accepted pairs) where
   state-formed : (k : ℕ) → k < length pairs → WellFormedState (length pairs) (stateOf rule states pairs (getD pairs k (pair 0 0)))
   unfolding stateOf pairTransitions
@@ -74,7 +74,7 @@ module _ (rule : List ℕ) (accepted-rule : checked rule ≡ fine) (states : Lis
 pub translation-well-formed : (rule : List ℕ) (a : Automaton) → translation rule ≡ accepted a → WellFormed a
 unfolding translation
 translation-well-formed rule a e =
-    let (_, fine, p) = then-accepted (checked rule) _ e in
+    let (_, fine, p) = then-accepted (sizesChecked rule) _ e in
     let (states, first, q) = then-accepted (generalized rule) _ p in
     let (pairs, second, r) = then-accepted (degeneralized rule states) _ q in
     let same : automatonOf rule states pairs ≡ a = cc in

@@ -14,7 +14,7 @@ use Rattle.formula.specs.Rule
 use Rattle.formula.specs.Formula.{trees, tree, formula}
 use Rattle.lasso.specs.Lasso.{letter, lassoCheck}
 use Rattle.term.specs.Term.{cover, terms}
-use Rattle.term.specs.Size.{sizeCheck, checked}
+use Rattle.term.specs.Size.{sizeCheck, sizesChecked}
 use Rattle.generalized.specs.Explore.{find, meet, meetAll, explore}
 use Rattle.acceptance.specs.Acceptance.{shows, fulfils}
 use Rattle.generalized.specs.Generalized.{partialProduct, transitions, productCheck, targets, generalized}
@@ -168,7 +168,7 @@ unfolding on state transition table p1 p2 p3 p4 p5 p6 p7 p8 p9 insert union inse
 counts = refl
 
 translations : map (λ row. translation (row .rule)) table ≡ map (λ row. accepted (row .automaton)) table
-unfolding on state transition table p1 p2 p3 p4 p5 p6 p7 p8 p9 insert union insertJoin insertJoins insertProduct any lowest leftOperand rightOperand lengthCheck nodeCheck places placeCheck syntaxCheck untils untilCheck Rule.checked trees tree formula cover terms sizeCheck checked find meet meetAll explore partialProduct transitions productCheck targets generalized shows fulfils climb nextLevel numbers initialNumbers pairTransitions target degeneralized stateOf translation
+unfolding on state transition table p1 p2 p3 p4 p5 p6 p7 p8 p9 insert union insertJoin insertJoins insertProduct any lowest leftOperand rightOperand lengthCheck nodeCheck places placeCheck syntaxCheck untils untilCheck Rule.checked trees tree formula cover terms sizeCheck sizesChecked find meet meetAll explore partialProduct transitions productCheck targets generalized shows fulfils climb nextLevel numbers initialNumbers pairTransitions target degeneralized stateOf translation
 translations = refl
 
 images : map (λ row. map (λ image. imageBytes (row .automaton)) (row .images)) table ≡ map (λ row. map (λ image. image) (row .images)) table

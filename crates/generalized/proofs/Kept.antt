@@ -11,7 +11,7 @@ use Rattle.formula.specs.Rule.{nodeCount}
 use Rattle.sets.specs.Sets.{In}
 use Rattle.sets.proofs.Members.{append-in}
 use Rattle.term.specs.Term.{Term}
-use Rattle.term.specs.Size.{checked}
+use Rattle.term.specs.Size.{sizesChecked}
 use Rattle.term.proofs.Sizes.{bytes-fine}
 use Rattle.term.proofs.Packing.{Numbers, none, more, Bytes, of-terms}
 use Rattle.acceptance.specs.Acceptance.{fulfilment}
@@ -27,7 +27,7 @@ numbers-bytes none t h = absurd h
 numbers-bytes (more u own rest) t (inl e) = subst Bytes (sym e) own
 numbers-bytes (more u own rest) t (inr h) = numbers-bytes rest t h
 
-all-bytes : (rule : List ℕ) → checked rule ≡ fine → (xs : List ℕ) (t : Term) → In t (allTransitions rule xs) → Bytes t
+all-bytes : (rule : List ℕ) → sizesChecked rule ≡ fine → (xs : List ℕ) (t : Term) → In t (allTransitions rule xs) → Bytes t
 unfolding allTransitions transitions
 all-bytes rule passed [] t h = absurd h
 all-bytes rule passed (x ∷ xs) t h =
@@ -40,7 +40,7 @@ pub record Parts (rule states : List ℕ) (t : Term) : Type 0 where
   pub mustNot : keptMustNot (kept rule states t) ≡ t .mustNot
 
 -- of every transition of the states xs
-pub kept-parts : (rule : List ℕ) → checked rule ≡ fine → (xs states : List ℕ) (t : Term) → In t (allTransitions rule xs) → Parts rule states t
+pub kept-parts : (rule : List ℕ) → sizesChecked rule ≡ fine → (xs states : List ℕ) (t : Term) → In t (allTransitions rule xs) → Parts rule states t
 kept-parts rule passed xs states t h =
     let small = all-bytes rule passed xs t h in
     let byte = fulfilment-byte rule (bytes-fine rule passed) t in

@@ -16,12 +16,12 @@ use Rattle.formula.proofs.Accepted.{accepted-fine}
 use Rattle.formula.proofs.Trees.{accepted-in-range}
 use Rattle.term.specs.Limits.{maxTerms}
 use Rattle.term.specs.Term.{cover}
-use Rattle.term.specs.Size.{sizeCheck, checked}
+use Rattle.term.specs.Size.{sizeCheck, sizesChecked}
 use Rattle.term.proofs.Sizes.{Few, few-fine, bytes-fine, sizes-fine}
 use Rattle.generalized.specs.Limits.{maxProduct}
 use Rattle.generalized.specs.Generalized.{partialProduct, transitions, productCheck}
 
-module _ (rule : List ℕ) (passed : checked rule ≡ fine) where
+module _ (rule : List ℕ) (passed : sizesChecked rule ≡ fine) where
   pub some-nodes : 0 < nodeCount rule
   some-nodes = accepted-fine rule (bytes-fine rule passed) .some
 

@@ -20,7 +20,7 @@ use Rattle.sets.specs.Sets.{Stores, insertProductN}
 use Rattle.sets.proofs.Stores.{items-are}
 use Rattle.term.specs.Limits.{tablePlaces}
 use Rattle.term.specs.Term.{Term, terms}
-use Rattle.term.specs.Size.{checked}
+use Rattle.term.specs.Size.{sizesChecked}
 use Rattle.term.specs.Memory.{pack, rowOf, TermRow}
 use Rattle.term.proofs.Packing.{Numbers, of-terms, numbers-are, canonical, product-numbers, owing-numbers, terms-numbers}
 use Rattle.term.proofs.Rising.{product-one}
@@ -45,7 +45,7 @@ partial-packed rule state (suc n) ranges =
     times-packed (has state n) (partial-packed rule state n (λ k lt. ranges k (omega arith))) (terms-numbers (tree rule n) (ranges n (omega arith)))
 
 -- a node's row can be multiplied with
-pub factor-of : (rule table : List ℕ) (k : ℕ) → checked rule ≡ fine → length table ≡ tablePlaces → k < nodeCount rule → TermRow rule table k → Factor table k
+pub factor-of : (rule table : List ℕ) (k : ℕ) → sizesChecked rule ≡ fine → length table ≡ tablePlaces → k < nodeCount rule → TermRow rule table k → Factor table k
 factor-of rule table k passed size lt row = record {
   inside = omega (arith, row-fits row size (omega (arith, most-nodes rule passed)));
   few = omega (arith, row .count, few rule passed k lt .terms);

@@ -15,7 +15,7 @@ use Rattle.formula.specs.Rule.{nodeCount}
 use Rattle.formula.specs.Formula.{formula}
 use Rattle.term.specs.Limits.{maxTerms}
 use Rattle.term.specs.Term.{Term, cover}
-use Rattle.term.specs.Size.{checked}
+use Rattle.term.specs.Size.{sizesChecked}
 use Rattle.term.specs.Memory.{unpack}
 use Rattle.term.proofs.Unpacking.{unpack-all}
 use Rattle.acceptance.specs.Acceptance.{fulfilment}
@@ -37,7 +37,7 @@ module _ (rule states : List ℕ) (place n total : ℕ) (lt : place < n) (items 
   pub state-refused : maxProduct < count → walkState rule place total (take n states) ≡ refused 21 place
   state-refused over = rw (getD-take n states place 0 lt, product .over over place)
 
-  pub state-adds : checked rule ≡ fine → count ≤ maxProduct → (bytes before : List ℕ) (step : Step) (states′ after : List ℕ) → take count bytes ≡ map (fulfilment rule) (map unpack (take count items))
+  pub state-adds : sizesChecked rule ≡ fine → count ≤ maxProduct → (bytes before : List ℕ) (step : Step) (states′ after : List ℕ) → take count bytes ≡ map (fulfilment rule) (map unpack (take count items))
       → ((of : List ℕ) → take count bytes ≡ map (fulfilment of) (map unpack (take count items))
       → AddsTransitions of (map unpack (take count items)) total before (meetTargets place (map unpack (take count items)) total (take n states)) step states′ after)
       → AddsTransitions rule (transitionsOf rule states place) total before (walkState rule place total (take n states)) step states′ after

@@ -13,7 +13,7 @@ ghost use Rattle.formula.specs.Formula.{formula};
 ghost use Rattle.sets.specs.Sets.{Stores, insertProductN};
 ghost use Rattle.term.specs.Limits.{maxTerms, tablePlaces};
 ghost use Rattle.term.specs.Term.{cover};
-ghost use Rattle.term.specs.Size.{checked};
+ghost use Rattle.term.specs.Size.{sizesChecked};
 ghost use Rattle.term.specs.Memory.{unpack, rowOf, TermRows};
 ghost use Rattle.acceptance.specs.Acceptance.{fulfilment};
 ghost use Rattle.acceptance.specs.Memory.{Known};
@@ -157,7 +157,7 @@ fn state_terms(
     product: &mut [u64],
     next: &mut [u64],
 ) -> usize
-    requires { ⌜ (checked (now rule) ≡ fine) × (length (now table) ≡ tablePlaces) × TermRows (now rule) (now table) (nodeCount (now rule)) × (length (now product) ≡ maxProduct) × (length (now next) ≡ maxProduct) ⌝ }
+    requires { ⌜ (sizesChecked (now rule) ≡ fine) × (length (now table) ≡ tablePlaces) × TermRows (now rule) (now table) (nodeCount (now rule)) × (length (now product) ≡ maxProduct) × (length (now next) ≡ maxProduct) ⌝ }
     ensures { λ r. ⌜ Product (now (rule .entry)) obligations (now (product .exit)) r ⌝ }
 {
     let n = rule.len() / 3;
@@ -221,7 +221,7 @@ fn walk_state(
     transitions: &mut [u64],
     before: Extent,
 ) -> Step
-    requires { ⌜ (checked (now rule) ≡ fine) × Known (now rule) (now table) (untils .nodes) (untils .count) × (state .0 < before .states) × WalkRoom (before .states) (before .transitions) (now states) (now transitions) ⌝ }
+    requires { ⌜ (sizesChecked (now rule) ≡ fine) × Known (now rule) (now table) (untils .nodes) (untils .count) × (state .0 < before .states) × WalkRoom (before .states) (before .transitions) (now states) (now transitions) ⌝ }
     ensures { λ r. ⌜ AddsTransitions (now (rule .entry)) (transitionsOf (now (rule .entry)) (now (states .entry)) (state .0)) (before .transitions) (now (transitions .entry)) (walkState (now (rule .entry)) (state .0) (before .transitions) (take (before .states) (now (states .entry)))) r (now (states .exit)) (now (transitions .exit)) ⌝ }
 {
     let at = state.0;
@@ -239,7 +239,7 @@ fn walk_state(
 
 // The root's cover as the first states; their count.
 fn start(rule: &[u8], states: &mut [u64]) -> usize
-    requires { ⌜ (checked (now rule) ≡ fine) × (length (now states) ≡ maxGeneralizedStates) ⌝ }
+    requires { ⌜ (sizesChecked (now rule) ≡ fine) × (length (now states) ≡ maxGeneralizedStates) ⌝ }
     ensures { λ r. ⌜ (take r (now (states .exit)) ≡ cover (formula (now (rule .entry)))) × (r ≤ maxTerms) ⌝ }
 {
     let sets = term::root_cover(rule);
@@ -270,7 +270,7 @@ pub fn walk(
     transitions: &mut [u64],
     ends: &mut [usize],
 ) -> Walked
-    requires { ⌜ (checked (now rule) ≡ fine) × (length (now table) ≡ tablePlaces) × TermRows (now rule) (now table) (nodeCount (now rule)) × (length (now states) ≡ maxGeneralizedStates) × (length (now transitions) ≡ maxGeneralizedTransitions) × (length (now ends) ≡ maxGeneralizedStates) ⌝ }
+    requires { ⌜ (sizesChecked (now rule) ≡ fine) × (length (now table) ≡ tablePlaces) × TermRows (now rule) (now table) (nodeCount (now rule)) × (length (now states) ≡ maxGeneralizedStates) × (length (now transitions) ≡ maxGeneralizedTransitions) × (length (now ends) ≡ maxGeneralizedStates) ⌝ }
     ensures { λ r. ⌜ Walks (now (rule .entry)) r (now (states .exit)) (now (transitions .exit)) (now (ends .exit)) ⌝ }
 {
     let untils = acceptance::untils_of(rule);

@@ -14,7 +14,7 @@ use Rattle.formula.specs.Limits.{ruleBytes}
 use Rattle.formula.specs.Rule
 use Rattle.answer.proofs.Lowest.{fine-first}
 use Rattle.answer.proofs.Results.{never-both, require-fine, required}
-use Rattle.term.specs.Size.{sizeCheck, checked}
+use Rattle.term.specs.Size.{sizeCheck, sizesChecked}
 use Rattle.generalized.specs.Explore.{find, meet, meetAll, explore}
 use Rattle.generalized.specs.Generalized.{productCheck, generalized}
 use Rattle.automaton.specs.Automaton.{Automaton}
@@ -147,8 +147,8 @@ size-proper : (rule : List ℕ) (n : ℕ) → n ≤ maxTransitions → Proper (s
 unfolding sizeCheck
 size-proper rule n le = search proper
 
-sizes-proper : (rule : List ℕ) → Proper (checked rule)
-unfolding checked Rule.checked syntaxCheck
+sizes-proper : (rule : List ℕ) → Proper (sizesChecked rule)
+unfolding sizesChecked Rule.checked syntaxCheck
 sizes-proper rule =
     then-proper (Rule.checked rule) _ (rule-proper rule)
     (λ u e. let few : nodeCount rule ≤ maxTransitions = few-nodes rule (fine-first (lengthCheck rule) _ (fine-first (syntaxCheck releaseKind rule) _ e)) in search (proper, size-proper))

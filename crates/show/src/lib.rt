@@ -83,9 +83,9 @@ fn print_transitions(transitions: &[u8], from: usize, count: usize)
 }
 
 // A state's number, kind and transition count.
-fn print_state(place: usize, accepting: u8, count: usize) {
+fn print_state(number: usize, accepting: u8, count: usize) {
     print(b"state ");
-    print_number(place);
+    print_number(number);
     if accepting == 1 {
         print(b" accepting ");
     } else {

@@ -14,7 +14,7 @@ use Rattle.formula.proofs.Accepted.{accepted-fine}
 use Rattle.term.specs.declared.Terms.{Terms}
 use Rattle.term.specs.Limits.{maxTerms}
 use Rattle.term.specs.Term.{terms, cover}
-use Rattle.term.specs.Size.{sizeCheck, checked}
+use Rattle.term.specs.Size.{sizeCheck, sizesChecked}
 use Rattle.term.specs.Memory.{IsPacked, IsTerms, IsCover, pack, packSet, Over, Found, FoundTerms, FoundCover}
 use Rattle.term.proofs.Sizes.{bytes-fine, sizes-fine, over-above, over-many}
 
@@ -70,7 +70,7 @@ found-fine rule n {r} {ws} fine-to found = pick (decLt maxTerms (r .count))
     pick (yes over) = absurd (found .over over fine-to)
     pick (no few) = found .within (omega arith)
 
-pub root-found : (rule : List ℕ) → checked rule ≡ fine → {r : Terms} → FoundCover rule (root rule) r → IsCover r (cover (formula rule))
+pub root-found : (rule : List ℕ) → sizesChecked rule ≡ fine → {r : Terms} → FoundCover rule (root rule) r → IsCover r (cover (formula rule))
 unfolding formula
 root-found rule passed found =
     let some = accepted-fine rule (bytes-fine rule passed) .some in

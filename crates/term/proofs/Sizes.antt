@@ -18,7 +18,7 @@ use Rattle.formula.proofs.Accepted.{Node, accepted-fine}
 use Rattle.formula.proofs.Trees.{tree-in-range}
 use Rattle.term.specs.Limits.{maxTerms}
 use Rattle.term.specs.Term.{terms, cover}
-use Rattle.term.specs.Size.{sizeCheck, checked, Ready}
+use Rattle.term.specs.Size.{sizeCheck, sizesChecked, Ready}
 use Rattle.term.specs.Memory.{Over}
 
 pub record Few (rule : List ℕ) (k : ℕ) : Type 0 where
@@ -62,13 +62,13 @@ module _ (rule : List ℕ) (n : ℕ) (ready : Ready rule n) where
   ready-in-range k le = tree-in-range rule k (omega (arith, ready .inside)) (λ j l. ready-node j (omega arith))
 
 -- a rule that 1 to 7 and 20 let pass
-module _ (rule : List ℕ) (passed : checked rule ≡ fine) where
+module _ (rule : List ℕ) (passed : sizesChecked rule ≡ fine) where
   pub bytes-fine : Rule.checked rule ≡ fine
-  unfolding checked
+  unfolding sizesChecked
   bytes-fine = fine-first (Rule.checked rule) _ passed
 
   pub sizes-fine : lowest (sizeCheck rule) (nodeCount rule) ≡ fine
-  unfolding checked
+  unfolding sizesChecked
   sizes-fine = fine-second (Rule.checked rule) _ passed
 
 pub root-ready : (rule : List ℕ) → Rule.checked rule ≡ fine → Ready rule (root rule)

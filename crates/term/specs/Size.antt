@@ -20,8 +20,8 @@ sizeCheck rule n =
 
 -- 1 to 7, then 20 at the lowest node that has it; a rule that passes can be walked (01, Numbers that come from the
 -- state, 20, and the order in Numbers that come from the input)
-unfoldable pub checked : List ℕ → Check
-checked rule = andThen (Rule.checked rule) (λ _. lowest (sizeCheck rule) (nodeCount rule))
+unfoldable pub sizesChecked : List ℕ → Check
+sizesChecked rule = andThen (Rule.checked rule) (λ _. lowest (sizeCheck rule) (nodeCount rule))
 
 -- node n of a rule that 1 to 7 let pass
 pub record Ready (rule : List ℕ) (n : ℕ) : Type 0 where

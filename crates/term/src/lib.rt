@@ -14,7 +14,7 @@ ghost use Rattle.formula.specs.Limits.{maxNodes, propositions};
 ghost use Rattle.formula.specs.Formula.{Formula, build, tree, formula, InRange};
 ghost use Rattle.term.specs.Limits.{maxTerms, tablePlaces};
 ghost use Rattle.term.specs.Term.{cover, terms};
-ghost use Rattle.term.specs.Size.{sizeCheck, checked, Ready};
+ghost use Rattle.term.specs.Size.{sizeCheck, sizesChecked, Ready};
 ghost use Rattle.term.specs.Memory.{IsPacked, IsTerms, IsCover, TermRows, Kept, FoundCover, StoresRow, Keeps, coverBound, BoundedBelow};
 
 // The number of document 01 by which a rule with too many terms or cover sets is refused.
@@ -379,7 +379,7 @@ pub fn tabulate(rule: &[u8], table: &mut [u64]) -> Checked
 
 // The cover of the root: the sets of obligations that the walk begins with.
 pub fn root_cover(rule: &[u8]) -> Terms
-    requires { ⌜ checked (now rule) ≡ fine ⌝ }
+    requires { ⌜ sizesChecked (now rule) ≡ fine ⌝ }
     ensures { λ r. ⌜ IsCover r (cover (formula (now (rule .entry)))) ⌝ }
 {
     cover_of(rule, rule.len() / 3 - 1)

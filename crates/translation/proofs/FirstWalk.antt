@@ -13,7 +13,7 @@ use Rattle.answer.specs.Result.{fine}
 use Rattle.sets.proofs.Members.{All, at-in, in-map, append-in, map-at}
 use Rattle.formula.specs.Formula.{formula}
 use Rattle.term.specs.Term.{Term, term, cover}
-use Rattle.term.specs.Size.{checked}
+use Rattle.term.specs.Size.{sizesChecked}
 use Rattle.acceptance.specs.Acceptance.{fulfilment}
 use Rattle.generalized.specs.Limits.{maxGeneralizedStates}
 use Rattle.generalized.specs.Explore.{find}
@@ -77,7 +77,7 @@ handed {rule} {n = n} {states = states} size t =
       ending = λ s lt. t .ending s (omega (arith, length-take-le n states (omega (arith, t .few))));
     }
 
-module _ (rule : List ℕ) (passed : checked rule ≡ fine) {initial : ℕ} {kepts ends : List ℕ} (w : FirstWalk rule initial kepts ends) where
+module _ (rule : List ℕ) (passed : sizesChecked rule ≡ fine) {initial : ℕ} {kepts ends : List ℕ} (w : FirstWalk rule initial kepts ends) where
   abbrev pub xs : List ℕ
   xs = w .states
 

@@ -17,7 +17,7 @@ use Rattle.sets.specs.Sets.{In}
 use Rattle.sets.proofs.Members.{at-in, in-at}
 use Rattle.formula.specs.Limits.{maxUntils}
 use Rattle.term.specs.Term.{Term}
-use Rattle.term.specs.Size.{checked}
+use Rattle.term.specs.Size.{sizesChecked}
 use Rattle.generalized.specs.Limits.{maxGeneralizedTransitions, maxGeneralizedStates}
 use Rattle.generalized.specs.Explore.{find}
 use Rattle.generalized.specs.Generalized.{transitions, generalized}
@@ -98,7 +98,7 @@ transitionOf t target = record { must = t .must; mustNot = t .mustNot; target = 
 -- ---- the first walk's tables, and what the code has found when the walk over the pairs begins
 
 pub record Begun (rule : List ℕ) (initial : ℕ) (kepts ends : List ℕ) (r : ℕ) (pairs index : List ℕ) : Type 0 where
-  pub passed : checked rule ≡ fine
+  pub passed : sizesChecked rule ≡ fine
   pub walked-first : FirstWalk rule initial kepts ends
   pub kepts-size : length kepts ≡ maxGeneralizedTransitions
   pub ends-size : length ends ≡ maxGeneralizedStates

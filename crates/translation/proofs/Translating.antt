@@ -8,7 +8,7 @@ use borrow.Author.Tests.{le-leb, lt-leb}
 use Rattle.answer.specs.Result.{Result, refused, andThen, fine, lowest}
 use Rattle.formula.specs.Rule.{nodeCount}
 use Rattle.formula.specs.Rule
-use Rattle.term.specs.Size.{sizeCheck, checked}
+use Rattle.term.specs.Size.{sizeCheck, sizesChecked}
 use Rattle.generalized.specs.declared.Walked.{Walked}
 use Rattle.generalized.specs.Generalized.{generalized}
 use Rattle.generalized.specs.Memory.{Walks}
@@ -18,8 +18,8 @@ use Rattle.translation.specs.Degeneralized.{translation}
 use Rattle.translation.specs.Translate.{stored, translated}
 use Rattle.translation.specs.Memory.{secondWalk}
 
-pub sizes-are : (rule : List ℕ) {a : Result (Unit {0})} → Rule.checked rule ≡ fine → a ≡ lowest (sizeCheck rule) (nodeCount rule) → checked rule ≡ a
-unfolding checked
+pub sizes-are : (rule : List ℕ) {a : Result (Unit {0})} → Rule.checked rule ≡ fine → a ≡ lowest (sizeCheck rule) (nodeCount rule) → sizesChecked rule ≡ a
+unfolding sizesChecked
 sizes-are rule bytes e = rw bytes (sym e)
 
 pub walks-as : (rule states kepts ends : List ℕ) {r told : Walked} → r ≡ told → Walks rule r states kepts ends → Walks rule told states kepts ends
@@ -28,11 +28,11 @@ walks-as rule states kepts ends e = subst (λ (w : Walked). Walks rule w states 
 -- ---- a rule that 1 to 7 let pass
 
 module _ (rule s t i : List ℕ) {o : Outcome} where
-  pub size-refused : {number place : ℕ} → checked rule ≡ refused number place → o ≡ stored (refused number place) s t i → o ≡ stored (translation rule) s t i
+  pub size-refused : {number place : ℕ} → sizesChecked rule ≡ refused number place → o ≡ stored (refused number place) s t i → o ≡ stored (translation rule) s t i
   unfolding translation
   size-refused e done = done ∙ rw e
 
-  module _ (passed : checked rule ≡ fine) where
+  module _ (passed : sizesChecked rule ≡ fine) where
     pub first-refused : {number place : ℕ} → generalized rule ≡ refused number place → o ≡ stored (refused number place) s t i → o ≡ stored (translation rule) s t i
     unfolding translation
     first-refused e done = done ∙ rw (passed, e)

@@ -7,7 +7,7 @@ use lib.Dec.{eqb, ltb}
 use Rattle.answer.specs.Result.{Result, accepted, andThen, fine}
 use Rattle.formula.specs.Formula.{formula}
 use Rattle.term.specs.Term.{Term, cover}
-use Rattle.term.specs.Size.{checked}
+use Rattle.term.specs.Size.{sizesChecked}
 use Rattle.generalized.specs.Explore.{find, explore}
 use Rattle.generalized.specs.Generalized.{transitions, generalized}
 use Rattle.acceptance.specs.Acceptance.{untilCount, fulfilsNext}
@@ -79,7 +79,7 @@ module _ (rule states : List ℕ) where
 -- the automaton of a rule, or its refusal by 1 to 7 or 20 to 24
 unfoldable pub translation : List ℕ → Result Automaton
 translation rule =
-    andThen (checked rule)
+    andThen (sizesChecked rule)
     (λ _. andThen (generalized rule)
     (λ states. andThen (degeneralized rule states)
     (λ pairs. accepted (record { states = map (stateOf rule states pairs) pairs; initial = initialNumbers rule }))))

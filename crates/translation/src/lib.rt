@@ -22,7 +22,7 @@ ghost use Rattle.answer.specs.Bytes.{twoBytes, filled};
 ghost use Rattle.formula.specs.Limits.{maxUntils};
 ghost use Rattle.formula.specs.Rule;
 ghost use Rattle.term.specs.Limits.{maxTerms};
-ghost use Rattle.term.specs.Size.{checked};
+ghost use Rattle.term.specs.Size.{sizesChecked};
 ghost use Rattle.generalized.specs.Limits.{maxGeneralizedTransitions, maxGeneralizedStates};
 ghost use Rattle.generalized.specs.Explore.{meet};
 ghost use Rattle.generalized.specs.Generalized.{generalized};
@@ -391,7 +391,7 @@ fn degeneralize(
     transitions: &mut [u8],
     initial: &mut [u8],
 ) -> Translated
-    requires { ⌜ (checked (now rule) ≡ fine) × FirstWalk (now rule) first (now kept) (now ends) × (length (now kept) ≡ maxGeneralizedTransitions) × (length (now ends) ≡ maxGeneralizedStates) × TablesRoom (now states) (now transitions) (now initial) ⌝ }
+    requires { ⌜ (sizesChecked (now rule) ≡ fine) × FirstWalk (now rule) first (now kept) (now ends) × (length (now kept) ≡ maxGeneralizedTransitions) × (length (now ends) ≡ maxGeneralizedStates) × TablesRoom (now states) (now transitions) (now initial) ⌝ }
     ensures { λ r. ⌜ outcome (translateAnswer r) (now (states .exit)) (now (transitions .exit)) (now (initial .exit)) ≡ stored (andThen (generalized (now (rule .entry))) (secondWalk (now (rule .entry)))) (now (states .entry)) (now (transitions .entry)) (now (initial .entry)) ⌝ }
 {
     let untils = acceptance::untils_of(rule);

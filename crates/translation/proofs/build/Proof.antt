@@ -3,14 +3,14 @@
 use borrow.Author.Needs.{needs}
 use mathlib.Core.Path.{_≡_, refl, ap, _∙_}
 use Rattle.answer.specs.Result.{fine, answer}
-use Rattle.term.specs.Size.{checked}
+use Rattle.term.specs.Size.{sizesChecked}
 use Rattle.translation.proofs.FirstWalk.{handed}
 use Rattle.translation.proofs.Translating.{sizes-are, walks-as, size-refused, first-refused, second-is}
 use Rattle.translation.proofs.build.Statement.{statement}
 use Rattle.translation.proofs.build.Tie as tie
 
 -- the sizes are let pass
-passed : (c : tie.After-enum-told) → checked (c .before .before .before .before .before .before .before .before .before .args .rule .now) ≡ fine
+passed : (c : tie.After-enum-told) → sizesChecked (c .before .before .before .before .before .before .before .before .before .args .rule .now) ≡ fine
 passed c = sizes-are _ (c .before .before .before .before .before .before .before .before .before .pre .0) (c .before .before .before .tabulate .ensures .0) ∙ ap answer (c .enum-told .given .1)
 
 slice-aggregate-tabulate : tie.Need-slice-aggregate-tabulate
