@@ -15,7 +15,8 @@ use Rattle.generalized.specs.Explore.{find}
 use Rattle.generalized.specs.Memory.{kept, ListedKept}
 
 module _ {A : Type 0} (same : A → A → Bool) where
-  find-stays : (x : A) (xs ys : List A) → find same x xs < length xs → find same x (xs ++ ys) ≡ find same x xs
+  -- one that is found stays where it is
+  pub find-stays : (x : A) (xs ys : List A) → find same x xs < length xs → find same x (xs ++ ys) ≡ find same x xs
   unfolding find
   find-stays x [] ys lt = absurd (omega arith)
   find-stays x (y ∷ xs) ys lt = go (same x y) lt (λ l. find-stays x xs ys l)

@@ -1,39 +1,30 @@
--- A loop that meets the targets of a pair one after another: what is left to meet comes to what all come to.
--- Assumes nothing.
+-- A loop that meets the targets of a row one after another and puts their records behind those before: what is left to meet
+-- comes to what all come to, and the numbers in the records stay whatever is met later. Assumes nothing.
 use mathlib.Core.Path.{_≡_, refl, sym, _∙_}
-use mathlib.Core.List.{List, [], _∷_, _++_, map}
-use Prim.Native.Nat.{ℕ, suc, _+_, _-_, _/_, _%_, _≤_, _<_}
+use mathlib.Core.List.{List, [], _∷_, _++_, map, append-nil, append-assoc}
+use Prim.Native.Nat.{ℕ, suc, _+_, _*_, _≤_, _<_}
 use native.Mathlib.Numerals.{add-one}
 use native.Mathlib.Omega.{arith}
-use lib.ListN.{length, getD, take}
-use lib.Seq.{getD-take, length-take-le}
+use lib.ListN.{length, getD, take, drop, take-append-drop, drop-of-length-le}
+use lib.Seq.{sets, getD-take, take-suc, take-all, take-length, take-append-seam, drop-cons, length-take-le}
 use lib.Dec.{eqb}
-use Rattle.answer.specs.Result.{Result, accepted, refused, fine}
+use borrow.Author.Tests.{eq-eqb}
+use Rattle.answer.specs.Result.{Result, refused, fine}
 use Rattle.sets.specs.Sets.{In}
 use Rattle.sets.proofs.Members.{at-in}
-use Rattle.generalized.specs.Limits.{maxGeneralizedTransitions, maxGeneralizedStates}
 use Rattle.generalized.specs.Explore.{find, meet}
+use Rattle.generalized.specs.Memory.{keptMust, keptMustNot}
 use Rattle.generalized.proofs.Exploring.{meet-seen, meet-next, meet-full, all-full, all-next, all-met}
+use Rattle.generalized.proofs.Numbers.{find-stays, find-next}
 use Rattle.automaton.specs.Limits.{maxStates}
+use Rattle.automaton.specs.Records.{records, transitionBytes}
+use Rattle.automaton.proofs.Records.{records-last}
 use Rattle.translation.specs.declared.StateNumber.{StateNumber}
-use Rattle.translation.specs.declared.Paired.{Paired}
-use Rattle.translation.specs.declared.Paired.the-variants.{Count, Full}
-use Rattle.generalized.specs.Memory.{keptTarget}
-use Rattle.translation.specs.Memory.{rowStart, range, levelPlaces, codePlaces, targetN, targetsN, meetAllN, PairRows, PairsNumbered, Pairs}
-use Rattle.translation.proofs.Within.{row-inside, row-leads}
-use Rattle.translation.proofs.Numbering.{seen, unseen}
-
-pub range-next : (end i : ℕ) → i < end → range (end - i) i ≡ i ∷ range (end - (i + 1)) (i + 1)
-unfolding range
-range-next end i lt =
-    let more : end - i ≡ suc (end - (i + 1)) = omega arith in
-    rw (more, range, add-one)
-
-pub range-none : (end i : ℕ) → end ≤ i → range (end - i) i ≡ []
-unfolding range
-range-none end i le =
-    let none : end - i ≡ 0 = omega arith in
-    rw (none, range)
+use Rattle.translation.specs.declared.Met.{Met}
+use Rattle.translation.specs.declared.Met.the-variants.{Number, Full}
+use Rattle.translation.specs.Memory.{codePlaces, targetN, meetAllN, numberN, transitionN, PairsNumbered, NumberedPair, MeetsPair, AddsRecords, AddedRows}
+use Rattle.translation.proofs.Numbering.{seen, unseen, number-is}
+use Rattle.translation.proofs.Filling.{transition-length, front-more, adds-more}
 
 -- the pair at a place of those that are numbered
 module _ (pairs index : List ℕ) (n place : ℕ) (inv : PairsNumbered pairs index n) (lt : place < n) where
@@ -45,70 +36,130 @@ module _ (pairs index : List ℕ) (n place : ℕ) (inv : PairsNumbered pairs ind
 
 -- ---- one target
 
-module _ (pairs index : List ℕ) (n code : ℕ) (inv : PairsNumbered pairs index n) (lt : code < codePlaces) (place : ℕ) where
+module _ (pairs index : List ℕ) (n code : ℕ) (inv : PairsNumbered pairs index n) (lt : code < codePlaces) where
   size : length (take n pairs) ≡ n
   size = length-take-le n pairs (omega (arith, inv .room, inv .few))
 
-  pub met-seen : (getD index code 0 ≡ 0 → ⊥) → Pairs (meet eqb maxStates 24 place code (take n pairs)) (Count n) pairs index
-  met-seen some = (meet-seen eqb maxStates 24 place code (take n pairs) (rw size (seen pairs index n inv code lt some)), inv)
+  pub met-seen : (getD index code 0 ≡ 0 → ⊥) → {number : ℕ} → number ≡ numberN index code → (place : ℕ) → NumberedPair code (take n pairs) (meet eqb maxStates 24 place code (take n pairs)) number n pairs index
+  met-seen some e place =
+      let known : find eqb code (take n pairs) < n = seen pairs index n inv code lt some in
+      let is : numberN index code ≡ find eqb code (take n pairs) = number-is pairs index n inv code lt known in
+      record {
+        are = meet-seen eqb maxStates 24 place code (take n pairs) (rw size known);
+        numbered = inv;
+        first = take-length (take n pairs);
+        found = e ∙ is;
+        inside = omega (arith, e, is);
+      }
 
   module _ (new : getD index code 0 ≡ 0) where
     late : length (take n pairs) ≤ find eqb code (take n pairs)
     late = rw size (unseen pairs index n inv code lt new)
 
-    pub met-full : maxStates ≤ n → meet eqb maxStates 24 place code (take n pairs) ≡ refused 24 place
-    met-full le = meet-full eqb maxStates 24 place code (take n pairs) late (rw size le)
+    pub met-full : maxStates ≤ n → (place : ℕ) → meet eqb maxStates 24 place code (take n pairs) ≡ refused 24 place
+    met-full le place = meet-full eqb maxStates 24 place code (take n pairs) late (rw size le)
 
-    pub met-next : n < maxStates → (pairs′ index′ : List ℕ) → PairsNumbered pairs′ index′ (n + 1) × (take (n + 1) pairs′ ≡ take n pairs ++ (code ∷ [])) → Pairs (meet eqb maxStates 24 place code (take n pairs)) (Count (n + 1)) pairs′ index′
-    met-next room pairs′ index′ added = (meet-next eqb maxStates 24 place code (take n pairs) late (rw size room) ∙ rw (added .1), added .0)
+    pub met-next : n < maxStates → (pairs′ index′ : List ℕ) → PairsNumbered pairs′ index′ (n + 1) × (take (n + 1) pairs′ ≡ take n pairs ++ (code ∷ [])) → (place : ℕ) → NumberedPair code (take n pairs) (meet eqb maxStates 24 place code (take n pairs)) n (n + 1) pairs′ index′
+    met-next room pairs′ index′ added place = record {
+      are = meet-next eqb maxStates 24 place code (take n pairs) late (rw size room) ∙ rw (added .1);
+      numbered = added .0;
+      first = rw (added .1) (take-append-seam (take n pairs) (code ∷ []));
+      found = rw (added .1) (sym (find-next eqb code (take n pairs) (eq-eqb code code refl) late ∙ size));
+      inside = omega arith;
+    }
 
--- ---- the targets of a pair
+-- ---- the targets of a row
 
--- a loop over the transitions to end, the first is from, that stands at i: the targets of the rest, met now, come to
--- what all come to, whatever number of transitions was before
-pub record Meeting (transitions : List ℕ) (r level from end place : ℕ) (all : (count : ℕ) → Result (List ℕ)) (pairs index : List ℕ) (k i : ℕ) : Type 0 where
-  pub inside : end ≤ maxGeneralizedTransitions
-  pub leads : (j : ℕ) → j < end → keptTarget (getD transitions j 0) < maxGeneralizedStates
-  pub begun : from ≤ i
+-- a loop over a row that stands at i: the targets of the rest, met now, come to what all come to, whatever number of
+-- transitions was before; and the records of those before i are written after the first w
+pub record Meeting (row : List ℕ) (r level place : ℕ) (all : (count : ℕ) → Result (List ℕ)) (before : List ℕ) (w : ℕ) (pairs index table : List ℕ) (k i : ℕ) : Type 0 where
+  pub within : i ≤ length row
   pub numbered : PairsNumbered pairs index k
-  pub left : (count : ℕ) → meetAllN place (count + (i - from)) (map (λ j. targetN r level (getD transitions j 0)) (range (end - i) i)) (take k pairs) ≡ all count
+  pub size : length table ≡ length before
+  pub left : (count : ℕ) → meetAllN place (count + i) (map (targetN r level) (drop i row)) (take k pairs) ≡ all count
+  pub written : (more : List ℕ) → AddsRecords before w (records (transitionN (take k pairs ++ more) r level) (take i row)) table (w + i)
 
-pub meeting-begins : (ends transitions : List ℕ) (r : ℕ) (pairs index : List ℕ) (n place s t level from end : ℕ) → PairRows ends transitions r (take n pairs) → PairsNumbered pairs index n → place < n
-    → s ≡ getD pairs place 0 / levelPlaces → t ≡ getD pairs place 0 / levelPlaces → level ≡ getD pairs place 0 % levelPlaces → from ≡ rowStart ends s → end ≡ getD ends t 0
-    → Meeting transitions r level from end place (λ count. meetAllN place count (targetsN ends transitions r (getD pairs place 0)) (take n pairs)) pairs index n from
-meeting-begins ends transitions r pairs index n place s t level from end rows inv lt es et el ef ee = record {
-  inside = rw ee (row-inside ends (take n pairs) _ (rows .listed) (among pairs index n place inv lt) t et);
-  leads = rw ee (row-leads ends transitions r (take n pairs) _ rows (among pairs index n place inv lt) t et);
-  begun = omega arith;
-  numbered = inv;
-  left = λ count.
-      let none : count + (from - from) ≡ count = omega arith in
-      rw (none, ef, ee, el, es, et);
-}
+module _ (row : List ℕ) (r level place : ℕ) where
+  pub meeting-begins : (before : List ℕ) (w : ℕ) (pairs index : List ℕ) (n : ℕ) → PairsNumbered pairs index n
+      → Meeting row r level place (λ count. meetAllN place count (map (targetN r level) row) (take n pairs)) before w pairs index before n 0
+  unfolding records
+  meeting-begins before w pairs index n inv = record {
+    within = omega arith;
+    numbered = inv;
+    size = refl;
+    left = λ count.
+        let none : count + 0 ≡ count = omega arith in
+        rw none;
+    written = λ more.
+        let none : (w + 0) * 4 ≡ w * 4 = omega arith in
+        record { count = omega arith; front = rw (none, append-nil) };
+  }
 
-module _ (transitions : List ℕ) (r level from end place : ℕ) (all : (count : ℕ) → Result (List ℕ)) (pairs index : List ℕ) (k i : ℕ) (inv : Meeting transitions r level from end place all pairs index k i) where
-  pub meeting-ends : end ≤ i → (count : ℕ) → (all count ≡ accepted (take k pairs)) × PairsNumbered pairs index k
-  meeting-ends le count = (
-    sym (inv .left count) ∙ rw (range-none end i le) (all-met eqb maxStates 24 (λ _ _. fine) place _ (take k pairs)),
-    inv .numbered,
-  )
-
-  module _ (lt : i < end) (x : ℕ) (is : x ≡ targetN r level (getD transitions i 0)) (met : Paired) (pairs′ index′ : List ℕ) (meets : Pairs (meet eqb maxStates 24 place x (take k pairs)) met pairs′ index′) where
-    left-is : (count : ℕ) → meetAllN place (count + (i - from)) (x ∷ map (λ j. targetN r level (getD transitions j 0)) (range (end - (i + 1)) (i + 1))) (take k pairs) ≡ all count
-    left-is count = rw (is, ← inv .left count, range-next end i lt)
-
-    pub meeting-full : {at : StateNumber} → met ≡ Full at → (count : ℕ) → Pairs (all count) met pairs′ index′
-    meeting-full e count = rw (e, ← left-is count) (all-full eqb maxStates 24 (λ _ _. fine) place _ _ (count + (i - from)) (take k pairs) refl (rw e at meets))
-
-    pub meeting-steps : {more : ℕ} → met ≡ Count more → Meeting transitions r level from end place all pairs′ index′ more (i + 1)
-    meeting-steps {more} e =
-        let m : Pairs (meet eqb maxStates 24 place x (take k pairs)) (Count more) pairs′ index′ = rw e at meets in
+  module _ (all : (count : ℕ) → Result (List ℕ)) (before : List ℕ) (w : ℕ) (pairs index table : List ℕ) (k i : ℕ) (inv : Meeting row r level place all before w pairs index table k i) where
+    pub meeting-ends : (w + length row) * 4 ≤ length before → length row ≤ i → (count : ℕ) → AddedRows (all count) (λ _ codes. records (transitionN codes r level) row) before w k (w + length row) pairs index table
+    meeting-ends room le count =
+        let last : i ≡ length row = omega (arith, inv .within) in
         record {
-          inside = inv .inside;
-          leads = inv .leads;
-          begun = omega (arith, inv .begun);
-          numbered = m .1;
-          left = λ count.
-              let next : count + (i + 1 - from) ≡ suc (count + (i - from)) = omega (arith, inv .begun) in
-              rw next (sym (all-next eqb maxStates 24 (λ _ _. fine) place _ _ (count + (i - from)) (take k pairs) refl (m .0)) ∙ left-is count);
+          are = sym (inv .left count) ∙ rw (drop-of-length-le row {i = i} le) (all-met eqb maxStates 24 (λ _ _. fine) place _ (take k pairs));
+          numbered = inv .numbered;
+          inside = omega (arith, inv .size);
+          written = λ more. rw (← last) (rw (take-all i row le) at (inv .written more));
         }
+
+    module _ (lt : i < length row) where
+      pub record-room : (w + length row) * 4 ≤ length before → (w + i) * 4 + 4 ≤ length table
+      record-room room = omega (arith, inv .size)
+
+      left-is : (count : ℕ) → meetAllN place (count + i) (targetN r level (getD row i 0) ∷ map (targetN r level) (drop (suc i) row)) (take k pairs) ≡ all count
+      left-is count = rw (drop-cons row i 0 lt) at (inv .left count)
+
+      module _ {code : ℕ} (is : code ≡ targetN r level (getD row i 0)) (met : Met) (pairs′ index′ : List ℕ) (meets : (at : ℕ) → MeetsPair at code (take k pairs) met pairs′ index′) where
+        pub meeting-full : met ≡ Full → (count : ℕ) → all count ≡ refused 24 place
+        meeting-full e count = sym (left-is count) ∙ all-full eqb maxStates 24 (λ _ _. fine) place _ _ (count + i) (take k pairs) refl (rw (← is) (rw e at (meets place)))
+
+        module _ {number : StateNumber} {n : ℕ} (e : met ≡ Number number n) where
+          m : NumberedPair (targetN r level (getD row i 0)) (take k pairs) (meet eqb maxStates 24 place (targetN r level (getD row i 0)) (take k pairs)) (number .0) n pairs′ index′
+          m = rw (← is) (rw e at (meets place))
+
+          pub number-small : number .0 < maxStates
+          number-small = omega (arith, m .inside, m .numbered .few)
+
+          module _ (table′ : List ℕ) (same : length table′ ≡ length table) (room : (w + length row) * 4 ≤ length before)
+              (put : table′ ≡ sets table ((w + i) * 4) (transitionBytes (keptMust (getD row i 0)) (keptMustNot (getD row i 0)) (number .0))) where
+            rest : List ℕ
+            rest = drop (length (take k pairs)) (take n pairs′)
+
+            grown : take n pairs′ ≡ take k pairs ++ rest
+            unfolding rest
+            grown = sym (take-append-drop (length (take k pairs)) (take n pairs′)) ∙ rw (m .first)
+
+            numbered-size : length (take n pairs′) ≡ n
+            numbered-size = length-take-le n pairs′ (omega (arith, m .numbered .room, m .numbered .few))
+
+            -- the number stays, whatever pairs come after
+            stays : (more : List ℕ) → number .0 ≡ find eqb (targetN r level (getD row i 0)) (take n pairs′ ++ more)
+            stays more = m .found ∙ sym (find-stays eqb (targetN r level (getD row i 0)) (take n pairs′) more (omega (arith, numbered-size, m .found, m .inside)))
+
+            one : (more : List ℕ) → AddsRecords table (w + i) (transitionN (take n pairs′ ++ more) r level (getD row i 0)) table′ (w + i + 1)
+            one more = record {
+              count = rw (transition-length (keptMust (getD row i 0)) (keptMustNot (getD row i 0)) (find eqb (targetN r level (getD row i 0)) (take n pairs′ ++ more))) (omega arith);
+              front = rw (← stays more) (front-more table table′ ((w + i) * 4) ((w + i + 1) * 4) _ (rw (transition-length (keptMust (getD row i 0)) (keptMustNot (getD row i 0)) (number .0)) (omega arith)) (omega (arith, record-room room)) put);
+            }
+
+            earlier : (more : List ℕ) → AddsRecords before w (records (transitionN (take n pairs′ ++ more) r level) (take i row)) table (w + i)
+            earlier more = rw (grown, append-assoc (take k pairs) rest more) (inv .written (rest ++ more))
+
+            pub meeting-steps : Meeting row r level place all before w pairs′ index′ table′ n (i + 1)
+            meeting-steps =
+                let up : w + (i + 1) ≡ w + i + 1 = omega arith in
+                record {
+                  within = omega arith;
+                  numbered = m .numbered;
+                  size = same ∙ inv .size;
+                  left = λ count.
+                      let next : count + (i + 1) ≡ suc (count + i) = omega arith in
+                      rw (next, add-one) (sym (all-next eqb maxStates 24 (λ _ _. fine) place _ _ (count + i) (take k pairs) refl (m .are)) ∙ left-is count);
+                  written = λ more.
+                      rw (up, add-one i, take-suc row i 0 lt, records-last (transitionN (take n pairs′ ++ more) r level) (take i row) (getD row i 0))
+                      (adds-more before w _ table (w + i) _ table′ (w + i + 1) (earlier more) (one more));
+                }

@@ -1,6 +1,6 @@
 -- Pairs by number and numbers by code: what the table of numbers says of a code, and how a pair takes the next number.
 -- Assumes nothing.
-use mathlib.Core.Path.{_≡_, refl, ap, _∙_}
+use mathlib.Core.Path.{_≡_, refl, _∙_}
 use mathlib.Core.List.{List, [], _∷_, _++_}
 use mathlib.Core.Bool.{Bool, true, false, cond}
 use mathlib.Core.Logic.{inl, inr}
@@ -14,22 +14,13 @@ use lib.Dec.{eqb, ltb}
 use borrow.Author.Tests.{eq-eqb, lt-ltb, le-ltb, eqb-true}
 use Rattle.sets.specs.Sets.{In}
 use Rattle.generalized.specs.Explore.{find}
+use Rattle.generalized.proofs.Numbers.{find-stays}
 use Rattle.automaton.specs.Limits.{maxStates}
 use Rattle.translation.specs.Memory.{codePlaces, PairsNumbered, numberN}
 
 -- ---- places of one more
 
 module _ {A : Type 0} (same : A → A → Bool) where
-  pub find-front : (x : A) (xs ys : List A) → find same x xs < length xs → find same x (xs ++ ys) ≡ find same x xs
-  unfolding find
-  find-front x [] ys lt = absurd (omega arith)
-  find-front x (y ∷ xs) ys lt = go (same x y) lt (λ l. find-front x xs ys l)
-    where
-      go : (b : Bool) → elim b [ true ↦ 0 | false ↦ suc (find same x xs) ] < suc (length xs) → (find same x xs < length xs → find same x (xs ++ ys) ≡ find same x xs)
-          → _≡_ {A = ℕ} (elim b [ true ↦ 0 | false ↦ suc (find same x (xs ++ ys)) ]) (elim b [ true ↦ 0 | false ↦ suc (find same x xs) ])
-      go true l ih = refl
-      go false l ih = ap suc (ih (omega arith))
-
   pub find-behind : (x : A) (xs ys : List A) → length xs ≤ find same x xs → find same x (xs ++ ys) ≡ length xs + find same x ys
   unfolding find
   find-behind x [] ys le = omega arith
@@ -61,7 +52,7 @@ numbered-begins pairs index room e = record {
 }
 
 module _ (pairs index : List ℕ) (n : ℕ) (inv : PairsNumbered pairs index n) (code : ℕ) (lt : code < codePlaces) where
-  pub known-number : find eqb code (take n pairs) < n → getD index code 0 ≡ suc (find eqb code (take n pairs))
+  known-number : find eqb code (take n pairs) < n → getD index code 0 ≡ suc (find eqb code (take n pairs))
   known-number l = inv .number code lt ∙ rw (lt-ltb (find eqb code (take n pairs)) n l)
 
   pub number-is : find eqb code (take n pairs) < n → numberN index code ≡ find eqb code (take n pairs)
@@ -110,7 +101,7 @@ module _ (pairs index : List ℕ) (n : ℕ) (inv : PairsNumbered pairs index n) 
             find-behind eqb code (take n pairs) (code ∷ []) (omega (arith, before, unseen new)) ∙ rw (before, find, eq-eqb code code refl) (omega arith) in
             rw (e, getD-set-same index code (n + 1) 0 (omega (arith, inv .size)), last, lt-ltb n (n + 1) (omega arith), add-one)
         each other l (no ne) (yes f) =
-            let same : find eqb other (take n pairs ++ (code ∷ [])) ≡ find eqb other (take n pairs) = find-front eqb other (take n pairs) (code ∷ []) (omega (arith, before)) in
+            let same : find eqb other (take n pairs ++ (code ∷ [])) ≡ find eqb other (take n pairs) = find-stays eqb other (take n pairs) (code ∷ []) (omega (arith, before)) in
             rw (getD-set-other index code other (n + 1) 0 ne, same, lt-ltb (find eqb other (take n pairs)) (n + 1) (omega arith), inv .number other l, lt-ltb (find eqb other (take n pairs)) n f)
         each other l (no ne) (no ge) =
             let most : n + 1 ≤ find eqb other (take n pairs ++ (code ∷ [])) =

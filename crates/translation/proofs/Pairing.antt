@@ -1,96 +1,186 @@
--- A loop that takes the pairs in order and meets the targets of each: the walk from a place on comes to what the whole walk
--- does. Assumes nothing.
-use mathlib.Core.Path.{_≡_, sym, _∙_}
-use mathlib.Core.Logic.{inl, inr}
-use mathlib.Core.List.{List}
-use Prim.Native.Nat.{ℕ, zero, suc, _+_, _-_, _/_, _%_, _≤_, _<_}
+-- A loop that takes the pairs in order, meets the targets of each and writes its row: the walk from a place on comes to what
+-- the whole walk does, and the rows of the pairs before it are written. Assumes nothing.
+use mathlib.Core.Path.{_≡_, refl, sym, ap, _∙_}
+use mathlib.Core.List.{List, [], _∷_, _++_, map, append-assoc}
+use Prim.Native.Nat.{ℕ, suc, _+_, _-_, _*_, _/_, _%_, _≤_, _<_}
 use native.Mathlib.Numerals.{add-one}
 use native.Mathlib.Omega.{arith}
-use lib.ListN.{length, getD, take}
-use lib.Seq.{getD-take, length-take-le}
+use lib.ListN.{length, getD, take, drop, length-append, length-drop}
+use lib.Seq.{getD-take, take-suc, take-take, take-append-le, length-take-le}
 use lib.Dec.{eqb}
-use Rattle.answer.specs.Result.{Result, accepted, fine}
+use Rattle.answer.specs.Result.{Result, fine}
+use Rattle.answer.specs.Bytes.{twoBytes}
 use Rattle.sets.specs.Sets.{In}
 use Rattle.sets.proofs.Members.{map-in}
 use Rattle.formula.specs.Limits.{maxUntils}
+use Rattle.generalized.specs.Memory.{keptTarget}
+use Rattle.generalized.proofs.Explored.{Grows, all-grows}
 use Rattle.generalized.proofs.Exploring.{explore-next, explore-refused, explore-ends}
-use Rattle.automaton.specs.Limits.{maxStates}
+use Rattle.automaton.specs.Limits.{maxStates, maxOfState, transitionsBytes}
+use Rattle.automaton.specs.Records.{records}
+use Rattle.automaton.proofs.Records.{records-last, records-length}
 use Rattle.translation.specs.declared.StateNumber.{StateNumber}
 use Rattle.translation.specs.declared.Paired.{Paired}
-use Rattle.translation.specs.declared.Paired.the-variants.{Count, Full}
-use Rattle.generalized.specs.Memory.{keptTarget}
-use Rattle.translation.specs.Memory.{range, rowStart, rowCount, row, levelPlaces, targetN, targetsN, meetAllN, exploreN, Within, Ends, PairRows, PairsNumbered, Pairs}
+use Rattle.translation.specs.declared.Paired.the-variants.{Count, Stop}
+use Rattle.translation.specs.Memory.{rowStart, rowCount, row, levelPlaces, targetN, targetsN, meetAllN, exploreN, transitionN, rowN, Within, Leads, PairRows, PairsNumbered, AddsRecords, AddedRows, AddsRows}
 use Rattle.translation.proofs.Levels.{target-state}
+use Rattle.translation.proofs.Within.{state-within, row-rises, row-inside, row-few}
+use Rattle.translation.proofs.Filling.{adds-more}
 use Rattle.translation.proofs.Meeting.{among}
-use Rattle.generalized.proofs.Explored.{all-grows}
-
--- the numbers of a range
-pub range-in : (count from i : ℕ) → In i (range count from) → (from ≤ i) × (i < from + count)
-unfolding range
-range-in zero from i h = absurd h
-range-in (suc count) from i (inl e) = (omega arith, omega arith)
-range-in (suc count) from i (inr h) = let (a, b) = range-in count (suc from) i h in (omega arith, omega arith)
 
 -- a pair within the tables leads to such pairs
-pub targets-within : (ends transitions : List ℕ) (r n : ℕ) → r ≤ maxUntils → Ends ends n → ((s : ℕ) → s < n → (i : ℕ) → i < getD ends s 0 → keptTarget (getD transitions i 0) < n)
+pub targets-within : (ends transitions : List ℕ) (r n : ℕ) → r ≤ maxUntils → ((s : ℕ) → s < n → (x : ℕ) → In x (row ends transitions s) → keptTarget x < n)
     → (code : ℕ) → code / levelPlaces < n → Within n (targetsN ends transitions r code)
-targets-within ends transitions r n levels rows closed code lt x h =
-    let (i, m, e) = map-in (λ i. targetN r (code % levelPlaces) (getD transitions i 0)) x (row ends (code / levelPlaces)) h in
-    let (a, b) = range-in (rowCount ends (code / levelPlaces)) (rowStart ends (code / levelPlaces)) i m in
-    rw (e, target-state r (code % levelPlaces) (getD transitions i 0) levels) (closed (code / levelPlaces) lt i (omega (arith, rows .rising (code / levelPlaces) lt)))
+targets-within ends transitions r n levels closed code lt x h =
+    let (y, m, e) = map-in (targetN r (code % levelPlaces)) x (row ends transitions (code / levelPlaces)) h in
+    rw (e, target-state r (code % levelPlaces) y levels) (closed (code / levelPlaces) lt y m)
 
--- the walk that stands at place, with k pairs numbered and count transitions before, comes to what it is to come to
-pub record Pairing (ends transitions : List ℕ) (r : ℕ) (all : Result (List ℕ)) (pairs index : List ℕ) (k place : ℕ) : Type 0 where
+-- the walk that stands at place, with k pairs numbered and count transitions before, comes to what it is to come to; m
+-- transitions are written
+pub record Pairing (ends transitions : List ℕ) (r : ℕ) (all : Result (List ℕ)) (before pairs index table : List ℕ) (k m place : ℕ) : Type 0 where
   pub count : ℕ
   pub numbered : PairsNumbered pairs index k
   pub rows : PairRows ends transitions r (take k pairs)
+  pub reached : place ≤ k
   pub left : exploreN ends transitions r (maxStates - place) place count (take k pairs) ≡ all
+  pub size : length table ≡ length before
+  pub few : m ≤ place * maxOfState
+  pub written : (more : List ℕ) → AddsRecords before 0 (records (rowN ends transitions r (take k pairs ++ more)) (take place pairs)) table m
 
-module _ (ends transitions : List ℕ) (r : ℕ) (all : Result (List ℕ)) (pairs index : List ℕ) (k place : ℕ) (inv : Pairing ends transitions r all pairs index k place) where
-  size : length (take k pairs) ≡ k
-  size = length-take-le k pairs (omega (arith, inv .numbered .room, inv .numbered .few))
+module _ (ends transitions : List ℕ) (r : ℕ) where
+  pub pairing-begins : (before pairs index : List ℕ) (n : ℕ) → PairRows ends transitions r (take n pairs) → PairsNumbered pairs index n
+      → Pairing ends transitions r (exploreN ends transitions r maxStates 0 0 (take n pairs)) before pairs index before n 0 0
+  unfolding records
+  pairing-begins before pairs index n rows numbered = record {
+    count = 0;
+    numbered = numbered;
+    rows = rows;
+    reached = omega arith;
+    left = refl;
+    size = refl;
+    few = omega arith;
+    written = λ more. record { count = refl; front = refl };
+  }
 
-  pub pairing-ends : k ≤ place → (all ≡ accepted (take k pairs)) × PairsNumbered pairs index k
-  pairing-ends le = (
-    sym (inv .left) ∙ explore-ends eqb maxStates 24 (λ _ _. fine) 0 (targetsN ends transitions r) (λ _ _. fine) (maxStates - place) place (inv .count) (take k pairs) (omega (arith, size)),
-    inv .numbered,
-  )
+  module _ (all : Result (List ℕ)) (before pairs index table : List ℕ) (k m place : ℕ) (room : transitionsBytes ≤ length before) (inv : Pairing ends transitions r all before pairs index table k m place) where
+    size : length (take k pairs) ≡ k
+    size = length-take-le k pairs (omega (arith, inv .numbered .room, inv .numbered .few))
 
-  module _ (lt : place < k) (met : Paired) (pairs′ index′ : List ℕ) (meets : (count : ℕ) → Pairs (meetAllN place count (targetsN ends transitions r (getD pairs place 0)) (take k pairs)) met pairs′ index′) where
-    fuel : maxStates - place ≡ suc (maxStates - suc place)
-    fuel = omega (arith, inv .numbered .few)
+    pub pairing-ends : k ≤ place → AddedRows all (λ done codes. records (rowN ends transitions r codes) done) before 0 k m pairs index table
+    pairing-ends le =
+        let last : place ≡ k = omega (arith, inv .reached) in
+        record {
+          are = sym (inv .left) ∙ explore-ends eqb maxStates 24 (λ _ _. fine) 0 (targetsN ends transitions r) (λ _ _. fine) (maxStates - place) place (inv .count) (take k pairs) (omega (arith, size));
+          numbered = inv .numbered;
+          inside = omega (arith, inv .few, inv .size, inv .numbered .few);
+          written = λ more. rw last at (inv .written more);
+        }
 
-    inside : place < length (take k pairs)
-    inside = omega (arith, size)
+    module _ (lt : place < k) where
+      abbrev code : ℕ
+      code = getD pairs place 0
 
-    now-is : Pairs (meetAllN place (inv .count) (targetsN ends transitions r (getD (take k pairs) place 0)) (take k pairs)) met pairs′ index′
-    now-is = rw (getD-take k pairs place 0 lt) (meets (inv .count))
+      abbrev own : List ℕ
+      own = row ends transitions (code / levelPlaces)
 
-    pub pairing-full : {at : StateNumber} → met ≡ Full at → Pairs all met pairs′ index′
-    pairing-full e =
-        rw (e, ← inv .left, fuel) (explore-refused eqb maxStates 24 (λ _ _. fine) 0 (targetsN ends transitions r) (λ _ _. fine) (maxStates - suc place) place (inv .count) (take k pairs) inside (rw e at now-is))
+      here : In code (take k pairs)
+      here = among pairs index k place (inv .numbered) lt
 
-    module _ (more : ℕ) (e : met ≡ Count more) where
-      counted : Pairs (meetAllN place (inv .count) (targetsN ends transitions r (getD (take k pairs) place 0)) (take k pairs)) (Count more) pairs′ index′
-      counted = rw e at now-is
+      state-here : code / levelPlaces < inv .rows .listed .states
+      state-here = state-within ends (take k pairs) code (inv .rows .listed) here (code / levelPlaces) refl
 
-      within : Within (inv .rows .listed .states) (take more pairs′)
-      within =
-          all-grows eqb maxStates 24 (λ _ _. fine) place _ (inv .count) (take k pairs) (take more pairs′) (counted .0) .every
-          (λ code. code / levelPlaces < inv .rows .listed .states)
-          (targets-within ends transitions r (inv .rows .listed .states) (inv .rows .levels) (inv .rows .listed .rows) (inv .rows .closed) (getD (take k pairs) place 0)
-          (rw (getD-take k pairs place 0 lt) (inv .rows .listed .within _ (among pairs index k place (inv .numbered) lt))))
-          (inv .rows .listed .within)
+      own-size : length own ≡ rowCount ends (code / levelPlaces)
+      own-size =
+          length-take-le (rowCount ends (code / levelPlaces)) (drop (rowStart ends (code / levelPlaces)) transitions)
+          (omega (arith, length-drop (rowStart ends (code / levelPlaces)) transitions, row-rises ends (take k pairs) code (inv .rows .listed) here (code / levelPlaces) refl, row-inside ends (take k pairs) code (inv .rows .listed) here (code / levelPlaces) refl, inv .rows .size))
 
-      pub pairing-steps : Pairing ends transitions r all pairs′ index′ more (place + 1)
-      pairing-steps = record {
-        count = inv .count + length (targetsN ends transitions r (getD (take k pairs) place 0));
-        numbered = counted .1;
-        rows = record {
-          listed = record { states = inv .rows .listed .states; rows = inv .rows .listed .rows; within = within };
-          size = inv .rows .size;
-          levels = inv .rows .levels;
-          closed = inv .rows .closed;
-        };
-        left = rw add-one (sym (explore-next eqb maxStates 24 (λ _ _. fine) 0 (targetsN ends transitions r) (λ _ _. fine) (maxStates - suc place) place (inv .count) (take k pairs) inside (counted .0)) ∙ rw (← fuel) (inv .left));
-      }
+      own-few : length own ≤ maxOfState
+      own-few = omega (arith, own-size, row-few ends (take k pairs) code (inv .rows .listed) here (code / levelPlaces) refl)
+
+      -- the row as the code reads it
+      module _ {s t level start end : ℕ} (es : s ≡ code / levelPlaces) (et : t ≡ code / levelPlaces) (el : level ≡ code % levelPlaces) (ef : start ≡ rowStart ends s) (ee : end ≡ getD ends t 0) where
+        own-is : take (end - start) (drop start transitions) ≡ own
+        own-is = rw (ef, ee, es, et)
+
+        pub row-begins : start ≤ end
+        row-begins = rw (ef, ee, es, et) (row-rises ends (take k pairs) code (inv .rows .listed) here (code / levelPlaces) refl)
+
+        pub row-fits : end ≤ length transitions
+        row-fits = rw (ee, et, inv .rows .size) (row-inside ends (take k pairs) code (inv .rows .listed) here (code / levelPlaces) refl)
+
+        pub row-leads : Leads (take (end - start) (drop start transitions))
+        row-leads = rw own-is (λ x h. omega (arith, inv .rows .closed (code / levelPlaces) state-here x h, inv .rows .listed .rows .states))
+
+        pub row-room : (m + length (take (end - start) (drop start transitions))) * 4 ≤ length table
+        row-room = rw own-is (omega (arith, own-few, inv .few, inv .size, inv .numbered .few))
+
+        module _ (met : Paired) (pairs′ index′ table′ : List ℕ)
+            (meets : (count : ℕ) → AddsRows (meetAllN place count (map (targetN r level) (take (end - start) (drop start transitions))) (take k pairs)) (λ _ codes. records (transitionN codes r level) (take (end - start) (drop start transitions))) table m met pairs′ index′ table′) where
+          met-is : AddsRows (meetAllN place (inv .count) (targetsN ends transitions r code) (take k pairs)) (λ _ codes. rowN ends transitions r codes code) table m met pairs′ index′ table′
+          met-is = rw (← own-is, ← el) (meets (inv .count))
+
+          fuel : maxStates - place ≡ suc (maxStates - suc place)
+          fuel = omega (arith, inv .numbered .few)
+
+          inside : place < length (take k pairs)
+          inside = omega (arith, size)
+
+          at-place : getD (take k pairs) place 0 ≡ code
+          at-place = getD-take k pairs place 0 lt
+
+          pub pairing-stops : {at : StateNumber} → met ≡ Stop at → AddsRows all (λ done codes. records (rowN ends transitions r codes) done) before 0 met pairs′ index′ table′
+          pairing-stops e =
+              rw (e, ← inv .left, fuel) (explore-refused eqb maxStates 24 (λ _ _. fine) 0 (targetsN ends transitions r) (λ _ _. fine) (maxStates - suc place) place (inv .count) (take k pairs) inside (rw at-place (rw e at met-is)))
+
+          module _ {n after : ℕ} (e : met ≡ Count n after) (same : length table′ ≡ length table) where
+            counted : AddedRows (meetAllN place (inv .count) (targetsN ends transitions r code) (take k pairs)) (λ _ codes. rowN ends transitions r codes code) table m n after pairs′ index′ table′
+            counted = rw e at met-is
+
+            grown : Grows eqb maxStates 24 (λ _ _. fine) (targetsN ends transitions r code) (take k pairs) (take n pairs′)
+            grown = all-grows eqb maxStates 24 (λ _ _. fine) place (targetsN ends transitions r code) (inv .count) (take k pairs) (take n pairs′) (counted .are)
+
+            rest : List ℕ
+            rest = grown .extends .more
+
+            grown-is : take n pairs′ ≡ take k pairs ++ rest
+            unfolding rest
+            grown-is = grown .extends .are
+
+            longer : k ≤ n
+            longer = omega (arith, ap length grown-is, length-append (take k pairs) rest, size, length-take-le n pairs′ (omega (arith, counted .numbered .room, counted .numbered .few)))
+
+            within : Within (inv .rows .listed .states) (take n pairs′)
+            within =
+                grown .every (λ c. c / levelPlaces < inv .rows .listed .states)
+                (targets-within ends transitions r (inv .rows .listed .states) (inv .rows .levels) (inv .rows .closed) code state-here) (inv .rows .listed .within)
+
+            done-more : take (suc place) pairs′ ≡ take place pairs ++ (code ∷ [])
+            done-more =
+                sym (take-take (suc place) n pairs′ (omega (arith, longer)))
+                ∙ ap (take (suc place)) grown-is
+                ∙ take-append-le (suc place) (take k pairs) rest (omega (arith, size))
+                ∙ take-take (suc place) k pairs (omega arith)
+                ∙ take-suc pairs place 0 (omega (arith, inv .numbered .room, inv .numbered .few))
+
+            earlier : (more : List ℕ) → AddsRecords before 0 (records (rowN ends transitions r (take n pairs′ ++ more)) (take place pairs)) table m
+            earlier more = rw (grown-is, append-assoc (take k pairs) rest more) (inv .written (rest ++ more))
+
+            pub pairing-steps : Pairing ends transitions r all before pairs′ index′ table′ n after (place + 1)
+            unfolding twoBytes
+            pairing-steps = record {
+              count = inv .count + length (targetsN ends transitions r code);
+              numbered = counted .numbered;
+              rows = record {
+                listed = record { states = inv .rows .listed .states; rows = inv .rows .listed .rows; within = within };
+                size = inv .rows .size;
+                levels = inv .rows .levels;
+                closed = inv .rows .closed;
+              };
+              reached = omega (arith, longer);
+              left = rw (add-one, ← at-place) (sym (explore-next eqb maxStates 24 (λ _ _. fine) 0 (targetsN ends transitions r) (λ _ _. fine) (maxStates - suc place) place (inv .count) (take k pairs) inside (rw at-place (counted .are))) ∙ rw (← fuel) (inv .left));
+              size = same ∙ inv .size;
+              few = omega (arith, inv .few, counted .written [] .count, records-length (transitionN (take n pairs′ ++ []) r (code % levelPlaces)) 4 (λ x. refl) own, own-few);
+              written = λ more.
+                  rw (add-one, done-more, records-last (rowN ends transitions r (take n pairs′ ++ more)) (take place pairs) code)
+                  (adds-more before 0 _ table m _ table′ after (earlier more) (counted .written more));
+            }

@@ -7,13 +7,12 @@ use native.Mathlib.Omega.{arith}
 use lib.ListN.{length, getD}
 use Rattle.sets.specs.Sets.{In}
 use Rattle.automaton.specs.Limits.{maxOfState}
-use Rattle.generalized.specs.Limits.{maxGeneralizedTransitions, maxGeneralizedStates}
-use Rattle.generalized.specs.Memory.{keptTarget}
-use Rattle.translation.specs.Memory.{rowStart, rowCount, levelPlaces, InRows, PairRows}
+use Rattle.generalized.specs.Limits.{maxGeneralizedTransitions}
+use Rattle.translation.specs.Memory.{rowStart, rowCount, levelPlaces, InRows}
 
 -- the pair of a code, with its state's number as it is read of the code
 module _ (ends codes : List ℕ) (code : ℕ) (listed : InRows ends codes) (among : In code codes) (s : ℕ) (is : s ≡ code / levelPlaces) where
-  state-within : s < listed .states
+  pub state-within : s < listed .states
   state-within = omega (arith, listed .within code among)
 
   pub state-inside : s < length ends
@@ -27,8 +26,3 @@ module _ (ends codes : List ℕ) (code : ℕ) (listed : InRows ends codes) (amon
 
   pub row-few : rowCount ends s ≤ maxOfState
   row-few = listed .rows .few s state-within
-
-pub row-leads : (ends transitions : List ℕ) (r : ℕ) (codes : List ℕ) (code : ℕ) (rows : PairRows ends transitions r codes) → In code codes → (s : ℕ) → s ≡ code / levelPlaces
-    → (i : ℕ) → i < getD ends s 0 → keptTarget (getD transitions i 0) < maxGeneralizedStates
-row-leads ends transitions r codes code rows among s is i l =
-    omega (arith, rows .closed s (state-within ends codes code (rows .listed) among s is) i l, rows .listed .rows .states)

@@ -2,23 +2,24 @@
 -- and the records come to over these.
 use Prim.Native.Nat.{ℕ, zero, suc, _+_, _-_, _*_, _/_, _%_, _<_, _≤_}
 use mathlib.Core.Path.{_≡_}
-use mathlib.Core.List.{List, [], _∷_, _++_, map}
+use mathlib.Core.List.{List, _++_, map}
 use mathlib.Core.Bool.{true, false, cond}
-use lib.ListN.{length, getD, take}
+use lib.ListN.{length, getD, take, drop}
 use lib.Dec.{eqb, ltb}
 use Rattle.answer.specs.Result.{Result, accepted, refused, andThen, fine}
-use Rattle.answer.specs.Bytes.{filled}
 use Rattle.sets.specs.Sets.{In}
 use Rattle.sets.specs.Bits.{has}
 use Rattle.formula.specs.Limits.{maxUntils}
 use Rattle.formula.specs.Formula.{formula}
 use Rattle.term.specs.Term.{cover}
 use Rattle.generalized.specs.Limits.{maxGeneralizedTransitions, maxGeneralizedStates}
-use Rattle.generalized.specs.Explore.{find, meetAll, explore}
+use Rattle.generalized.specs.Explore.{find, meet, meetAll, explore}
 use Rattle.generalized.specs.Generalized.{generalized}
 use Rattle.generalized.specs.Memory.{kept, keptTarget, keptUntils, keptMust, keptMustNot, allTransitions}
+use Rattle.translation.specs.declared.Met.{Met}
+use Rattle.translation.specs.declared.Met.the-variants.{Number, Full}
 use Rattle.translation.specs.declared.Paired.{Paired}
-use Rattle.translation.specs.declared.Paired.the-variants.{Count, Full}
+use Rattle.translation.specs.declared.Paired.the-variants.{Count, Stop}
 use Rattle.automaton.specs.Automaton.{Automaton}
 use Rattle.automaton.specs.Limits.{maxStates, maxOfState, statesBytes, transitionsBytes, initialBytes}
 use Rattle.automaton.specs.Records.{records, stateBytes, transitionBytes}
@@ -43,22 +44,17 @@ pub record FirstWalk (rule : List ℕ) (initial : ℕ) (transitions ends : List 
       take (length (allTransitions rule states)) transitions ≡ map (kept rule states) (allTransitions rule states)
   pub ending : (s : ℕ) → s < length states → getD ends s 0 ≡ length (allTransitions rule (take (suc s) states))
 
--- count numbers, the first is from
-unfoldable pub range : (count from : ℕ) → List ℕ
-range zero from = []
-range (suc count) from = from ∷ range count (suc from)
-
 -- where the transitions of a state begin: where those of the state before it end
 abbrev pub rowStart : (ends : List ℕ) → ℕ → ℕ
 rowStart ends zero = 0
 rowStart ends (suc s) = getD ends s 0
 
--- how many a state has, and their places
+-- how many a state has, and these
 abbrev pub rowCount : (ends : List ℕ) → ℕ → ℕ
 rowCount ends s = getD ends s 0 - rowStart ends s
 
-abbrev pub row : (ends : List ℕ) → ℕ → List ℕ
-row ends s = range (rowCount ends s) (rowStart ends s)
+abbrev pub row : (ends transitions : List ℕ) → ℕ → List ℕ
+row ends transitions s = take (rowCount ends s) (drop (rowStart ends s) transitions)
 
 -- ---- pairs
 
@@ -97,25 +93,24 @@ meetAllN place count ts codes = meetAll eqb maxStates 24 (λ _ _. fine) place ts
 abbrev pub numberN : (index : List ℕ) (code : ℕ) → ℕ
 numberN index code = getD index code 0 - 1
 
--- the record of the pair that has a number, and of its transition x from a level
+-- the record of the pair that has a number, and of its transition x from a level when the pairs codes are numbered
 abbrev pub pairBytes : (ends : List ℕ) (r number code : ℕ) → List ℕ
 pairBytes ends r number code = stateBytes (rowCount ends (code / levelPlaces)) (eqb (code % levelPlaces) r)
 
-abbrev pub transitionN : (index : List ℕ) (r level x : ℕ) → List ℕ
-transitionN index r level x = transitionBytes (keptMust x) (keptMustNot x) (numberN index (targetN r level x))
+abbrev pub transitionN : (codes : List ℕ) (r level x : ℕ) → List ℕ
+transitionN codes r level x = transitionBytes (keptMust x) (keptMustNot x) (find eqb (targetN r level x) codes)
 
 -- the first walk's tables, and how many untils there are
 module _ (ends transitions : List ℕ) (r : ℕ) where
   abbrev pub targetsN : (code : ℕ) → List ℕ
-  targetsN code = map (λ i. targetN r (code % levelPlaces) (getD transitions i 0)) (row ends (code / levelPlaces))
+  targetsN code = map (targetN r (code % levelPlaces)) (row ends transitions (code / levelPlaces))
 
   abbrev pub exploreN : (fuel place count : ℕ) (codes : List ℕ) → Result (List ℕ)
   exploreN = explore eqb maxStates 24 (λ _ _. fine) 0 targetsN (λ _ _. fine)
 
   -- the records of a pair's transitions
-  abbrev pub rowN : (index : List ℕ) (code : ℕ) → List ℕ
-  rowN index code =
-      records (λ i. transitionN index r (code % levelPlaces) (getD transitions i 0)) (row ends (code / levelPlaces))
+  abbrev pub rowN : (codes : List ℕ) (code : ℕ) → List ℕ
+  rowN codes code = records (transitionN codes r (code % levelPlaces)) (row ends transitions (code / levelPlaces))
 
 -- the states of the pairs codes are among the first n of the first walk
 abbrev pub Within : (n : ℕ) (codes : List ℕ) → Type 0
@@ -141,7 +136,11 @@ pub record PairRows (ends transitions : List ℕ) (r : ℕ) (codes : List ℕ) :
   pub size : length transitions ≡ maxGeneralizedTransitions
   pub levels : r ≤ maxUntils
   pub closed :
-      (s : ℕ) → s < listed .states → (i : ℕ) → i < getD ends s 0 → keptTarget (getD transitions i 0) < listed .states
+      (s : ℕ) → s < listed .states → (x : ℕ) → In x (row ends transitions s) → keptTarget x < listed .states
+
+-- each transition of a row leads to a state that can have a number
+abbrev pub Leads : (row : List ℕ) → Type 0
+Leads row = (x : ℕ) → In x row → keptTarget x < maxGeneralizedStates
 
 -- n pairs are numbered: their codes stand by number in pairs, and index has for each code one more than its pair's
 -- number, or 0 where the pair has none
@@ -153,16 +152,19 @@ pub record PairsNumbered (pairs index : List ℕ) (n : ℕ) : Type 0 where
       (code : ℕ) → code < codePlaces
       → getD index code 0 ≡ cond (ltb (find eqb code (take n pairs)) n) (suc (find eqb code (take n pairs))) 0
 
--- every target of the pairs codes has a number
-abbrev pub Closed : (ends transitions : List ℕ) (r : ℕ) (index codes : List ℕ) → Type 0
-Closed ends transitions r index codes =
-    (code : ℕ) → In code codes → (x : ℕ) → In x (targetsN ends transitions r code)
-    → (0 < getD index x 0) × (getD index x 0 ≤ maxStates)
+-- a pair met when xs are numbered: its number, and that n are numbered then, xs the first of them
+pub record NumberedPair (code : ℕ) (xs : List ℕ) (met : Result (List ℕ)) (number n : ℕ) (pairs index : List ℕ)
+    : Type 0 where
+  pub are : met ≡ accepted (take n pairs)
+  pub numbered : PairsNumbered pairs index n
+  pub first : take (length xs) (take n pairs) ≡ xs
+  pub found : number ≡ find eqb code (take n pairs)
+  pub inside : number < n
 
--- pairs met: how many are numbered then, or that there is one too many, and the pair being walked
-abbrev pub Pairs : (met : Result (List ℕ)) → Paired → (pairs index : List ℕ) → Type 0
-Pairs met (Count n) pairs index = (met ≡ accepted (take n pairs)) × PairsNumbered pairs index n
-Pairs met (Full pair) pairs index = met ≡ refused 24 (pair .0)
+abbrev pub MeetsPair : (place code : ℕ) (xs : List ℕ) → Met → (pairs index : List ℕ) → Type 0
+MeetsPair place code xs (Number number n) pairs index =
+    NumberedPair code xs (meet eqb maxStates 24 place code xs) (number .0) n pairs index
+MeetsPair place code xs Full pairs index = meet eqb maxStates 24 place code xs ≡ refused 24 place
 
 -- ---- records in a table
 
@@ -171,10 +173,20 @@ pub record AddsRecords (before : List ℕ) (k : ℕ) (bytes table : List ℕ) (a
   pub count : after * 4 ≡ k * 4 + length bytes
   pub front : take (after * 4) table ≡ take (k * 4) before ++ bytes
 
--- a table with count records of 4 bytes, and zeros after them
-pub record Written (before bytes table : List ℕ) (count : ℕ) : Type 0 where
-  pub total : count * 4 ≡ length bytes
-  pub table-is : table ≡ filled before bytes
+-- pairs met, n of which are numbered then, and the records of transitions put after the first k of a table, m of which
+-- are there then: those that bytes makes of the pairs and their numbers, whatever pairs take the numbers after n
+pub record AddedRows (met : Result (List ℕ)) (bytes : (done codes : List ℕ) → List ℕ) (before : List ℕ) (k n m : ℕ)
+    (pairs index table : List ℕ) : Type 0 where
+  pub are : met ≡ accepted (take n pairs)
+  pub numbered : PairsNumbered pairs index n
+  pub inside : m * 4 ≤ length table
+  pub written : (more : List ℕ) → AddsRecords before k (bytes (take n pairs) (take n pairs ++ more)) table m
+
+-- or there is a pair too many, and the pair being walked
+abbrev pub AddsRows : (met : Result (List ℕ)) (bytes : (done codes : List ℕ) → List ℕ) (before : List ℕ) (k : ℕ)
+    → Paired → (pairs index table : List ℕ) → Type 0
+AddsRows met bytes before k (Count n m) pairs index table = AddedRows met bytes before k n m pairs index table
+AddsRows met bytes before k (Stop pair) pairs index table = met ≡ refused 24 (pair .0)
 
 -- the three tables are large enough
 pub record TablesRoom (states transitions initial : List ℕ) : Type 0 where

@@ -16,7 +16,6 @@ ghost use mathlib.Core.List.{[], _∷_, _++_, map};
 ghost use Prim.Native.Nat.{ℕ, _+_, _-_, _*_, _/_, _%_, _<_, _≤_};
 ghost use lib.ListN.{length, getD, take};
 ghost use lib.Seq.{sets};
-ghost use lib.Dec.{eqb};
 ghost use Rattle.answer.specs.Result.{fine, refused, andThen};
 ghost use Rattle.answer.specs.Bytes.{twoBytes, filled};
 ghost use Rattle.formula.specs.Limits.{maxUntils};
@@ -24,14 +23,13 @@ ghost use Rattle.formula.specs.Rule;
 ghost use Rattle.term.specs.Limits.{maxTerms};
 ghost use Rattle.term.specs.Size.{sizesChecked};
 ghost use Rattle.generalized.specs.Limits.{maxGeneralizedTransitions, maxGeneralizedStates};
-ghost use Rattle.generalized.specs.Explore.{meet};
 ghost use Rattle.generalized.specs.Generalized.{generalized};
 ghost use Rattle.generalized.specs.Memory.{keptTarget, keptMust, keptMustNot};
-ghost use Rattle.automaton.specs.Limits.{maxStates, maxOfState, transitionsBytes, initialBytes};
+ghost use Rattle.automaton.specs.Limits.{maxStates, transitionsBytes, initialBytes};
 ghost use Rattle.automaton.specs.Records.{records, numberedRecords, stateBytes, transitionBytes};
 ghost use Rattle.automaton.specs.Tables.{outcome};
 ghost use Rattle.translation.specs.Degeneralized.{numbers, translation};
-ghost use Rattle.translation.specs.Memory.{secondWalk, FirstWalk, rowStart, levelPlaces, codeOf, codePlaces, climbN, nextLevelN, targetN, targetsN, meetAllN, numberN, exploreN, pairBytes, rowN, InRows, PairRows, PairsNumbered, Closed, Pairs, AddsRecords, Written, TablesRoom};
+ghost use Rattle.translation.specs.Memory.{secondWalk, FirstWalk, rowStart, levelPlaces, codeOf, codePlaces, climbN, nextLevelN, targetN, meetAllN, numberN, exploreN, pairBytes, transitionN, rowN, InRows, PairRows, PairsNumbered, Leads, MeetsPair, AddsRows, TablesRoom};
 ghost use Rattle.translation.specs.Translate.{translateAnswer, stored, translated};
 
 // The number of document 01 by which the second walk is refused.
@@ -52,10 +50,24 @@ pub enum Translated {
     Refused(u8, usize),
 }
 
-// What the second walk comes to: how many pairs, or that there is one too many, and the pair being walked.
+// How far the second walk is: the pairs that are walked, those that are numbered, and the transitions that are written.
+struct Extent {
+    walked: usize,
+    pairs: usize,
+    transitions: usize,
+}
+
+// What meeting a pair comes to: its number and how many are numbered then, or that there is no number left.
+enum Met {
+    Number(StateNumber, usize),
+    Full,
+}
+
+// What the second walk comes to: how many pairs and transitions, or that there is a pair too many, and the pair being
+// walked.
 enum Paired {
-    Count(usize),
-    Full(StateNumber),
+    Count(usize, usize),
+    Stop(StateNumber),
 }
 
 // The level reached from one on: one more for each until in the set, up to the first that is not.
@@ -138,8 +150,10 @@ fn target(transition: u64, r: usize, level: usize) -> usize
 
 // A pair that is not met yet takes number n.
 fn add_pair(pairs: &mut [usize], index: &mut [u8], n: usize, code: usize)
-    requires { ⌜ PairsNumbered (now pairs) (now index) n × (n < maxStates) × (code < codePlaces) × (getD (now index) code 0 ≡ 0) ⌝ }
-    ensures { λ _. ⌜ PairsNumbered (now (pairs .exit)) (now (index .exit)) (n + 1) × (take (n + 1) (now (pairs .exit)) ≡ take n (now (pairs .entry)) ++ (code ∷ [])) ⌝ }
+    requires { ⌜ PairsNumbered (now pairs) (now index) n × (n < maxStates) × (code < codePlaces)
+        × (getD (now index) code 0 ≡ 0) ⌝ }
+    ensures { λ _. ⌜ PairsNumbered (now (pairs .exit)) (now (index .exit)) (n + 1)
+        × (take (n + 1) (now (pairs .exit)) ≡ take n (now (pairs .entry)) ++ (code ∷ [])) ⌝ }
 {
     pairs[n] = code;
     index[code] = (n + 1) as u8;
@@ -148,7 +162,8 @@ fn add_pair(pairs: &mut [usize], index: &mut [u8], n: usize, code: usize)
 // The initial pairs: the first n states at level 0.
 fn start_pairs(pairs: &mut [usize], index: &mut [u8], n: usize)
     requires { ⌜ PairsNumbered (now pairs) (now index) 0 × (n ≤ maxTerms) ⌝ }
-    ensures { λ _. ⌜ PairsNumbered (now (pairs .exit)) (now (index .exit)) n × (take n (now (pairs .exit)) ≡ map (λ i. codeOf i 0) (numbers n)) ⌝ }
+    ensures { λ _. ⌜ PairsNumbered (now (pairs .exit)) (now (index .exit)) n
+        × (take n (now (pairs .exit)) ≡ map (λ i. codeOf i 0) (numbers n)) ⌝ }
 {
     let mut i = 0;
     while i < n {
@@ -157,80 +172,109 @@ fn start_pairs(pairs: &mut [usize], index: &mut [u8], n: usize)
     }
 }
 
-// A pair met from another one, when n are numbered: an unseen one takes the next number, if there is one.
-fn meet_pair(
-    pairs: &mut [usize],
-    index: &mut [u8],
-    n: usize,
-    code: usize,
-    from: StateNumber,
-) -> Paired
-    requires { ⌜ PairsNumbered (now pairs) (now index) n × (code < codePlaces) ⌝ }
-    ensures { λ met. ⌜ Pairs (meet eqb maxStates 24 (from .0) code (take n (now (pairs .entry)))) met (now (pairs .exit)) (now (index .exit)) ⌝ }
+// The number of a pair that has one.
+fn pair_number(index: &[u8], code: usize) -> StateNumber
+    requires { ⌜ (code < length (now index)) × (0 < getD (now index) code 0) ⌝ }
+    ensures { λ s. ⌜ s .0 ≡ numberN (now (index .entry)) code ⌝ }
 {
-    if index[code] != 0 {
-        return Paired::Count(n);
-    }
-    if MAX_STATES <= n {
-        return Paired::Full(from);
-    }
-    add_pair(pairs, index, n, code);
-    Paired::Count(n + 1)
+    StateNumber(answer::wide(index[code]) - 1)
 }
 
-// The targets of a pair, met one after another; n pairs are numbered.
+// A pair met when n are numbered: an unseen one takes the next number, if there is one.
+fn meet_pair(pairs: &mut [usize], index: &mut [u8], n: usize, code: usize) -> Met
+    requires { ⌜ PairsNumbered (now pairs) (now index) n × (code < codePlaces) ⌝ }
+    ensures { λ met. ⌜ ((place : ℕ)
+        → MeetsPair place code (take n (now (pairs .entry))) met (now (pairs .exit)) (now (index .exit))) ⌝ }
+{
+    if index[code] != 0 {
+        return Met::Number(pair_number(index, code), n);
+    }
+    if MAX_STATES <= n {
+        return Met::Full;
+    }
+    add_pair(pairs, index, n, code);
+    Met::Number(StateNumber(n), n + 1)
+}
+
+// A row of transitions from a level: their targets met one after another, and their records put behind those before.
 fn meet_row(
-    ends: &[usize],
-    transitions: &[u64],
+    row: &[u64],
+    level: usize,
     r: usize,
     pairs: &mut [usize],
     index: &mut [u8],
-    n: usize,
-    pair: StateNumber,
+    table: &mut [u8],
+    before: Extent,
 ) -> Paired
-    requires { ⌜ PairRows (now ends) (now transitions) r (take n (now pairs)) × PairsNumbered (now pairs) (now index) n × (pair .0 < n) ⌝ }
-    ensures { λ met. ⌜ ((count : ℕ) → Pairs (meetAllN (pair .0) count (targetsN (now (ends .entry)) (now (transitions .entry)) r (getD (now (pairs .entry)) (pair .0) 0)) (take n (now (pairs .entry)))) met (now (pairs .exit)) (now (index .exit))) ⌝ }
+    requires { ⌜ PairsNumbered (now pairs) (now index) (before .pairs) × (r ≤ maxUntils) × Leads (now row)
+        × ((before .transitions + length (now row)) * 4 ≤ length (now table)) ⌝ }
+    ensures { λ met. ⌜ ((count : ℕ) → AddsRows
+        (meetAllN (before .walked) count (map (targetN r level) (now (row .entry))) (take (before .pairs) (now (pairs .entry))))
+        (λ _ codes. records (transitionN codes r level) (now (row .entry)))
+        (now (table .entry)) (before .transitions) met (now (pairs .exit)) (now (index .exit)) (now (table .exit))) ⌝ }
 {
-    let number = pair.0;
-    let code = pairs[number];
-    let level = level_of(code);
-    let end = row_end(ends, state_of(code));
-    let mut k = n;
-    let mut i = row_start(ends, state_of(code));
-    while i < end {
-        let met = meet_pair(pairs, index, k, target(transitions[i], r, level), pair);
-        let Paired::Count(more) = met else {
-            return met;
+    let written = before.transitions;
+    let mut k = before.pairs;
+    let mut i = 0;
+    while i < row.len() {
+        let x = row[i];
+        let met = meet_pair(pairs, index, k, target(x, r, level));
+        let Met::Number(number, more) = met else {
+            return Paired::Stop(StateNumber(before.walked));
         };
+        put_transition(table, written + i, x, number);
         k = more;
         i += 1;
     }
-    Paired::Count(k)
+    Paired::Count(k, written + row.len())
 }
 
-// The second walk: all pairs that can be reached from the first n.
+// The second walk: all pairs that can be reached from the first n, with the records of their transitions in the table.
 fn explore_pairs(
     ends: &[usize],
-    transitions: &[u64],
+    kept: &[u64],
     r: usize,
     pairs: &mut [usize],
     index: &mut [u8],
+    table: &mut [u8],
     n: usize,
 ) -> Paired
-    requires { ⌜ PairRows (now ends) (now transitions) r (take n (now pairs)) × PairsNumbered (now pairs) (now index) n ⌝ }
-    ensures { λ met. ⌜ Pairs (exploreN (now (ends .entry)) (now (transitions .entry)) r maxStates 0 0 (take n (now (pairs .entry)))) met (now (pairs .exit)) (now (index .exit)) ⌝ }
+    requires { ⌜ PairRows (now ends) (now kept) r (take n (now pairs)) × PairsNumbered (now pairs) (now index) n
+        × (transitionsBytes ≤ length (now table)) ⌝ }
+    ensures { λ met. ⌜ AddsRows
+        (exploreN (now (ends .entry)) (now (kept .entry)) r maxStates 0 0 (take n (now (pairs .entry))))
+        (λ done codes. records (rowN (now (ends .entry)) (now (kept .entry)) r codes) done)
+        (now (table .entry)) 0 met (now (pairs .exit)) (now (index .exit)) (now (table .exit)) ⌝ }
 {
+    let mut m = 0;
     let mut k = n;
-    let mut pair = StateNumber(0);
-    while pair.0 < k {
-        let met = meet_row(ends, transitions, r, pairs, index, k, pair);
-        let Paired::Count(more) = met else {
+    let mut pair = 0;
+    while pair < k {
+        let code = pairs[pair];
+        let start = row_start(ends, state_of(code));
+        let end = row_end(ends, state_of(code));
+        let at = Extent {
+            walked: pair,
+            pairs: k,
+            transitions: m,
+        };
+        let met = meet_row(
+            &kept[start..end],
+            level_of(code),
+            r,
+            pairs,
+            index,
+            table,
+            at,
+        );
+        let Paired::Count(numbered, written) = met else {
             return met;
         };
-        k = more;
-        pair = StateNumber(pair.0 + 1);
+        k = numbered;
+        m = written;
+        pair += 1;
     }
-    Paired::Count(k)
+    Paired::Count(k, m)
 }
 
 // Zeros behind the first n bytes.
@@ -262,7 +306,9 @@ fn put_state(table: &mut [u8], state: StateNumber, count: usize, accepting: bool
 // The record of transition number k, a transition of the first walk with its target among the pairs.
 fn put_transition(table: &mut [u8], k: usize, transition: u64, target: StateNumber)
     requires { ⌜ (k * 4 + 4 ≤ length (now table)) × (target .0 < 65536) ⌝ }
-    ensures { λ _. ⌜ now (table .exit) ≡ sets (now (table .entry)) (k * 4) (transitionBytes (keptMust transition) (keptMustNot transition) (target .0)) ⌝ }
+    ensures { λ _. ⌜ now (table .exit)
+        ≡ sets (now (table .entry)) (k * 4)
+        (transitionBytes (keptMust transition) (keptMustNot transition) (target .0)) ⌝ }
 {
     let at = k * 4;
     table[at] = generalized::must_of(transition);
@@ -278,18 +324,11 @@ fn put_initial(table: &mut [u8], i: usize, state: StateNumber)
     put_number(table, i * 2, state.0);
 }
 
-// The number of a pair that has one.
-fn pair_number(index: &[u8], code: usize) -> StateNumber
-    requires { ⌜ (code < length (now index)) × (0 < getD (now index) code 0) ⌝ }
-    ensures { λ s. ⌜ s .0 ≡ numberN (now (index .entry)) code ⌝ }
-{
-    StateNumber(answer::wide(index[code]) - 1)
-}
-
 // The records of all pairs, as states of the automaton.
 fn write_states(table: &mut [u8], ends: &[usize], r: usize, pairs: &[usize])
     requires { ⌜ InRows (now ends) (now pairs) × (length (now pairs) * 4 ≤ length (now table)) ⌝ }
-    ensures { λ _. ⌜ now (table .exit) ≡ filled (now (table .entry)) (numberedRecords (pairBytes (now (ends .entry)) r) 0 (now (pairs .entry))) ⌝ }
+    ensures { λ _. ⌜ now (table .exit)
+        ≡ filled (now (table .entry)) (numberedRecords (pairBytes (now (ends .entry)) r) 0 (now (pairs .entry))) ⌝ }
 {
     let mut pair = StateNumber(0);
     while pair.0 < pairs.len() {
@@ -301,54 +340,6 @@ fn write_states(table: &mut [u8], ends: &[usize], r: usize, pairs: &[usize])
         pair = StateNumber(pair.0 + 1);
     }
     zero_behind(table, pairs.len() * 4);
-}
-
-// The records of the transitions of a pair, of which the first has number k; the number after the last.
-fn write_row(
-    table: &mut [u8],
-    k: usize,
-    ends: &[usize],
-    transitions: &[u64],
-    r: usize,
-    index: &[u8],
-    code: usize,
-) -> usize
-    requires { ⌜ PairRows (now ends) (now transitions) r (code ∷ []) × Closed (now ends) (now transitions) r (now index) (code ∷ []) × (length (now index) ≡ codePlaces) × (k * 4 + 4 * maxOfState ≤ length (now table)) ⌝ }
-    ensures { λ after. ⌜ AddsRecords (now (table .entry)) k (rowN (now (ends .entry)) (now (transitions .entry)) r (now (index .entry)) code) (now (table .exit)) after ⌝ }
-{
-    let level = level_of(code);
-    let end = row_end(ends, state_of(code));
-    let mut next = k;
-    let mut i = row_start(ends, state_of(code));
-    while i < end {
-        let number = pair_number(index, target(transitions[i], r, level));
-        put_transition(table, next, transitions[i], number);
-        next += 1;
-        i += 1;
-    }
-    next
-}
-
-// The records of the transitions of all pairs; how many.
-fn write_transitions(
-    table: &mut [u8],
-    ends: &[usize],
-    transitions: &[u64],
-    r: usize,
-    index: &[u8],
-    pairs: &[usize],
-) -> usize
-    requires { ⌜ PairRows (now ends) (now transitions) r (now pairs) × Closed (now ends) (now transitions) r (now index) (now pairs) × (length (now index) ≡ codePlaces) × (length (now pairs) ≤ maxStates) × (transitionsBytes ≤ length (now table)) ⌝ }
-    ensures { λ count. ⌜ Written (now (table .entry)) (records (rowN (now (ends .entry)) (now (transitions .entry)) r (now (index .entry))) (now (pairs .entry))) (now (table .exit)) count ⌝ }
-{
-    let mut k = 0;
-    let mut p = 0;
-    while p < pairs.len() {
-        k = write_row(table, k, ends, transitions, r, index, pairs[p]);
-        p += 1;
-    }
-    zero_behind(table, k * 4);
-    k
 }
 
 // The numbers of the n initial states.
@@ -372,7 +363,8 @@ fn refuse(
     transitions: &mut [u8],
     initial: &mut [u8],
 ) -> Translated
-    ensures { λ r. ⌜ outcome (translateAnswer r) (now (states .exit)) (now (transitions .exit)) (now (initial .exit)) ≡ stored (refused number place) (now (states .entry)) (now (transitions .entry)) (now (initial .entry)) ⌝ }
+    ensures { λ r. ⌜ outcome (translateAnswer r) (now (states .exit)) (now (transitions .exit)) (now (initial .exit))
+        ≡ stored (refused number place) (now (states .entry)) (now (transitions .entry)) (now (initial .entry)) ⌝ }
 {
     zero(states);
     zero(transitions);
@@ -391,20 +383,24 @@ fn degeneralize(
     transitions: &mut [u8],
     initial: &mut [u8],
 ) -> Translated
-    requires { ⌜ (sizesChecked (now rule) ≡ fine) × FirstWalk (now rule) first (now kept) (now ends) × (length (now kept) ≡ maxGeneralizedTransitions) × (length (now ends) ≡ maxGeneralizedStates) × TablesRoom (now states) (now transitions) (now initial) ⌝ }
-    ensures { λ r. ⌜ outcome (translateAnswer r) (now (states .exit)) (now (transitions .exit)) (now (initial .exit)) ≡ stored (andThen (generalized (now (rule .entry))) (secondWalk (now (rule .entry)))) (now (states .entry)) (now (transitions .entry)) (now (initial .entry)) ⌝ }
+    requires { ⌜ (sizesChecked (now rule) ≡ fine) × FirstWalk (now rule) first (now kept) (now ends)
+        × (length (now kept) ≡ maxGeneralizedTransitions) × (length (now ends) ≡ maxGeneralizedStates)
+        × TablesRoom (now states) (now transitions) (now initial) ⌝ }
+    ensures { λ r. ⌜ outcome (translateAnswer r) (now (states .exit)) (now (transitions .exit)) (now (initial .exit))
+        ≡ stored (andThen (generalized (now (rule .entry))) (secondWalk (now (rule .entry)))) (now (states .entry))
+        (now (transitions .entry)) (now (initial .entry)) ⌝ }
 {
     let untils = acceptance::untils_of(rule);
     let r = untils.count;
     let mut pairs = [0usize; MAX_STATES];
     let mut index = [0u8; CODE_PLACES];
     start_pairs(&mut pairs, &mut index, first);
-    let walked = explore_pairs(ends, kept, r, &mut pairs, &mut index, first);
+    let walked = explore_pairs(ends, kept, r, &mut pairs, &mut index, transitions, first);
     match walked {
-        Paired::Full(pair) => refuse(TOO_MANY_PAIRS, pair.0, states, transitions, initial),
-        Paired::Count(count) => {
+        Paired::Stop(pair) => refuse(TOO_MANY_PAIRS, pair.0, states, transitions, initial),
+        Paired::Count(count, written) => {
             write_states(states, ends, r, &pairs[..count]);
-            let written = write_transitions(transitions, ends, kept, r, &index, &pairs[..count]);
+            zero_behind(transitions, written * 4);
             write_initial(initial, first);
             Translated::Accepted(count, written, first)
         }
@@ -414,7 +410,9 @@ fn degeneralize(
 // The two walks of a rule that 1 to 7 let pass, and the automaton in the three tables.
 fn build(rule: &[u8], states: &mut [u8], transitions: &mut [u8], initial: &mut [u8]) -> Translated
     requires { ⌜ (Rule.checked (now rule) ≡ fine) × TablesRoom (now states) (now transitions) (now initial) ⌝ }
-    ensures { λ r. ⌜ outcome (translateAnswer r) (now (states .exit)) (now (transitions .exit)) (now (initial .exit)) ≡ stored (translation (now (rule .entry))) (now (states .entry)) (now (transitions .entry)) (now (initial .entry)) ⌝ }
+    ensures { λ r. ⌜ outcome (translateAnswer r) (now (states .exit)) (now (transitions .exit)) (now (initial .exit))
+        ≡ stored (translation (now (rule .entry))) (now (states .entry)) (now (transitions .entry))
+        (now (initial .entry)) ⌝ }
 {
     let mut table = [0u64; term::TABLE_PLACES];
     let sizes = term::tabulate(rule, &mut table);
@@ -446,7 +444,8 @@ pub fn translate(
     transitions: &mut [u8],
     initial: &mut [u8],
 ) -> Translated
-    ensures { λ r. ⌜ outcome (translateAnswer r) (now (states .exit)) (now (transitions .exit)) (now (initial .exit)) ≡ translated (now (rule .entry)) (now (states .entry)) (now (transitions .entry)) (now (initial .entry)) ⌝ }
+    ensures { λ r. ⌜ outcome (translateAnswer r) (now (states .exit)) (now (transitions .exit)) (now (initial .exit))
+        ≡ translated (now (rule .entry)) (now (states .entry)) (now (transitions .entry)) (now (initial .entry)) ⌝ }
 {
     if states.len() < STATES_BYTES {
         return Translated::Refused(TABLE_TOO_SHORT, 0);

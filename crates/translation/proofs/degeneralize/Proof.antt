@@ -6,7 +6,7 @@ use mathlib.Core.Path.{refl, sym}
 use Rattle.term.proofs.Sizes.{bytes-fine}
 use Rattle.generalized.proofs.Passed.{initial-few}
 use Rattle.translation.proofs.Numbering.{numbered-begins}
-use Rattle.translation.proofs.SecondWalk.{Begun, first-rows, full-is, count-inside, codes-count, codes-few, index-size, all-rows, all-closed, written-is}
+use Rattle.translation.proofs.SecondWalk.{Begun, first-rows, stopped-is, count-inside, codes-count, codes-few, written-inside, all-rows, written-is}
 use Rattle.translation.proofs.degeneralize.Statement.{statement}
 use Rattle.translation.proofs.degeneralize.Tie as tie
 
@@ -42,7 +42,7 @@ slice-aggregate-explore-pairs-2 : tie.Need-slice-aggregate-explore-pairs-2
 slice-aggregate-explore-pairs-2 c = search needs
 
 explore-pairs-requires : tie.Need-explore-pairs-requires
-explore-pairs-requires c κs = (first-rows (begun (c .before .before .before .before)), begun (c .before .before .before .before) .numbered)
+explore-pairs-requires c κs = (first-rows (begun (c .before .before .before .before .before)), begun (c .before .before .before .before .before) .numbered, c .before .before .before .before .before .before .before .before .before .before .before .before .before .before .before .pre .4 .for-transitions)
 
 enum-known-walked : tie.Need-enum-known-walked
 enum-known-walked c = search needs
@@ -54,28 +54,22 @@ enum-known-walked-2 : tie.Need-enum-known-walked-2
 enum-known-walked-2 c = search needs
 
 array-share-prefix-pairs : tie.Need-array-share-prefix-pairs
-array-share-prefix-pairs c = count-inside (begun (c .before .before .before .before .before .before .before .before .before .before .before)) (c .before .before .before .before .before .before .explore-pairs .result) (c .before .before .before .before .before .before .explore-pairs .last .1 .1 .1 .0) (c .before .before .before .before .before .before .explore-pairs .last .1 .1 .1 .1 .0) (c .before .before .before .before .before .before .explore-pairs .ensures) (c .before .before .walked2 .given .1)
+array-share-prefix-pairs c = count-inside (begun (c .before .before .before .before .before .before .before .before .before .before .before .before .before .before)) _ (c .before .before .before .before .before .before .before .before .explore-pairs .result) (c .before .before .before .before .before .before .before .before .explore-pairs .last .1 .1 .1 .0) (c .before .before .before .before .before .before .before .before .explore-pairs .last .1 .1 .1 .1 .0) (c .before .before .before .before .before .before .before .before .explore-pairs .last .1 .1 .1 .1 .1 .0) (c .before .before .before .before .before .before .before .before .explore-pairs .ensures) (c .before .before .walked2 .given .1)
 
 slice-aggregate-write-states : tie.Need-slice-aggregate-write-states
-slice-aggregate-write-states c = sym (codes-count (begun (c .before .before .before .before .before .before .before .before .before .before .before .before)) (c .before .before .before .before .before .before .before .explore-pairs .result) (c .before .before .before .before .before .before .before .explore-pairs .last .1 .1 .1 .0) (c .before .before .before .before .before .before .before .explore-pairs .last .1 .1 .1 .1 .0) (c .before .before .before .before .before .before .before .explore-pairs .ensures) (c .before .before .before .walked2 .given .1))
+slice-aggregate-write-states c = sym (codes-count (begun (c .before .before .before .before .before .before .before .before .before .before .before .before .before .before .before)) _ (c .before .before .before .before .before .before .before .before .before .explore-pairs .result) (c .before .before .before .before .before .before .before .before .before .explore-pairs .last .1 .1 .1 .0) (c .before .before .before .before .before .before .before .before .before .explore-pairs .last .1 .1 .1 .1 .0) (c .before .before .before .before .before .before .before .before .before .explore-pairs .last .1 .1 .1 .1 .1 .0) (c .before .before .before .before .before .before .before .before .before .explore-pairs .ensures) (c .before .before .before .walked2 .given .1))
 
 write-states-requires : tie.Need-write-states-requires
-write-states-requires c κs = (all-rows (begun (c .before .before .before .before .before .before .before .before .before .before .before .before)) (c .before .before .before .before .before .before .before .explore-pairs .result) (c .before .before .before .before .before .before .before .explore-pairs .last .1 .1 .1 .0) (c .before .before .before .before .before .before .before .explore-pairs .last .1 .1 .1 .1 .0) (c .before .before .before .before .before .before .before .explore-pairs .ensures) (c .before .before .before .walked2 .given .1) .listed, omega (arith, codes-few (begun (c .before .before .before .before .before .before .before .before .before .before .before .before)) (c .before .before .before .before .before .before .before .explore-pairs .result) (c .before .before .before .before .before .before .before .explore-pairs .last .1 .1 .1 .0) (c .before .before .before .before .before .before .before .explore-pairs .last .1 .1 .1 .1 .0) (c .before .before .before .before .before .before .before .explore-pairs .ensures) (c .before .before .before .walked2 .given .1), c .before .before .before .before .before .before .before .before .before .before .before .before .before .before .before .before .before .before .before .before .before .before .pre .4 .for-states))
+write-states-requires c κs = (all-rows (begun (c .before .before .before .before .before .before .before .before .before .before .before .before .before .before .before)) _ (c .before .before .before .before .before .before .before .before .before .explore-pairs .result) (c .before .before .before .before .before .before .before .before .before .explore-pairs .last .1 .1 .1 .0) (c .before .before .before .before .before .before .before .before .before .explore-pairs .last .1 .1 .1 .1 .0) (c .before .before .before .before .before .before .before .before .before .explore-pairs .last .1 .1 .1 .1 .1 .0) (c .before .before .before .before .before .before .before .before .before .explore-pairs .ensures) (c .before .before .before .walked2 .given .1) .listed, omega (arith, codes-few (begun (c .before .before .before .before .before .before .before .before .before .before .before .before .before .before .before)) _ (c .before .before .before .before .before .before .before .before .before .explore-pairs .result) (c .before .before .before .before .before .before .before .before .before .explore-pairs .last .1 .1 .1 .0) (c .before .before .before .before .before .before .before .before .before .explore-pairs .last .1 .1 .1 .1 .0) (c .before .before .before .before .before .before .before .before .before .explore-pairs .last .1 .1 .1 .1 .1 .0) (c .before .before .before .before .before .before .before .before .before .explore-pairs .ensures) (c .before .before .before .walked2 .given .1), c .before .before .before .before .before .before .before .before .before .before .before .before .before .before .before .before .before .before .before .before .before .before .before .before .before .pre .4 .for-states))
 
-slice-aggregate-write-transitions : tie.Need-slice-aggregate-write-transitions
-slice-aggregate-write-transitions c = sym (index-size (begun (c .before .before .before .before .before .before .before .before .before .before .before .before .before .before .before .before .before)) (c .before .before .before .before .before .before .before .before .before .before .before .before .explore-pairs .result) (c .before .before .before .before .before .before .before .before .before .before .before .before .explore-pairs .last .1 .1 .1 .0) (c .before .before .before .before .before .before .before .before .before .before .before .before .explore-pairs .last .1 .1 .1 .1 .0) (c .before .before .before .before .before .before .before .before .before .before .before .before .explore-pairs .ensures) (c .before .before .before .before .before .before .before .before .walked2 .given .1))
+mul-zero-behind : tie.Need-mul-zero-behind
+mul-zero-behind c = omega (arith, written-inside (begun (c .before .before .before .before .before .before .before .before .before .before .before .before .before .before .before .before .before .before .before)) _ (c .before .before .before .before .before .before .before .before .before .before .before .before .before .explore-pairs .result) (c .before .before .before .before .before .before .before .before .before .before .before .before .before .explore-pairs .last .1 .1 .1 .0) (c .before .before .before .before .before .before .before .before .before .before .before .before .before .explore-pairs .last .1 .1 .1 .1 .0) (c .before .before .before .before .before .before .before .before .before .before .before .before .before .explore-pairs .last .1 .1 .1 .1 .1 .0) (c .before .before .before .before .before .before .before .before .before .before .before .before .before .explore-pairs .ensures) (c .before .before .before .before .before .before .before .walked2 .given .1), c .before .before .before .before .before .before .before .before .before .before .before .before .before .explore-pairs .kept .1 .1 .1 .1 .1 .0, c .before .before .before .before .before .before .before .before .before .before .before .before .before .before .before .before .before .before .before .before .before .before .before .before .before .before .before .before .before .good .1 .1 .1 .1 .1 .0 .0)
 
-array-share-prefix-pairs-2 : tie.Need-array-share-prefix-pairs-2
-array-share-prefix-pairs-2 c = count-inside (begun (c .before .before .before .before .before .before .before .before .before .before .before .before .before .before .before .before .before)) (c .before .before .before .before .before .before .before .before .before .before .before .before .explore-pairs .result) (c .before .before .before .before .before .before .before .before .before .before .before .before .explore-pairs .last .1 .1 .1 .0) (c .before .before .before .before .before .before .before .before .before .before .before .before .explore-pairs .last .1 .1 .1 .1 .0) (c .before .before .before .before .before .before .before .before .before .before .before .before .explore-pairs .ensures) (c .before .before .before .before .before .before .before .before .walked2 .given .1)
-
-slice-aggregate-write-transitions-2 : tie.Need-slice-aggregate-write-transitions-2
-slice-aggregate-write-transitions-2 c = sym (codes-count (begun (c .before .before .before .before .before .before .before .before .before .before .before .before .before .before .before .before .before .before)) (c .before .before .before .before .before .before .before .before .before .before .before .before .before .explore-pairs .result) (c .before .before .before .before .before .before .before .before .before .before .before .before .before .explore-pairs .last .1 .1 .1 .0) (c .before .before .before .before .before .before .before .before .before .before .before .before .before .explore-pairs .last .1 .1 .1 .1 .0) (c .before .before .before .before .before .before .before .before .before .before .before .before .before .explore-pairs .ensures) (c .before .before .before .before .before .before .before .before .before .walked2 .given .1))
-
-write-transitions-requires : tie.Need-write-transitions-requires
-write-transitions-requires c κs = (all-rows (begun (c .before .before .before .before .before .before .before .before .before .before .before .before .before .before .before .before .before .before)) (c .before .before .before .before .before .before .before .before .before .before .before .before .before .explore-pairs .result) (c .before .before .before .before .before .before .before .before .before .before .before .before .before .explore-pairs .last .1 .1 .1 .0) (c .before .before .before .before .before .before .before .before .before .before .before .before .before .explore-pairs .last .1 .1 .1 .1 .0) (c .before .before .before .before .before .before .before .before .before .before .before .before .before .explore-pairs .ensures) (c .before .before .before .before .before .before .before .before .before .walked2 .given .1), all-closed (begun (c .before .before .before .before .before .before .before .before .before .before .before .before .before .before .before .before .before .before)) (c .before .before .before .before .before .before .before .before .before .before .before .before .before .explore-pairs .result) (c .before .before .before .before .before .before .before .before .before .before .before .before .before .explore-pairs .last .1 .1 .1 .0) (c .before .before .before .before .before .before .before .before .before .before .before .before .before .explore-pairs .last .1 .1 .1 .1 .0) (c .before .before .before .before .before .before .before .before .before .before .before .before .before .explore-pairs .ensures) (c .before .before .before .before .before .before .before .before .before .walked2 .given .1), index-size (begun (c .before .before .before .before .before .before .before .before .before .before .before .before .before .before .before .before .before .before)) (c .before .before .before .before .before .before .before .before .before .before .before .before .before .explore-pairs .result) (c .before .before .before .before .before .before .before .before .before .before .before .before .before .explore-pairs .last .1 .1 .1 .0) (c .before .before .before .before .before .before .before .before .before .before .before .before .before .explore-pairs .last .1 .1 .1 .1 .0) (c .before .before .before .before .before .before .before .before .before .before .before .before .before .explore-pairs .ensures) (c .before .before .before .before .before .before .before .before .before .walked2 .given .1), codes-few (begun (c .before .before .before .before .before .before .before .before .before .before .before .before .before .before .before .before .before .before)) (c .before .before .before .before .before .before .before .before .before .before .before .before .before .explore-pairs .result) (c .before .before .before .before .before .before .before .before .before .before .before .before .before .explore-pairs .last .1 .1 .1 .0) (c .before .before .before .before .before .before .before .before .before .before .before .before .before .explore-pairs .last .1 .1 .1 .1 .0) (c .before .before .before .before .before .before .before .before .before .before .before .before .before .explore-pairs .ensures) (c .before .before .before .before .before .before .before .before .before .walked2 .given .1), c .before .before .before .before .before .before .before .before .before .before .before .before .before .before .before .before .before .before .before .before .before .before .before .before .before .before .before .before .pre .4 .for-transitions)
+zero-behind-requires : tie.Need-zero-behind-requires
+zero-behind-requires c κs = written-inside (begun (c .before .before .before .before .before .before .before .before .before .before .before .before .before .before .before .before .before .before .before)) _ (c .before .before .before .before .before .before .before .before .before .before .before .before .before .explore-pairs .result) (c .before .before .before .before .before .before .before .before .before .before .before .before .before .explore-pairs .last .1 .1 .1 .0) (c .before .before .before .before .before .before .before .before .before .before .before .before .before .explore-pairs .last .1 .1 .1 .1 .0) (c .before .before .before .before .before .before .before .before .before .before .before .before .before .explore-pairs .last .1 .1 .1 .1 .1 .0) (c .before .before .before .before .before .before .before .before .before .before .before .before .before .explore-pairs .ensures) (c .before .before .before .before .before .before .before .walked2 .given .1)
 
 write-initial-requires : tie.Need-write-initial-requires
-write-initial-requires c κs = (omega (arith, initial-few _ (c .before .before .before .before .before .before .before .before .before .before .before .before .before .before .before .before .before .before .before .before .before .before .before .before .before .before .before .before .before .before .before .before .pre .0), c .before .before .before .before .before .before .before .before .before .before .before .before .before .before .before .before .before .before .before .before .before .before .before .before .before .before .before .before .before .before .before .before .pre .1 .begun), c .before .before .before .before .before .before .before .before .before .before .before .before .before .before .before .before .before .before .before .before .before .before .before .before .before .before .before .before .before .before .before .before .pre .4 .for-initial)
+write-initial-requires c κs = (omega (arith, initial-few _ (c .before .before .before .before .before .before .before .before .before .before .before .before .before .before .before .before .before .before .before .before .before .before .before .before .before .before .before .before .before .before .before .before .before .pre .0), c .before .before .before .before .before .before .before .before .before .before .before .before .before .before .before .before .before .before .before .before .before .before .before .before .before .before .before .before .before .before .before .before .before .pre .1 .begun), c .before .before .before .before .before .before .before .before .before .before .before .before .before .before .before .before .before .before .before .before .before .before .before .before .before .before .before .before .before .before .before .before .before .pre .4 .for-initial)
 
 same-length : tie.Need-same-length
 same-length c = search needs
@@ -87,7 +81,7 @@ same-length-3 : tie.Need-same-length-3
 same-length-3 c = search needs
 
 returns : tie.Need-returns
-returns c = full-is (begun (c .before .before .before .before .before .before .before .before .before .before .before .before .before .before .before .before .before .before .before .before)) (c .before .before .before .before .before .before .before .before .before .before .before .before .before .before .before .explore-pairs .result) (c .before .before .before .before .before .before .before .before .before .before .before .before .before .before .before .explore-pairs .last .1 .1 .1 .0) (c .before .before .before .before .before .before .before .before .before .before .before .before .before .before .before .explore-pairs .last .1 .1 .1 .1 .0) (c .before .before .before .before .before .before .before .before .before .before .before .before .before .before .before .explore-pairs .ensures) (c .before .before .before .before .before .before .before .before .before .before .before .walked .given .1) _ _ _ (c .before .before .before .before .before .before .refuse .ensures)
+returns c = stopped-is (begun (c .before .before .before .before .before .before .before .before .before .before .before .before .before .before .before .before .before .before .before .before .before .before .before)) _ (c .before .before .before .before .before .before .before .before .before .before .before .before .before .before .before .before .before .explore-pairs .result) (c .before .before .before .before .before .before .before .before .before .before .before .before .before .before .before .before .before .explore-pairs .last .1 .1 .1 .0) (c .before .before .before .before .before .before .before .before .before .before .before .before .before .before .before .before .before .explore-pairs .last .1 .1 .1 .1 .0) (c .before .before .before .before .before .before .before .before .before .before .before .before .before .before .before .before .before .explore-pairs .last .1 .1 .1 .1 .1 .0) (c .before .before .before .before .before .before .before .before .before .before .before .before .before .before .before .before .before .explore-pairs .ensures) (c .before .before .before .before .before .before .before .before .before .before .before .walked .given .1) (c .before .before .before .before .before .before .before .before .before .before .before .before .before .before .before .before .before .explore-pairs .kept .1 .1 .1 .1 .1 .0) _ _ (c .before .before .before .before .before .before .refuse .ensures)
 
 same-length-4 : tie.Need-same-length-4
 same-length-4 c = search needs
@@ -99,7 +93,7 @@ same-length-6 : tie.Need-same-length-6
 same-length-6 c = search needs
 
 returns-2 : tie.Need-returns-2
-returns-2 c = written-is (begun (c .before .before .before .before .before .before .before .before .before .before .before .before .before .before .before .before .before .before .before .before .before .before .before .before .before)) (c .before .before .before .before .before .before .before .before .before .before .before .before .before .before .before .before .before .before .before .before .explore-pairs .result) (c .before .before .before .before .before .before .before .before .before .before .before .before .before .before .before .before .before .before .before .before .explore-pairs .last .1 .1 .1 .0) (c .before .before .before .before .before .before .before .before .before .before .before .before .before .before .before .before .before .before .before .before .explore-pairs .last .1 .1 .1 .1 .0) (c .before .before .before .before .before .before .before .before .before .before .before .before .before .before .before .before .before .before .before .before .explore-pairs .ensures) (c .before .before .before .before .before .before .before .before .before .before .before .before .before .before .before .before .walked2 .given .1) _ _ _ _ _ _ (c .before .before .before .before .before .before .write-transitions .result) (c .before .before .before .before .before .before .before .before .before .before .before .before .write-states .ensures) (c .before .before .before .before .before .before .write-transitions .ensures) (c .before .before .write-initial .ensures)
+returns-2 c = written-is (begun (c .before .before .before .before .before .before .before .before .before .before .before .before .before .before .before .before .before .before .before .before .before .before .before .before .before .before)) _ (c .before .before .before .before .before .before .before .before .before .before .before .before .before .before .before .before .before .before .before .before .explore-pairs .result) (c .before .before .before .before .before .before .before .before .before .before .before .before .before .before .before .before .before .before .before .before .explore-pairs .last .1 .1 .1 .0) (c .before .before .before .before .before .before .before .before .before .before .before .before .before .before .before .before .before .before .before .before .explore-pairs .last .1 .1 .1 .1 .0) (c .before .before .before .before .before .before .before .before .before .before .before .before .before .before .before .before .before .before .before .before .explore-pairs .last .1 .1 .1 .1 .1 .0) (c .before .before .before .before .before .before .before .before .before .before .before .before .before .before .before .before .before .before .before .before .explore-pairs .ensures) (c .before .before .before .before .before .before .before .before .before .before .before .before .before .before .walked2 .given .1) (c .before .before .before .before .before .before .before .before .before .before .before .before .before .before .before .before .before .before .before .before .explore-pairs .kept .1 .1 .1 .1 .1 .0) _ _ _ _ _ (c .before .before .before .before .before .before .before .before .before .before .write-states .ensures) (c .before .before .before .before .before .before .zero-behind .ensures) (c .before .before .write-initial .ensures)
 
 pub degeneralize-spec : {M : Type 1} → statement M
 degeneralize-spec =
@@ -118,10 +112,8 @@ degeneralize-spec =
     array-share-prefix-pairs
     slice-aggregate-write-states
     write-states-requires
-    slice-aggregate-write-transitions
-    array-share-prefix-pairs-2
-    slice-aggregate-write-transitions-2
-    write-transitions-requires
+    mul-zero-behind
+    zero-behind-requires
     write-initial-requires
     same-length
     same-length-2

@@ -1,5 +1,5 @@
--- `translation::explore_pairs` meets its contract: the walk from place on comes to what the whole walk does (`Pairing`).
--- Assumes nothing.
+-- `translation::explore_pairs` meets its contract: the walk from a pair on comes to what the whole walk does, and the rows before
+-- it are written (`Pairing`). Assumes nothing.
 use borrow.Author.Needs.{needs}
 use native.Mathlib.Omega.{arith}
 use Prim.Native.Nat.{_-_}
@@ -7,21 +7,56 @@ use mathlib.Core.Path.{refl, sym, _∙_}
 use lib.ListN.{take}
 use Rattle.automaton.specs.Limits.{maxStates}
 use Rattle.translation.specs.Memory.{exploreN}
-use Rattle.translation.proofs.Pairing.{Pairing, pairing-ends, pairing-full, pairing-steps}
+use Rattle.translation.proofs.Within.{state-inside}
+use Rattle.translation.proofs.Meeting.{among}
+use Rattle.translation.proofs.Pairing.{Pairing, pairing-begins, pairing-ends, pairing-stops, pairing-steps, row-begins, row-fits, row-leads, row-room}
 use Rattle.translation.proofs.explore_pairs.Statement.{statement}
 use Rattle.translation.proofs.explore_pairs.Tie as tie
 
 abbrev Inv-loop : tie.InvT-loop
-Inv-loop ends transitions r pairs₀ index₀ n k₀ pair₀ pairs index k pair = Pairing ends transitions r (exploreN ends transitions r maxStates 0 0 (take n pairs₀)) pairs index k (pair .0)
+Inv-loop ends kept r pairs₀ index₀ table₀ n m₀ k₀ pair₀ pairs index table m k pair = Pairing ends kept r (exploreN ends kept r maxStates 0 0 (take n pairs₀)) table₀ pairs index table k m pair
 
 abbrev μ-loop : tie.MeasureT-loop
-μ-loop ends transitions r pairs₀ index₀ n k₀ pair₀ pairs index k pair = maxStates - pair .0
+μ-loop ends kept r pairs₀ index₀ table₀ n m₀ k₀ pair₀ pairs index table m k pair = maxStates - pair
 
 loop-holds : tie.Need-loop-holds Inv-loop μ-loop
-loop-holds c = record { count = 0; numbered = c .before .before .before .before .pre .1; rows = c .before .before .before .before .pre .0; left = refl }
+loop-holds c = pairing-begins _ _ _ _ _ _ _ (c .before .before .before .before .before .pre .0) (c .before .before .before .before .before .pre .1)
+
+mul-code : tie.Need-mul-code Inv-loop μ-loop
+mul-code c = omega (arith, c .before .loop .inv .numbered .room, c .before .loop .inv .numbered .few)
+
+slice-read-code : tie.Need-slice-read-code Inv-loop μ-loop
+slice-read-code c = omega (arith, c .before .before .loop .inv .numbered .room, c .before .before .loop .inv .numbered .few)
+
+state-of-requires : tie.Need-state-of-requires Inv-loop μ-loop
+state-of-requires c κs = search needs
+
+row-start-requires : tie.Need-row-start-requires Inv-loop μ-loop
+row-start-requires c κs = state-inside _ _ _ (c .before .before .before .loop .inv .rows .listed) (among _ _ _ _ (c .before .before .before .loop .inv .numbered) (c .before .before .loop-test .taken)) _ (c .state-of .ensures)
+
+state-of-requires-2 : tie.Need-state-of-requires-2 Inv-loop μ-loop
+state-of-requires-2 c κs = search needs
+
+row-end-requires : tie.Need-row-end-requires Inv-loop μ-loop
+row-end-requires c κs = state-inside _ _ _ (c .before .before .before .before .before .loop .inv .rows .listed) (among _ _ _ _ (c .before .before .before .before .before .loop .inv .numbered) (c .before .before .before .before .loop-test .taken)) _ (c .state-of2 .ensures)
+
+mul-meet-row : tie.Need-mul-meet-row Inv-loop μ-loop
+mul-meet-row c = omega (arith, row-begins _ _ _ _ _ _ _ _ _ _ (c .before .before .before .before .before .before .loop .pair) (c .before .before .before .before .before .before .before .before .before .before .before .before .pre .2) (c .before .before .before .before .before .before .loop .inv) (c .before .before .before .before .before .loop-test .taken) (c .before .before .before .state-of .ensures) (c .before .state-of2 .ensures) refl (c .before .before .row-start .ensures) (c .row-end .ensures), row-fits _ _ _ _ _ _ _ _ _ _ (c .before .before .before .before .before .before .loop .pair) (c .before .before .before .before .before .before .before .before .before .before .before .before .pre .2) (c .before .before .before .before .before .before .loop .inv) (c .before .before .before .before .before .loop-test .taken) (c .before .before .before .state-of .ensures) (c .before .state-of2 .ensures) refl (c .before .before .row-start .ensures) (c .row-end .ensures), c .before .before .before .before .before .before .before .before .before .before .before .before .pre .0 .size)
+
+sub-meet-row : tie.Need-sub-meet-row Inv-loop μ-loop
+sub-meet-row c = row-begins _ _ _ _ _ _ _ _ _ _ (c .before .before .before .before .before .before .loop .pair) (c .before .before .before .before .before .before .before .before .before .before .before .before .pre .2) (c .before .before .before .before .before .before .loop .inv) (c .before .before .before .before .before .loop-test .taken) (c .before .before .before .state-of .ensures) (c .before .state-of2 .ensures) refl (c .before .before .row-start .ensures) (c .row-end .ensures)
+
+part-meet-row-start : tie.Need-part-meet-row-start Inv-loop μ-loop
+part-meet-row-start c = row-begins _ _ _ _ _ _ _ _ _ _ (c .before .before .before .before .before .before .loop .pair) (c .before .before .before .before .before .before .before .before .before .before .before .before .pre .2) (c .before .before .before .before .before .before .loop .inv) (c .before .before .before .before .before .loop-test .taken) (c .before .before .before .state-of .ensures) (c .before .state-of2 .ensures) refl (c .before .before .row-start .ensures) (c .row-end .ensures)
+
+part-meet-row-end : tie.Need-part-meet-row-end Inv-loop μ-loop
+part-meet-row-end c = row-fits _ _ _ _ _ _ _ _ _ _ (c .before .before .before .before .before .before .loop .pair) (c .before .before .before .before .before .before .before .before .before .before .before .before .pre .2) (c .before .before .before .before .before .before .loop .inv) (c .before .before .before .before .before .loop-test .taken) (c .before .before .before .state-of .ensures) (c .before .state-of2 .ensures) refl (c .before .before .row-start .ensures) (c .row-end .ensures)
+
+level-of-requires : tie.Need-level-of-requires Inv-loop μ-loop
+level-of-requires c κs = search needs
 
 meet-row-requires : tie.Need-meet-row-requires Inv-loop μ-loop
-meet-row-requires c κs = (c .before .before .before .before .loop .inv .rows, c .before .before .before .before .loop .inv .numbered, c .before .before .if1 .taken)
+meet-row-requires c κs = (c .before .before .before .before .before .before .before .before .before .before .before .loop .inv .numbered, c .before .before .before .before .before .before .before .before .before .before .before .before .before .before .before .before .before .pre .0 .levels, row-leads _ _ _ _ _ _ _ _ _ _ (c .before .before .before .before .before .before .before .before .before .before .before .loop .pair) (c .before .before .before .before .before .before .before .before .before .before .before .before .before .before .before .before .before .pre .2) (c .before .before .before .before .before .before .before .before .before .before .before .loop .inv) (c .before .before .before .before .before .before .before .before .before .before .loop-test .taken) (c .before .before .before .before .before .before .before .before .state-of .ensures) (c .before .before .before .before .before .before .state-of2 .ensures) (c .before .before .before .level-of .ensures) (c .before .before .before .before .before .before .before .row-start .ensures) (c .before .before .before .before .before .row-end .ensures), row-room _ _ _ _ _ _ _ _ _ _ (c .before .before .before .before .before .before .before .before .before .before .before .loop .pair) (c .before .before .before .before .before .before .before .before .before .before .before .before .before .before .before .before .before .pre .2) (c .before .before .before .before .before .before .before .before .before .before .before .loop .inv) (c .before .before .before .before .before .before .before .before .before .before .loop-test .taken) (c .before .before .before .before .before .before .before .before .state-of .ensures) (c .before .before .before .before .before .before .state-of2 .ensures) (c .before .before .before .level-of .ensures) (c .before .before .before .before .before .before .before .row-start .ensures) (c .before .before .before .before .before .row-end .ensures))
 
 enum-known-met : tie.Need-enum-known-met Inv-loop μ-loop
 enum-known-met c = search needs
@@ -30,31 +65,37 @@ enum-told : tie.Need-enum-told Inv-loop μ-loop
 enum-told c = search needs
 
 same-length : tie.Need-same-length Inv-loop μ-loop
-same-length c = c .before .before .before .before .before .before .meet-row .kept .1 .1 .1 .0 ∙ c .before .before .before .before .before .before .before .before .before .before .before .loop .inv .numbered .room ∙ sym (c .before .before .before .before .before .before .before .before .before .before .before .before .before .before .before .before .pre .1 .room)
+same-length c = c .before .before .before .before .before .before .before .before .meet-row .kept .1 .1 .1 .0 ∙ c .before .before .before .before .before .before .before .before .before .before .before .before .before .before .before .before .before .before .before .before .loop .inv .numbered .room ∙ sym (c .before .before .before .before .before .before .before .before .before .before .before .before .before .before .before .before .before .before .before .before .before .before .before .before .before .before .pre .1 .room)
 
 same-length-2 : tie.Need-same-length-2 Inv-loop μ-loop
-same-length-2 c = c .before .before .before .before .before .before .meet-row .kept .1 .1 .1 .1 .0 ∙ c .before .before .before .before .before .before .before .before .before .before .before .loop .inv .numbered .size ∙ sym (c .before .before .before .before .before .before .before .before .before .before .before .before .before .before .before .before .pre .1 .size)
-
-returns : tie.Need-returns Inv-loop μ-loop
-returns c = pairing-full _ _ _ _ _ _ _ _ (c .before .before .before .before .before .before .before .before .before .before .before .loop .inv) (c .before .before .before .before .before .before .before .before .before .if1 .taken) (c .before .before .before .before .before .before .meet-row .result) (c .before .before .before .before .before .before .meet-row .last .1 .1 .1 .0) (c .before .before .before .before .before .before .meet-row .last .1 .1 .1 .1 .0) (c .before .before .before .before .before .before .meet-row .ensures) (c .enum-told .given .1)
-
-add-t16 : tie.Need-add-t16 Inv-loop μ-loop
-add-t16 c = omega (arith, c .before .before .before .before .before .before .before .before .before .before .before .before .before .loop .inv .numbered .few)
-
-loop-less : tie.Need-loop-less Inv-loop μ-loop
-loop-less c = omega (arith, c .before .before .before .before .before .before .before .before .before .before .before .before .before .loop .inv .numbered .few)
-
-loop-again : tie.Need-loop-again Inv-loop μ-loop
-loop-again c = pairing-steps _ _ _ _ _ _ _ _ (c .before .before .before .before .before .before .before .before .before .before .before .before .before .loop .inv) (c .before .before .before .before .before .before .before .before .before .before .before .if1 .taken) (c .before .before .before .before .before .before .before .before .meet-row .result) (c .before .before .before .before .before .before .before .before .meet-row .last .1 .1 .1 .0) (c .before .before .before .before .before .before .before .before .meet-row .last .1 .1 .1 .1 .0) (c .before .before .before .before .before .before .before .before .meet-row .ensures) _ (c .before .before .met .given .1)
+same-length-2 c = c .before .before .before .before .before .before .before .before .meet-row .kept .1 .1 .1 .1 .0 ∙ c .before .before .before .before .before .before .before .before .before .before .before .before .before .before .before .before .before .before .before .before .loop .inv .numbered .size ∙ sym (c .before .before .before .before .before .before .before .before .before .before .before .before .before .before .before .before .before .before .before .before .before .before .before .before .before .before .pre .1 .size)
 
 same-length-3 : tie.Need-same-length-3 Inv-loop μ-loop
-same-length-3 c = c .before .before .loop .inv .numbered .room ∙ sym (c .before .before .before .before .before .before .before .pre .1 .room)
+same-length-3 c = c .before .before .before .before .before .before .before .before .meet-row .kept .1 .1 .1 .1 .1 .0 ∙ c .before .before .before .before .before .before .before .before .before .before .before .before .before .before .before .before .before .before .before .before .loop .inv .size
+
+returns : tie.Need-returns Inv-loop μ-loop
+returns c = pairing-stops _ _ _ _ _ _ _ _ _ _ (c .before .before .before .before .before .before .before .before .before .before .before .before .before .before .before .before .before .before .before .before .loop .pair) (c .before .before .before .before .before .before .before .before .before .before .before .before .before .before .before .before .before .before .before .before .before .before .before .before .before .before .pre .2) (c .before .before .before .before .before .before .before .before .before .before .before .before .before .before .before .before .before .before .before .before .loop .inv) (c .before .before .before .before .before .before .before .before .before .before .before .before .before .before .before .before .before .before .before .loop-test .taken) (c .before .before .before .before .before .before .before .before .before .before .before .before .before .before .before .before .before .state-of .ensures) (c .before .before .before .before .before .before .before .before .before .before .before .before .before .before .before .state-of2 .ensures) (c .before .before .before .before .before .before .before .before .before .before .before .before .level-of .ensures) (c .before .before .before .before .before .before .before .before .before .before .before .before .before .before .before .before .row-start .ensures) (c .before .before .before .before .before .before .before .before .before .before .before .before .before .before .row-end .ensures) (c .before .before .before .before .before .before .before .before .meet-row .result) (c .before .before .before .before .before .before .before .before .meet-row .last .1 .1 .1 .0) (c .before .before .before .before .before .before .before .before .meet-row .last .1 .1 .1 .1 .0) (c .before .before .before .before .before .before .before .before .meet-row .last .1 .1 .1 .1 .1 .0) (c .before .before .before .before .before .before .before .before .meet-row .ensures) (c .enum-told .given .1)
+
+add-pair : tie.Need-add-pair Inv-loop μ-loop
+add-pair c = omega (arith, c .before .before .before .before .before .before .before .before .before .before .before .before .before .before .before .before .before .before .before .before .before .loop .inv .numbered .few)
+
+loop-less : tie.Need-loop-less Inv-loop μ-loop
+loop-less c = omega (arith, c .before .before .before .before .before .before .before .before .before .before .before .before .before .before .before .before .before .before .before .before .before .loop .inv .numbered .few)
+
+loop-again : tie.Need-loop-again Inv-loop μ-loop
+loop-again c = pairing-steps _ _ _ _ _ _ _ _ _ _ (c .before .before .before .before .before .before .before .before .before .before .before .before .before .before .before .before .before .before .before .before .before .loop .pair) (c .before .before .before .before .before .before .before .before .before .before .before .before .before .before .before .before .before .before .before .before .before .before .before .before .before .before .before .pre .2) (c .before .before .before .before .before .before .before .before .before .before .before .before .before .before .before .before .before .before .before .before .before .loop .inv) (c .before .before .before .before .before .before .before .before .before .before .before .before .before .before .before .before .before .before .before .before .loop-test .taken) (c .before .before .before .before .before .before .before .before .before .before .before .before .before .before .before .before .before .before .state-of .ensures) (c .before .before .before .before .before .before .before .before .before .before .before .before .before .before .before .before .state-of2 .ensures) (c .before .before .before .before .before .before .before .before .before .before .before .before .before .level-of .ensures) (c .before .before .before .before .before .before .before .before .before .before .before .before .before .before .before .before .before .row-start .ensures) (c .before .before .before .before .before .before .before .before .before .before .before .before .before .before .before .row-end .ensures) (c .before .before .before .before .before .before .before .before .before .meet-row .result) (c .before .before .before .before .before .before .before .before .before .meet-row .last .1 .1 .1 .0) (c .before .before .before .before .before .before .before .before .before .meet-row .last .1 .1 .1 .1 .0) (c .before .before .before .before .before .before .before .before .before .meet-row .last .1 .1 .1 .1 .1 .0) (c .before .before .before .before .before .before .before .before .before .meet-row .ensures) (c .before .met .given .1) (c .before .before .before .before .before .before .before .before .before .meet-row .kept .1 .1 .1 .1 .1 .0)
 
 same-length-4 : tie.Need-same-length-4 Inv-loop μ-loop
-same-length-4 c = c .before .before .loop .inv .numbered .size ∙ sym (c .before .before .before .before .before .before .before .pre .1 .size)
+same-length-4 c = c .before .loop .inv .numbered .room ∙ sym (c .before .before .before .before .before .before .before .pre .1 .room)
+
+same-length-5 : tie.Need-same-length-5 Inv-loop μ-loop
+same-length-5 c = c .before .loop .inv .numbered .size ∙ sym (c .before .before .before .before .before .before .before .pre .1 .size)
+
+same-length-6 : tie.Need-same-length-6 Inv-loop μ-loop
+same-length-6 c = c .before .loop .inv .size
 
 returns-2 : tie.Need-returns-2 Inv-loop μ-loop
-returns-2 c = pairing-ends _ _ _ _ _ _ _ _ (c .before .before .loop .inv) (c .if1 .left)
+returns-2 c = pairing-ends _ _ _ _ _ _ _ _ _ _ _ (c .before .before .before .before .before .before .before .pre .2) (c .before .loop .inv) (c .loop-test .left)
 
 pub explore-pairs-spec : {M : Type 1} → statement M
 explore-pairs-spec =
@@ -63,15 +104,28 @@ explore-pairs-spec =
     Inv-loop
     μ-loop
     loop-holds
+    mul-code
+    slice-read-code
+    state-of-requires
+    row-start-requires
+    state-of-requires-2
+    row-end-requires
+    mul-meet-row
+    sub-meet-row
+    part-meet-row-start
+    part-meet-row-end
+    level-of-requires
     meet-row-requires
     enum-known-met
     enum-told
     same-length
     same-length-2
+    same-length-3
     returns
-    add-t16
+    add-pair
     loop-less
     loop-again
-    same-length-3
     same-length-4
+    same-length-5
+    same-length-6
     returns-2)

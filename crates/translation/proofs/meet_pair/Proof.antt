@@ -9,36 +9,44 @@ use Rattle.translation.proofs.meet_pair.Tie as tie
 slice-read-if1 : tie.Need-slice-read-if1
 slice-read-if1 c = search needs
 
-returns : tie.Need-returns
-returns c = met-seen _ _ _ _ (c .before .before .before .before .pre .0) (c .before .before .before .before .pre .1) _ (c .if1 .taken)
-
-returns-2 : tie.Need-returns-2
-returns-2 c = met-full _ _ _ _ (c .before .before .before .before .before .pre .0) (c .before .before .before .before .before .pre .1) _ (c .before .if1 .left) (c .if2 .taken)
-
-add-pair-requires : tie.Need-add-pair-requires
-add-pair-requires c κs = (c .before .before .before .before .before .before .before .pre .0, omega arith, c .before .before .before .before .before .before .before .pre .1, c .before .before .before .if1 .left)
-
-add-t14 : tie.Need-add-t14
-add-t14 c = search needs
+pair-number-requires : tie.Need-pair-number-requires
+pair-number-requires c κs = search needs
 
 same-length : tie.Need-same-length
 same-length c = search needs
 
+returns : tie.Need-returns
+returns c = met-seen _ _ _ _ (c .before .before .before .before .before .before .pre .0) (c .before .before .before .before .before .before .pre .1) (c .before .before .if1 .taken) (c .pair-number .ensures)
+
+returns-2 : tie.Need-returns-2
+returns-2 c = met-full _ _ _ _ (c .before .before .before .before .before .pre .0) (c .before .before .before .before .before .pre .1) (c .before .if1 .left) (c .if2 .taken)
+
+add-pair-requires : tie.Need-add-pair-requires
+add-pair-requires c κs = (c .before .before .before .before .before .before .before .pre .0, omega arith, c .before .before .before .before .before .before .before .pre .1, c .before .before .before .if1 .left)
+
+add-t17 : tie.Need-add-t17
+add-t17 c = search needs
+
 same-length-2 : tie.Need-same-length-2
 same-length-2 c = search needs
 
+same-length-3 : tie.Need-same-length-3
+same-length-3 c = search needs
+
 returns-3 : tie.Need-returns-3
-returns-3 c = met-next _ _ _ _ (c .before .before .before .before .before .before .before .before .before .before .before .before .pre .0) (c .before .before .before .before .before .before .before .before .before .before .before .before .pre .1) _ (c .before .before .before .before .before .before .before .before .if1 .left) (omega arith) _ _ (c .before .before .before .before .add-pair .ensures)
+returns-3 c = met-next _ _ _ _ (c .before .before .before .before .before .before .before .before .before .before .before .before .pre .0) (c .before .before .before .before .before .before .before .before .before .before .before .before .pre .1) (c .before .before .before .before .before .before .before .before .if1 .left) (omega arith) _ _ (c .before .before .before .before .add-pair .ensures)
 
 pub meet-pair-spec : {M : Type 1} → statement M
 meet-pair-spec =
     tie.close
     (tie.spec
     slice-read-if1
+    pair-number-requires
+    same-length
     returns
     returns-2
     add-pair-requires
-    add-t14
-    same-length
+    add-t17
     same-length-2
+    same-length-3
     returns-3)
