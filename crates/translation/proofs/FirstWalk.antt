@@ -15,7 +15,7 @@ use Rattle.sets.proofs.Members.{in-map, map-in, in-append}
 use Rattle.formula.specs.Formula.{formula}
 use Rattle.term.specs.Term.{Term, cover}
 use Rattle.term.specs.Size.{sizesChecked}
-use Rattle.generalized.specs.Limits.{maxGeneralizedStates}
+use Rattle.generalized.specs.Limits.{maxGeneralizedStates, maxGeneralizedTransitions}
 use Rattle.generalized.specs.Explore.{find}
 use Rattle.generalized.specs.Generalized.{transitions, productCheck, transitionCheck, targets, generalized}
 use Rattle.generalized.specs.Memory.{kept, keptTarget, allTransitions, Tables}
@@ -49,13 +49,15 @@ part-is xs pre mid post e =
 -- ---- the tables that the walk leaves
 
 -- what the walk's tables hand over
-pub handed : {rule : List ℕ} {initial n m : ℕ} {states kepts ends : List ℕ} → length states ≡ maxGeneralizedStates → Tables rule initial n m states kepts ends → FirstWalk rule initial kepts ends
-handed {rule} {n = n} {states = states} size t =
+pub handed : {rule : List ℕ} {initial n m : ℕ} {states kepts ends : List ℕ} → length states ≡ maxGeneralizedStates → length kepts ≡ maxGeneralizedTransitions → length ends ≡ maxGeneralizedStates → Tables rule initial n m states kepts ends → FirstWalk rule initial kepts ends
+handed {rule} {n = n} {states = states} size room ends-room t =
     let counted = t .counted in
     record {
       states = take n states;
       found = t .are;
       begun = t .begun;
+      room = room;
+      ends-room = ends-room;
       most = omega (arith, counted, t .fits);
       listed = rw (← counted) (t .listed);
       ending = λ s lt. t .ending s (omega (arith, length-take-le n states (omega (arith, t .few))));
@@ -93,9 +95,9 @@ module _ (rule : List ℕ) (passed : sizesChecked rule ≡ fine) {initial : ℕ}
     end-inside =
         omega (arith, end-is s lt, ap length (all-split rule xs s lt), length-append (allTransitions rule (take s xs) ++ transitions rule (getD xs s 0)) (allTransitions rule (drop (suc s) xs)), length-append (allTransitions rule (take s xs)) (transitions rule (getD xs s 0)))
 
-  pub rows-of : length ends ≡ maxGeneralizedStates → Ends ends (length xs)
-  rows-of size = record {
-    size = size;
+  pub rows-of : Ends ends (length xs)
+  rows-of = record {
+    size = w .ends-room;
     states = whole .small;
     rising = λ s lt. omega (arith, start-is s lt, end-is s lt);
     inside = λ s lt. omega (arith, end-inside s lt, w .most);

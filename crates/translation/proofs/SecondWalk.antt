@@ -11,16 +11,15 @@ use lib.ListN.{length, getD, take, length-map}
 use lib.Seq.{length-take-le}
 use lib.Dec.{eqb}
 use borrow.Author.Tests.{eqb-true, eq-eqb, ne-eqb}
-use Rattle.answer.specs.Result.{Result, accepted, refused, andThen, fine}
+use Rattle.answer.specs.Result.{Result, accepted, refused, fine}
 use Rattle.answer.specs.Bytes.{twoBytes, filled}
 use Rattle.sets.specs.Sets.{In}
 use Rattle.sets.proofs.Members.{at-in}
 use Rattle.formula.specs.Limits.{maxUntils}
 use Rattle.term.specs.Term.{Term}
 use Rattle.term.specs.Size.{sizesChecked}
-use Rattle.generalized.specs.Limits.{maxGeneralizedTransitions, maxGeneralizedStates}
 use Rattle.generalized.specs.Explore.{find}
-use Rattle.generalized.specs.Generalized.{transitions, generalized}
+use Rattle.generalized.specs.Generalized.{transitions}
 use Rattle.acceptance.specs.Acceptance.{untilCount}
 use Rattle.translation.specs.declared.StateNumber.{StateNumber}
 use Rattle.translation.specs.declared.Paired.{Paired}
@@ -30,11 +29,11 @@ use Rattle.automaton.specs.Limits.{maxStates}
 use Rattle.automaton.specs.Records.{records, numbered, numberedRecords, stateBytes, stateRecord, transitionRecord, stateRecords, transitionRecords, initialRecords}
 use Rattle.automaton.specs.Tables.{Counts, transitionCount, outcome, Outcome}
 use Rattle.automaton.proofs.Records.{transitions-count}
-use Rattle.translation.specs.Degeneralized.{Pair, pair, samePair, numbers, initialNumbers, nextLevel, pairTransitions, target, degeneralized, transitionOf, stateOf}
+use Rattle.translation.specs.Degeneralized.{Pair, pair, samePair, numbers, initialNumbers, nextLevel, pairTransitions, target, degeneralized, transitionOf, stateOf, translation}
 use Rattle.translation.specs.Translate.{stored}
 use Rattle.generalized.specs.Memory.{kept, keptTarget}
 use Rattle.generalized.proofs.Kept.{Parts}
-use Rattle.translation.specs.Memory.{secondWalk, row, levelPlaces, codeOf, pairOf, targetN, targetsN, exploreN, pairBytes, transitionN, rowN, FirstWalk, Within, PairRows, PairsNumbered, AddsRecords, AddedRows, AddsRows}
+use Rattle.translation.specs.Memory.{row, levelPlaces, codeOf, pairOf, targetN, targetsN, exploreN, pairBytes, transitionN, rowN, FirstWalk, Within, PairRows, PairsNumbered, AddsRecords, AddedRows, AddsRows}
 use Rattle.translation.proofs.Levels.{target-state, target-level, next-level-is}
 use Rattle.generalized.proofs.Explored.{Explored, explored}
 use Rattle.generalized.proofs.Passed.{initial-few}
@@ -96,8 +95,6 @@ same-outcome e f g h = cc
 pub record Begun (rule : List ℕ) (initial : ℕ) (kepts ends : List ℕ) (r : ℕ) (pairs index : List ℕ) : Type 0 where
   pub passed : sizesChecked rule ≡ fine
   pub walked-first : FirstWalk rule initial kepts ends
-  pub kepts-size : length kepts ≡ maxGeneralizedTransitions
-  pub ends-size : length ends ≡ maxGeneralizedStates
   pub levels : r ≡ untilCount rule
   pub numbered : PairsNumbered pairs index initial
   pub start : take initial pairs ≡ starts initial
@@ -117,8 +114,8 @@ module _ {rule : List ℕ} {initial : ℕ} {kepts ends : List ℕ} {r : ℕ} {pa
 
   rows-over : (codes : List ℕ) → Within n codes → PairRows ends kepts r codes
   rows-over codes within = record {
-    listed = record { states = n; rows = rows-of rule (b .passed) (b .walked-first) (b .ends-size); within = within };
-    size = b .kepts-size;
+    listed = record { states = n; rows = rows-of rule (b .passed) (b .walked-first); within = within };
+    size = b .walked-first .room;
     levels = few-untils;
     closed = closed-are;
   }
@@ -184,11 +181,11 @@ module _ {rule : List ℕ} {initial : ℕ} {kepts ends : List ℕ} {r : ℕ} {pa
     explored-is : AddsRows (exploreN ends kepts r maxStates 0 0 (starts initial)) (λ done codes. records (rowN ends kepts r codes) done) t 0 met pairs index table
     explored-is = rw (← b .start) met-is
 
-    pub stopped-is : {at : StateNumber} → met ≡ Stop at → length table ≡ length t → {o : Outcome} (s i : List ℕ) → o ≡ stored (refused 24 (at .0)) s table i → o ≡ stored (andThen (generalized rule) (secondWalk rule)) s t i
-    unfolding stored
+    pub stopped-is : {at : StateNumber} → met ≡ Stop at → length table ≡ length t → {o : Outcome} (s i : List ℕ) → o ≡ stored (refused 24 (at .0)) s table i → o ≡ stored (translation rule) s t i
+    unfolding stored translation
     stopped-is {at} e same s i done =
         let full : exploreN ends kepts r maxStates 0 0 (starts initial) ≡ refused 24 (at .0) = rw e at explored-is in
-        done ∙ rw (same, b .walked-first .found, walk-is, full)
+        done ∙ rw (same, b .passed, b .walked-first .found, walk-is, full)
 
     module _ {count written : ℕ} (e : met ≡ Count count written) where
       counted : AddedRows (exploreN ends kepts r maxStates 0 0 (starts initial)) (λ done codes. records (rowN ends kepts r codes) done) t 0 count written pairs index table
@@ -239,8 +236,9 @@ module _ {rule : List ℕ} {initial : ℕ} {kepts ends : List ℕ} {r : ℕ} {pa
       abbrev automaton : Automaton
       automaton = record { states = map (stateOf rule states (map pairOf codes)) (map pairOf codes); initial = initialNumbers rule }
 
-      walk-accepted : andThen (generalized rule) (secondWalk rule) ≡ accepted automaton
-      walk-accepted = rw (b .walked-first .found, walk-is, counted .are)
+      walk-accepted : translation rule ≡ accepted automaton
+      unfolding translation
+      walk-accepted = rw (b .passed, b .walked-first .found, walk-is, counted .are)
 
       states-are : numberedRecords (pairBytes ends r) 0 codes ≡ stateRecords automaton
       unfolding stateRecords
@@ -267,7 +265,7 @@ module _ {rule : List ℕ} {initial : ℕ} {kepts ends : List ℕ} {r : ℕ} {pa
 
       -- tables filled with these records have the automaton
       pub written-is : length table ≡ length t → (s i s′ t′ i′ : List ℕ) → s′ ≡ filled s (numberedRecords (pairBytes ends r) 0 codes) → t′ ≡ filled table (take (written * 4) table)
-          → i′ ≡ filled i (records twoBytes (numbers initial)) → outcome (accepted (record { states = count; transitions = written; initial = initial })) s′ t′ i′ ≡ stored (andThen (generalized rule) (secondWalk rule)) s t i
+          → i′ ≡ filled i (records twoBytes (numbers initial)) → outcome (accepted (record { states = count; transitions = written; initial = initial })) s′ t′ i′ ≡ stored (translation rule) s t i
       unfolding stored initialNumbers
       written-is same s i s′ t′ i′ es et ei =
           let many : written ≡ transitionCount (automaton .states) = omega (arith, rows-written .count, transitions-total) in

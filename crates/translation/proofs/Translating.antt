@@ -5,7 +5,7 @@ use mathlib.Core.List.{List}
 use Prim.Native.Nat.{ℕ, _≤_, _<_}
 use lib.ListN.{length}
 use borrow.Author.Tests.{le-leb, lt-leb}
-use Rattle.answer.specs.Result.{Result, refused, andThen, fine, lowest}
+use Rattle.answer.specs.Result.{Result, refused, fine, lowest}
 use Rattle.formula.specs.Rule.{nodeCount}
 use Rattle.formula.specs.Rule
 use Rattle.term.specs.Size.{sizeCheck, sizesChecked}
@@ -16,7 +16,6 @@ use Rattle.automaton.specs.Limits.{statesBytes, transitionsBytes, initialBytes}
 use Rattle.automaton.specs.Tables.{Outcome, outcome, tableCheck}
 use Rattle.translation.specs.Degeneralized.{translation}
 use Rattle.translation.specs.Translate.{stored, translated}
-use Rattle.translation.specs.Memory.{secondWalk}
 
 pub sizes-are : (rule : List ℕ) {a : Result (Unit {0})} → Rule.checked rule ≡ fine → a ≡ lowest (sizeCheck rule) (nodeCount rule) → sizesChecked rule ≡ a
 unfolding sizesChecked
@@ -32,14 +31,9 @@ module _ (rule s t i : List ℕ) {o : Outcome} where
   unfolding translation
   size-refused e done = done ∙ rw e
 
-  module _ (passed : sizesChecked rule ≡ fine) where
-    pub first-refused : {number place : ℕ} → generalized rule ≡ refused number place → o ≡ stored (refused number place) s t i → o ≡ stored (translation rule) s t i
-    unfolding translation
-    first-refused e done = done ∙ rw (passed, e)
-
-    pub second-is : o ≡ stored (andThen (generalized rule) (secondWalk rule)) s t i → o ≡ stored (translation rule) s t i
-    unfolding translation
-    second-is done = done ∙ rw passed
+  pub first-refused : {number place : ℕ} → sizesChecked rule ≡ fine → generalized rule ≡ refused number place → o ≡ stored (refused number place) s t i → o ≡ stored (translation rule) s t i
+  unfolding translation
+  first-refused passed e done = done ∙ rw (passed, e)
 
 -- ---- any bytes
 

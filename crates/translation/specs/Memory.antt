@@ -6,7 +6,7 @@ use mathlib.Core.List.{List, _++_, map}
 use mathlib.Core.Bool.{true, false, cond}
 use lib.ListN.{length, getD, take, drop}
 use lib.Dec.{eqb, ltb}
-use Rattle.answer.specs.Result.{Result, accepted, refused, andThen, fine}
+use Rattle.answer.specs.Result.{Result, accepted, refused, fine}
 use Rattle.sets.specs.Sets.{In}
 use Rattle.sets.specs.Bits.{has}
 use Rattle.formula.specs.Limits.{maxUntils}
@@ -20,16 +20,9 @@ use Rattle.translation.specs.declared.Met.{Met}
 use Rattle.translation.specs.declared.Met.the-variants.{Number, Full}
 use Rattle.translation.specs.declared.Paired.{Paired}
 use Rattle.translation.specs.declared.Paired.the-variants.{Count, Stop}
-use Rattle.automaton.specs.Automaton.{Automaton}
 use Rattle.automaton.specs.Limits.{maxStates, maxOfState, statesBytes, transitionsBytes, initialBytes}
 use Rattle.automaton.specs.Records.{records, stateBytes, transitionBytes}
-use Rattle.translation.specs.Degeneralized.{Pair, pair, initialNumbers, degeneralized, stateOf}
-
--- the second walk, and the automaton that it makes, when the first walk has the states
-abbrev pub secondWalk : (rule states : List ℕ) → Result Automaton
-secondWalk rule states =
-    andThen (degeneralized rule states)
-    (λ pairs. accepted (record { states = map (stateOf rule states pairs) pairs; initial = initialNumbers rule }))
+use Rattle.translation.specs.Degeneralized.{Pair, pair}
 
 -- ---- the first walk's transitions
 
@@ -39,6 +32,8 @@ pub record FirstWalk (rule : List ℕ) (initial : ℕ) (transitions ends : List 
   pub states : List ℕ
   pub found : generalized rule ≡ accepted states
   pub begun : initial ≡ length (cover (formula rule))
+  pub room : length transitions ≡ maxGeneralizedTransitions
+  pub ends-room : length ends ≡ maxGeneralizedStates
   pub most : length (allTransitions rule states) ≤ maxGeneralizedTransitions
   pub listed :
       take (length (allTransitions rule states)) transitions ≡ map (kept rule states) (allTransitions rule states)

@@ -16,20 +16,19 @@ ghost use mathlib.Core.List.{[], _∷_, _++_, map};
 ghost use Prim.Native.Nat.{ℕ, _+_, _-_, _*_, _/_, _%_, _<_, _≤_};
 ghost use lib.ListN.{length, getD, take};
 ghost use lib.Seq.{sets};
-ghost use Rattle.answer.specs.Result.{fine, refused, andThen};
+ghost use Rattle.answer.specs.Result.{fine, refused};
 ghost use Rattle.answer.specs.Bytes.{twoBytes, filled};
 ghost use Rattle.formula.specs.Limits.{maxUntils};
 ghost use Rattle.formula.specs.Rule;
 ghost use Rattle.term.specs.Limits.{maxTerms};
 ghost use Rattle.term.specs.Size.{sizesChecked};
-ghost use Rattle.generalized.specs.Limits.{maxGeneralizedTransitions, maxGeneralizedStates};
-ghost use Rattle.generalized.specs.Generalized.{generalized};
+ghost use Rattle.generalized.specs.Limits.{maxGeneralizedStates};
 ghost use Rattle.generalized.specs.Memory.{keptTarget, keptMust, keptMustNot};
 ghost use Rattle.automaton.specs.Limits.{maxStates, transitionsBytes, initialBytes};
 ghost use Rattle.automaton.specs.Records.{records, numberedRecords, stateBytes, transitionBytes};
 ghost use Rattle.automaton.specs.Tables.{outcome};
 ghost use Rattle.translation.specs.Degeneralized.{numbers, translation};
-ghost use Rattle.translation.specs.Memory.{secondWalk, FirstWalk, rowStart, levelPlaces, codeOf, codePlaces, climbN, nextLevelN, targetN, meetAllN, numberN, exploreN, pairBytes, transitionN, rowN, InRows, PairRows, PairsNumbered, Leads, MeetsPair, AddsRows, TablesRoom};
+ghost use Rattle.translation.specs.Memory.{FirstWalk, rowStart, levelPlaces, codeOf, codePlaces, climbN, nextLevelN, targetN, meetAllN, numberN, exploreN, pairBytes, transitionN, rowN, InRows, PairRows, PairsNumbered, Leads, MeetsPair, AddsRows, TablesRoom};
 ghost use Rattle.translation.specs.Translate.{translateAnswer, stored, translated};
 
 // The number of document 01 by which the second walk is refused.
@@ -384,11 +383,10 @@ fn degeneralize(
     initial: &mut [u8],
 ) -> Translated
     requires { ⌜ (sizesChecked (now rule) ≡ fine) × FirstWalk (now rule) first (now kept) (now ends)
-        × (length (now kept) ≡ maxGeneralizedTransitions) × (length (now ends) ≡ maxGeneralizedStates)
         × TablesRoom (now states) (now transitions) (now initial) ⌝ }
     ensures { λ r. ⌜ outcome (translateAnswer r) (now (states .exit)) (now (transitions .exit)) (now (initial .exit))
-        ≡ stored (andThen (generalized (now (rule .entry))) (secondWalk (now (rule .entry)))) (now (states .entry))
-        (now (transitions .entry)) (now (initial .entry)) ⌝ }
+        ≡ stored (translation (now (rule .entry))) (now (states .entry)) (now (transitions .entry))
+        (now (initial .entry)) ⌝ }
 {
     let untils = acceptance::untils_of(rule);
     let r = untils.count;

@@ -5,7 +5,7 @@ use mathlib.Core.Path.{_≡_, refl, ap, _∙_}
 use Rattle.answer.specs.Result.{fine, answer}
 use Rattle.term.specs.Size.{sizesChecked}
 use Rattle.translation.proofs.FirstWalk.{handed}
-use Rattle.translation.proofs.Translating.{sizes-are, walks-as, size-refused, first-refused, second-is}
+use Rattle.translation.proofs.Translating.{sizes-are, walks-as, size-refused, first-refused}
 use Rattle.translation.proofs.build.Statement.{statement}
 use Rattle.translation.proofs.build.Tie as tie
 
@@ -74,7 +74,7 @@ degeneralize-requires : tie.Need-degeneralize-requires
 degeneralize-requires c κs =
     let s = c .before .before .before .before .before .before .before .before .before .before .before .before .before .before .before .before .before .before .before .before .before .before .before .before .before in
     let walk = c .before .before .before .before .before .before .before .before .before .before .before .walk in
-    (passed (c .before .before .before .before .before .before .before .before .before .before .before .before .before .before .before .before), handed (walk .kept .1 .1 .0) (walks-as (s .args .rule .now) (walk .last .1 .1 .0) (walk .last .1 .1 .1 .0) (walk .last .1 .1 .1 .1 .0) (c .before .before .before .before .before .before .walked2 .given .1) (walk .ensures)), walk .kept .1 .1 .1 .0, walk .kept .1 .1 .1 .1 .0, s .pre .1)
+    (passed (c .before .before .before .before .before .before .before .before .before .before .before .before .before .before .before .before), handed (walk .kept .1 .1 .0) (walk .kept .1 .1 .1 .0) (walk .kept .1 .1 .1 .1 .0) (walks-as (s .args .rule .now) (walk .last .1 .1 .0) (walk .last .1 .1 .1 .0) (walk .last .1 .1 .1 .1 .0) (c .before .before .before .before .before .before .walked2 .given .1) (walk .ensures)), s .pre .1)
 
 same-length-4 : tie.Need-same-length-4
 same-length-4 c = search needs
@@ -100,7 +100,7 @@ same-length-9 : tie.Need-same-length-9
 same-length-9 c = search needs
 
 returns-3 : tie.Need-returns-3
-returns-3 c = second-is _ _ _ _ (passed (c .before .before .before .before .before .before .before .before .before .before .before .before .before .before .before .before .before .before .before .before .before .before .before)) (c .before .before .before .before .before .before .degeneralize .ensures)
+returns-3 c = c .before .before .before .before .before .before .degeneralize .ensures
 
 pub build-spec : {M : Type 1} → statement M
 build-spec =

@@ -16,8 +16,6 @@ begun c =
     record {
       passed = s .pre .0;
       walked-first = s .pre .1;
-      kepts-size = s .pre .2;
-      ends-size = s .pre .3;
       levels = c .before .before .before .untils-of .ensures .counted;
       numbered = c .start-pairs .ensures .0;
       start = c .start-pairs .ensures .1;
@@ -42,7 +40,7 @@ slice-aggregate-explore-pairs-2 : tie.Need-slice-aggregate-explore-pairs-2
 slice-aggregate-explore-pairs-2 c = search needs
 
 explore-pairs-requires : tie.Need-explore-pairs-requires
-explore-pairs-requires c κs = (first-rows (begun (c .before .before .before .before .before)), begun (c .before .before .before .before .before) .numbered, c .before .before .before .before .before .before .before .before .before .before .before .before .before .before .before .pre .4 .for-transitions)
+explore-pairs-requires c κs = (first-rows (begun (c .before .before .before .before .before)), begun (c .before .before .before .before .before) .numbered, c .before .before .before .before .before .before .before .before .before .before .before .before .before .before .before .pre .2 .for-transitions)
 
 enum-known-walked : tie.Need-enum-known-walked
 enum-known-walked c = search needs
@@ -60,7 +58,7 @@ slice-aggregate-write-states : tie.Need-slice-aggregate-write-states
 slice-aggregate-write-states c = sym (codes-count (begun (c .before .before .before .before .before .before .before .before .before .before .before .before .before .before .before)) _ (c .before .before .before .before .before .before .before .before .before .explore-pairs .result) (c .before .before .before .before .before .before .before .before .before .explore-pairs .last .1 .1 .1 .0) (c .before .before .before .before .before .before .before .before .before .explore-pairs .last .1 .1 .1 .1 .0) (c .before .before .before .before .before .before .before .before .before .explore-pairs .last .1 .1 .1 .1 .1 .0) (c .before .before .before .before .before .before .before .before .before .explore-pairs .ensures) (c .before .before .before .walked2 .given .1))
 
 write-states-requires : tie.Need-write-states-requires
-write-states-requires c κs = (all-rows (begun (c .before .before .before .before .before .before .before .before .before .before .before .before .before .before .before)) _ (c .before .before .before .before .before .before .before .before .before .explore-pairs .result) (c .before .before .before .before .before .before .before .before .before .explore-pairs .last .1 .1 .1 .0) (c .before .before .before .before .before .before .before .before .before .explore-pairs .last .1 .1 .1 .1 .0) (c .before .before .before .before .before .before .before .before .before .explore-pairs .last .1 .1 .1 .1 .1 .0) (c .before .before .before .before .before .before .before .before .before .explore-pairs .ensures) (c .before .before .before .walked2 .given .1) .listed, omega (arith, codes-few (begun (c .before .before .before .before .before .before .before .before .before .before .before .before .before .before .before)) _ (c .before .before .before .before .before .before .before .before .before .explore-pairs .result) (c .before .before .before .before .before .before .before .before .before .explore-pairs .last .1 .1 .1 .0) (c .before .before .before .before .before .before .before .before .before .explore-pairs .last .1 .1 .1 .1 .0) (c .before .before .before .before .before .before .before .before .before .explore-pairs .last .1 .1 .1 .1 .1 .0) (c .before .before .before .before .before .before .before .before .before .explore-pairs .ensures) (c .before .before .before .walked2 .given .1), c .before .before .before .before .before .before .before .before .before .before .before .before .before .before .before .before .before .before .before .before .before .before .before .before .before .pre .4 .for-states))
+write-states-requires c κs = (all-rows (begun (c .before .before .before .before .before .before .before .before .before .before .before .before .before .before .before)) _ (c .before .before .before .before .before .before .before .before .before .explore-pairs .result) (c .before .before .before .before .before .before .before .before .before .explore-pairs .last .1 .1 .1 .0) (c .before .before .before .before .before .before .before .before .before .explore-pairs .last .1 .1 .1 .1 .0) (c .before .before .before .before .before .before .before .before .before .explore-pairs .last .1 .1 .1 .1 .1 .0) (c .before .before .before .before .before .before .before .before .before .explore-pairs .ensures) (c .before .before .before .walked2 .given .1) .listed, omega (arith, codes-few (begun (c .before .before .before .before .before .before .before .before .before .before .before .before .before .before .before)) _ (c .before .before .before .before .before .before .before .before .before .explore-pairs .result) (c .before .before .before .before .before .before .before .before .before .explore-pairs .last .1 .1 .1 .0) (c .before .before .before .before .before .before .before .before .before .explore-pairs .last .1 .1 .1 .1 .0) (c .before .before .before .before .before .before .before .before .before .explore-pairs .last .1 .1 .1 .1 .1 .0) (c .before .before .before .before .before .before .before .before .before .explore-pairs .ensures) (c .before .before .before .walked2 .given .1), c .before .before .before .before .before .before .before .before .before .before .before .before .before .before .before .before .before .before .before .before .before .before .before .before .before .pre .2 .for-states))
 
 mul-zero-behind : tie.Need-mul-zero-behind
 mul-zero-behind c = omega (arith, written-inside (begun (c .before .before .before .before .before .before .before .before .before .before .before .before .before .before .before .before .before .before .before)) _ (c .before .before .before .before .before .before .before .before .before .before .before .before .before .explore-pairs .result) (c .before .before .before .before .before .before .before .before .before .before .before .before .before .explore-pairs .last .1 .1 .1 .0) (c .before .before .before .before .before .before .before .before .before .before .before .before .before .explore-pairs .last .1 .1 .1 .1 .0) (c .before .before .before .before .before .before .before .before .before .before .before .before .before .explore-pairs .last .1 .1 .1 .1 .1 .0) (c .before .before .before .before .before .before .before .before .before .before .before .before .before .explore-pairs .ensures) (c .before .before .before .before .before .before .before .walked2 .given .1), c .before .before .before .before .before .before .before .before .before .before .before .before .before .explore-pairs .kept .1 .1 .1 .1 .1 .0, c .before .before .before .before .before .before .before .before .before .before .before .before .before .before .before .before .before .before .before .before .before .before .before .before .before .before .before .before .before .good .1 .1 .1 .1 .1 .0 .0)
@@ -69,7 +67,7 @@ zero-behind-requires : tie.Need-zero-behind-requires
 zero-behind-requires c κs = written-inside (begun (c .before .before .before .before .before .before .before .before .before .before .before .before .before .before .before .before .before .before .before)) _ (c .before .before .before .before .before .before .before .before .before .before .before .before .before .explore-pairs .result) (c .before .before .before .before .before .before .before .before .before .before .before .before .before .explore-pairs .last .1 .1 .1 .0) (c .before .before .before .before .before .before .before .before .before .before .before .before .before .explore-pairs .last .1 .1 .1 .1 .0) (c .before .before .before .before .before .before .before .before .before .before .before .before .before .explore-pairs .last .1 .1 .1 .1 .1 .0) (c .before .before .before .before .before .before .before .before .before .before .before .before .before .explore-pairs .ensures) (c .before .before .before .before .before .before .before .walked2 .given .1)
 
 write-initial-requires : tie.Need-write-initial-requires
-write-initial-requires c κs = (omega (arith, initial-few _ (c .before .before .before .before .before .before .before .before .before .before .before .before .before .before .before .before .before .before .before .before .before .before .before .before .before .before .before .before .before .before .before .before .before .pre .0), c .before .before .before .before .before .before .before .before .before .before .before .before .before .before .before .before .before .before .before .before .before .before .before .before .before .before .before .before .before .before .before .before .before .pre .1 .begun), c .before .before .before .before .before .before .before .before .before .before .before .before .before .before .before .before .before .before .before .before .before .before .before .before .before .before .before .before .before .before .before .before .before .pre .4 .for-initial)
+write-initial-requires c κs = (omega (arith, initial-few _ (c .before .before .before .before .before .before .before .before .before .before .before .before .before .before .before .before .before .before .before .before .before .before .before .before .before .before .before .before .before .before .before .before .before .pre .0), c .before .before .before .before .before .before .before .before .before .before .before .before .before .before .before .before .before .before .before .before .before .before .before .before .before .before .before .before .before .before .before .before .before .pre .1 .begun), c .before .before .before .before .before .before .before .before .before .before .before .before .before .before .before .before .before .before .before .before .before .before .before .before .before .before .before .before .before .before .before .before .before .pre .2 .for-initial)
 
 same-length : tie.Need-same-length
 same-length c = search needs
