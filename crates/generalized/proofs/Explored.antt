@@ -38,7 +38,7 @@ module _ {A : Type 0} {xs ys : List A} (e : Extends xs ys) where
 
 module _ {A : Type 0} (same : A → A → Bool) where
   -- what has a number stands there
-  find-at : ((x y : A) → same x y ≡ true → x ≡ y) → (d x : A) (xs : List A) → find same x xs < length xs → getD xs (find same x xs) d ≡ x
+  pub find-at : ((x y : A) → same x y ≡ true → x ≡ y) → (d x : A) (xs : List A) → find same x xs < length xs → getD xs (find same x xs) d ≡ x
   unfolding find
   find-at sound d x [] l = absurd (omega arith)
   find-at sound d x (y ∷ ys) l = go (same x y) refl l (find-at sound d x ys)

@@ -27,7 +27,7 @@ use Rattle.term.proofs.Rising.{product-one}
 use Rattle.term.proofs.Rows.{row-is, row-fits}
 use Rattle.generalized.specs.Limits.{maxProduct}
 use Rattle.generalized.specs.Generalized.{times, partialProduct, transitions, productCheck}
-use Rattle.generalized.specs.Memory.{Factor, Product}
+use Rattle.generalized.specs.Memory.{Factor, ProductRoom, Product}
 use Rattle.generalized.proofs.Passed.{most-nodes, few, in-range}
 
 -- ts are terms whose must and mustNot are bytes
@@ -61,22 +61,20 @@ partialCheck rule state place n = require (leb (length (partialProduct rule stat
 pub record Multiplying (rule : List ℕ) (state n : ℕ) (items next : List ℕ) (count k : ℕ) : Type 0 where
   pub small : n ≤ maxNodes
   pub within : k ≤ n
-  pub room : length items ≡ maxProduct
-  pub beside : length next ≡ maxProduct
+  pub room : ProductRoom items next
   pub fits : count ≤ maxProduct
   pub are : take count items ≡ map pack (partialProduct rule state k)
   pub passed : (place : ℕ) → Passing (partialCheck rule state place) n k
 
 module _ (rule : List ℕ) (state n : ℕ) where
-  pub multiply-begins : (items next : List ℕ) → n ≤ maxNodes → length items ≡ maxProduct → length next ≡ maxProduct → Multiplying rule state n (set items 0 0) next 1 0
+  pub multiply-begins : (items next : List ℕ) → n ≤ maxNodes → ProductRoom items next → Multiplying rule state n (set items 0 0) next 1 0
   unfolding partialProduct
-  multiply-begins items next le room beside = record {
+  multiply-begins items next le room = record {
     small = le;
     within = omega arith;
-    room = length-set items 0 0 ∙ room;
-    beside = beside;
+    room = record { room = length-set items 0 0 ∙ room .room; beside = room .beside };
     fits = omega arith;
-    are = take-suc-set items 0 0 (omega arith);
+    are = take-suc-set items 0 0 (omega (arith, room .room));
     passed = λ place. pass-begins _ n;
   }
 
@@ -87,12 +85,11 @@ module _ (rule : List ℕ) (state n : ℕ) where
     multiply-skips e =
         let same : partialProduct rule state (suc k) ≡ partialProduct rule state k = rw e in
         let size : length (partialProduct rule state (suc k)) ≡ count =
-        ap length same ∙ sym (length-map (partialProduct rule state k) pack) ∙ sym (ap length (inv .are)) ∙ length-take-le count items (omega (arith, inv .room, inv .fits)) in
+        ap length same ∙ sym (length-map (partialProduct rule state k) pack) ∙ sym (ap length (inv .are)) ∙ length-take-le count items (omega (arith, inv .room .room, inv .fits)) in
         record {
           small = inv .small;
           within = omega arith;
           room = inv .room;
-          beside = inv .beside;
           fits = inv .fits;
           are = rw (add-one, same) (inv .are);
           passed = λ place. pass-steps _ n k lt (inv .passed place) (rw (le-leb (length (partialProduct rule state (suc k))) maxProduct (omega (arith, size, inv .fits))));
@@ -108,16 +105,15 @@ module _ (rule : List ℕ) (state n : ℕ) where
           rw (own, packed, ← inv .are, ← row-is row) turn
 
       next-count : r ≡ min (suc maxProduct) (length (partialProduct rule state (suc k)))
-      next-count = omega (arith, next-is .count, size, inv .room, length-map (partialProduct rule state (suc k)) pack)
+      next-count = omega (arith, next-is .count, size, inv .room .room, length-map (partialProduct rule state (suc k)) pack)
 
       pub multiply-steps : {beside : List ℕ} → length beside ≡ length next → r ≤ maxProduct → Multiplying rule state n after beside r (k + 1)
       multiply-steps same le = record {
         small = inv .small;
         within = omega arith;
-        room = size ∙ inv .room;
-        beside = same ∙ inv .beside;
+        room = record { room = size ∙ inv .room .room; beside = same ∙ inv .room .beside };
         fits = le;
-        are = rw add-one (items-are next-is (omega (arith, size, inv .room)));
+        are = rw add-one (items-are next-is (omega (arith, size, inv .room .room)));
         passed = λ place. pass-steps _ n k lt (inv .passed place) (rw (le-leb (length (partialProduct rule state (suc k))) maxProduct (omega (arith, next-count))));
       }
 

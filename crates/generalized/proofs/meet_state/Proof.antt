@@ -54,7 +54,7 @@ same-length c = search needs
 returns : tie.Need-returns
 returns c full place =
     let s = c .before .before .before .before in
-    seen (s .args .items .now) (s .args .n) (s .args .x) (c .before .find .result) full place (s .pre) (c .before .find .ensures) (c .if1 .taken)
+    seen (s .args .items .now) (s .args .n) (s .args .x) (c .before .find .result) full place (s .pre .0) (c .before .find .ensures) (c .if1 .taken)
 
 same-length-2 : tie.Need-same-length-2
 same-length-2 c = search needs
@@ -62,7 +62,7 @@ same-length-2 c = search needs
 returns-2 : tie.Need-returns-2
 returns-2 c full place =
     let s = c .before .before .before .before .before in
-    crowded (s .args .items .now) (s .args .n) (s .args .x) (c .before .before .find .result) full place (s .pre) (c .before .before .find .ensures) (c .before .if1 .left) (c .if2 .taken)
+    crowded (s .args .items .now) (s .args .n) (s .args .x) (c .before .before .find .result) full place (s .pre .0) (c .before .before .find .ensures) (c .before .if1 .left) (c .if2 .taken)
 
 mul-items : tie.Need-mul-items
 mul-items c = search needs
@@ -70,8 +70,8 @@ mul-items c = search needs
 slice-write-items : tie.Need-slice-write-items
 slice-write-items c = search needs
 
-add-t8 : tie.Need-add-t8
-add-t8 c = search needs
+add-t9 : tie.Need-add-t9
+add-t9 c = search needs
 
 same-length-3 : tie.Need-same-length-3
 same-length-3 c = search needs
@@ -79,7 +79,7 @@ same-length-3 c = search needs
 returns-3 : tie.Need-returns-3
 returns-3 c full place =
     let s = c .before .before .before .before .before in
-    next (s .args .items .now) (s .args .n) (s .args .x) (c .before .before .find .result) full place (s .pre) (c .before .before .find .ensures) (c .before .if1 .left) (c .if2 .left)
+    next (s .args .items .now) (s .args .n) (s .args .x) (c .before .before .find .result) full place (s .pre .0) (c .before .before .find .ensures) (c .before .if1 .left) (c .if2 .left)
 
 pub meet-state-spec : {M : Type 1} → statement M
 meet-state-spec =
@@ -92,6 +92,6 @@ meet-state-spec =
     returns-2
     mul-items
     slice-write-items
-    add-t8
+    add-t9
     same-length-3
     returns-3)

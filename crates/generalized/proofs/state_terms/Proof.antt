@@ -22,7 +22,7 @@ slice-write-product c = search needs
 loop-holds : tie.Need-loop-holds Inv-loop μ-loop
 loop-holds c =
     let s = c .before .before .before .before in
-    multiply-begins _ _ _ (s .args .product .now) _ (omega (arith, most-nodes _ (s .pre .0))) (s .pre .3) (s .pre .4)
+    multiply-begins _ _ _ (s .args .product .now) _ (omega (arith, most-nodes _ (s .pre .0))) (s .pre .3)
 
 has-requires : tie.Need-has-requires Inv-loop μ-loop
 has-requires c κs = search needs
@@ -42,7 +42,7 @@ times-requires : tie.Need-times-requires Inv-loop μ-loop
 times-requires c κs =
     let at = c .before .before .before .before .before in
     let s = at .before .before .before .before .before in
-    (omega arith, at .loop .inv .fits, at .loop .inv .room, at .loop .inv .beside, factor-of _ _ (at .loop .k) (s .pre .0) (s .pre .1) (omega arith) (s .pre .2 _ (omega arith)))
+    (omega arith, at .loop .inv .fits, factor-of _ _ (at .loop .k) (s .pre .0) (s .pre .1) (omega arith) (s .pre .2 _ (omega arith)), at .loop .inv .room)
 
 same-length : tie.Need-same-length Inv-loop μ-loop
 same-length c = search needs

@@ -90,7 +90,7 @@ returns c =
     let call = c .before .before in
     let test = call .before .before .before in
     let s = test .before .before .before .before .before .before .before in
-    alone (s .args .table .now) (s .args .k) _ (s .pre .4) refl (s .args .product .now) (s .args .count) (test .before .before .if1 .taken) (eqb-true (getD (s .args .product .now) 0 0) 0 (test .if2 .taken)) (s .pre .2) (call .copy-words .ensures)
+    alone (s .args .table .now) (s .args .k) _ (s .pre .2) refl (s .args .product .now) (s .args .count) (test .before .before .if1 .taken) (eqb-true (getD (s .args .product .now) 0 0) 0 (test .if2 .taken)) (s .pre .3 .room) (call .copy-words .ensures)
 
 add-product : tie.Need-add-product
 add-product c = search needs
@@ -120,7 +120,7 @@ returns-2 : tie.Need-returns-2
 returns-2 c =
     let call = c .before .before .before in
     let s = call .before .before .before .before .before .before .before .before .before in
-    over (s .args .table .now) (s .args .k) _ (s .pre .4) refl (s .args .product .now) _ (s .args .count) _ (s .pre .2) (call .product2 .kept .0 ∙ s .pre .3) (call .product2 .ensures .updates _ (empty _)) (c .if3 .taken)
+    over (s .args .table .now) (s .args .k) _ (s .pre .2) refl (s .args .product .now) _ (s .args .count) _ (s .pre .3 .room) (call .product2 .kept .0 ∙ s .pre .3 .beside) (call .product2 .ensures .updates _ (empty _)) (c .if3 .taken)
 
 copy-words-requires-2 : tie.Need-copy-words-requires-2
 copy-words-requires-2 c κs = search needs
@@ -137,7 +137,7 @@ returns-3 c =
     let test = copy .before .before .before in
     let call = test .before .before .before in
     let s = call .before .before .before .before .before .before .before .before .before in
-    back (s .args .table .now) (s .args .k) _ (s .pre .4) refl (s .args .product .now) _ (s .args .count) _ (s .pre .2) (call .product2 .kept .0 ∙ s .pre .3) (call .product2 .ensures .updates _ (empty _)) (test .if3 .left) (copy .copy-words2 .ensures)
+    back (s .args .table .now) (s .args .k) _ (s .pre .2) refl (s .args .product .now) _ (s .args .count) _ (s .pre .3 .room) (call .product2 .kept .0 ∙ s .pre .3 .beside) (call .product2 .ensures .updates _ (empty _)) (test .if3 .left) (copy .copy-words2 .ensures)
 
 pub times-spec : {M : Type 1} → statement M
 times-spec =
