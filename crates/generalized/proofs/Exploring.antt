@@ -23,27 +23,30 @@ module _ {A : Type 0} (same : A → A → Bool) where
     pub within : i ≤ n
     pub left : find same x (take n xs) ≡ i + find same x (drop i (take n xs))
 
-  module _ (x d : A) (xs : List A) (n : ℕ) (le : n ≤ length xs) where
-    pub seek-begins : Seeking x xs n 0
-    seek-begins = record { within = omega arith; left = omega arith }
+  pub seek-begins : {x : A} {xs : List A} {n : ℕ} → Seeking x xs n 0
+  seek-begins = record { within = omega arith; left = omega arith }
 
-    pub seek-finds : (i : ℕ) → i < n → Seeking x xs n i → same x (getD xs i d) ≡ true → i ≡ find same x (take n xs)
+  module _ {x : A} {xs : List A} {n i : ℕ} (inv : Seeking x xs n i) (le : n ≤ length xs) where
+    pub seek-ends : n ≤ i → n ≡ find same x (take n xs)
     unfolding find
-    seek-finds i lt inv e =
-        let here : find same x (drop i (take n xs)) ≡ 0 = rw (drop-next d xs n i le lt, e, find) in
-        omega (arith, inv .left)
-
-    pub seek-steps : (i : ℕ) → i < n → Seeking x xs n i → same x (getD xs i d) ≡ false → Seeking x xs n (i + 1)
-    unfolding find
-    seek-steps i lt inv e =
-        let later : find same x (drop i (take n xs)) ≡ suc (find same x (drop (suc i) (take n xs))) = rw (drop-next d xs n i le lt, e, find) in
-        record { within = omega arith; left = rw add-one (omega (arith, inv .left)) }
-
-    pub seek-ends : (i : ℕ) → n ≤ i → Seeking x xs n i → n ≡ find same x (take n xs)
-    unfolding find
-    seek-ends i ge inv =
-        let none : find same x (drop i (take n xs)) ≡ 0 = rw (drop-of-length-le (take n xs) {i = i} (omega (arith, length-take-le n xs le))) in
+    seek-ends ge =
+        let size = length-take-le n xs le in
+        let none : find same x (drop i (take n xs)) ≡ 0 = rw (drop-of-length-le (take n xs) {i = i} (omega (arith, size))) in
         omega (arith, inv .left, inv .within)
+
+    module _ (d : A) (lt : i < n) where
+      pub seek-finds : same x (getD xs i d) ≡ true → i ≡ find same x (take n xs)
+      unfolding find
+      seek-finds e =
+          let here : find same x (drop i (take n xs)) ≡ 0 = rw (drop-next d xs n i le lt, e, find) in
+          omega (arith, inv .left)
+
+      pub seek-steps : same x (getD xs i d) ≡ false → Seeking x xs n (i + 1)
+      unfolding find
+      seek-steps e =
+          let later : find same x (drop i (take n xs)) ≡ suc (find same x (drop (suc i) (take n xs))) =
+          rw (drop-next d xs n i le lt, e, find) in
+          record { within = omega arith; left = rw add-one (omega (arith, inv .left)) }
 
   module _ (limit full place : ℕ) (x : A) (xs : List A) where
     pub meet-seen : find same x xs < length xs → meet same limit full place x xs ≡ accepted xs

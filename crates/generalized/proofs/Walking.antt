@@ -46,20 +46,24 @@ module _ (rule states : List ℕ) (place : ℕ) (before : Extent) (lt : place < 
       → WalksState rule place before states transitions₀ step states′ transitions′
   unfolding transitions
   state-adds passed le bytes transitions₀ step states′ transitions′ told turn =
+      let packed = partial-packed rule (getD states place 0) (nodeCount rule) (in-range rule passed) in
       let are : map unpack (take count items) ≡ transitions rule (getD states place 0) =
-      rw (product .terms le) (unpack-all (partial-packed rule (getD states place 0) (nodeCount rule) (in-range rule passed))) in
+      rw (product .terms le) (unpack-all packed) in
       rw (getD-take (before .states) states place 0 lt, product .checked le place) (rw are at (turn rule told))
 
 -- the walk of a state only adds states
-state-extends : (rule : List ℕ) (place total : ℕ) (xs ys : List ℕ) → walkState rule place total xs ≡ accepted ys → Extends xs ys
+state-extends : (rule : List ℕ) (place total : ℕ) (xs ys : List ℕ) → walkState rule place total xs ≡ accepted ys
+    → Extends xs ys
 state-extends rule place total xs ys e =
-    all-grows eqb maxGeneralizedStates 23 transitionCheck place (map (λ t. t .obligations) (transitionsOf rule xs place)) total xs ys (then-accepted (productCheck rule place (getD xs place 0)) _ e .2) .extends
+    let met = then-accepted (productCheck rule place (getD xs place 0)) _ e .2 in
+    all-grows eqb maxGeneralizedStates 23 transitionCheck place _ total xs ys met .extends
 
 -- one state more
-all-last : (rule xs : List ℕ) (x : ℕ) → allTransitions rule (xs ++ (x ∷ [])) ≡ allTransitions rule xs ++ transitions rule x
+all-last : (rule xs : List ℕ) (x : ℕ)
+    → allTransitions rule (xs ++ (x ∷ [])) ≡ allTransitions rule xs ++ transitions rule x
 unfolding allTransitions
 all-last rule [] x = append-nil (transitions rule x)
-all-last rule (y ∷ ys) x = rw (all-last rule ys x) (sym (append-assoc (transitions rule y) (allTransitions rule ys) (transitions rule x)))
+all-last rule (y ∷ ys) x = rw (all-last rule ys x) (sym (append-assoc (transitions rule y) _ (transitions rule x)))
 
 -- the states that are numbered
 abbrev numbered : Extent → List ℕ → List ℕ
@@ -85,14 +89,19 @@ pub record Walking (rule : List ℕ) (initial : ℕ) (states transitions ends : 
   pub ending : (k : ℕ) → k < place
       → getD ends k 0 ≡ length (allTransitions rule (take (suc k) (numbered size states)))
 
-pub walk-begins : (rule states transitions ends : List ℕ) (n : ℕ) → take n states ≡ cover (formula rule)
+pub walk-begins : {rule : List ℕ} (states transitions ends : List ℕ) (n : ℕ) → take n states ≡ cover (formula rule)
     → n ≤ maxTerms → WalkPlaces states transitions ends
     → Walking rule n states transitions ends (record { states = n; transitions = 0 }) 0
 unfolding generalized allTransitions
-walk-begins rule states transitions ends n is le room = record {
+walk-begins states transitions ends n is le room = record {
   within = omega arith;
   begun = sym (length-take-le n states (omega arith)) ∙ ap length is;
-  room = record { states-room = room .states-room; few = omega arith; transitions-room = room .transitions-room; fits = omega arith };
+  room = record {
+    states-room = room .states-room;
+    few = omega arith;
+    transitions-room = room .transitions-room;
+    fits = omega arith;
+  };
   ends-room = room .ends-room;
   counted = refl;
   left = rw is;
@@ -101,7 +110,7 @@ walk-begins rule states transitions ends n is le room = record {
 }
 
 -- the walk that stands at place
-module _ (rule : List ℕ) (initial : ℕ) (states transitions ends : List ℕ) (size : Extent) (place : ℕ)
+module _ {rule : List ℕ} {initial : ℕ} {states transitions ends : List ℕ} {size : Extent} {place : ℕ}
     (inv : Walking rule initial states transitions ends size place) where
   abbrev total : ℕ
   total = size .transitions
@@ -135,7 +144,8 @@ module _ (rule : List ℕ) (initial : ℕ) (states transitions ends : List ℕ) 
     inside : place < length xs
     inside = rw count lt
 
-    pub walk-refused : {number at : ℕ} → step ≡ Stop number at → Walks rule (Refused number at) states′ transitions′ ends
+    pub walk-refused : {number at : ℕ} → step ≡ Stop number at
+        → Walks rule (Refused number at) states′ transitions′ ends
     unfolding targets
     walk-refused e =
         inv .left
@@ -143,7 +153,7 @@ module _ (rule : List ℕ) (initial : ℕ) (states transitions ends : List ℕ) 
         (explore-refused eqb maxGeneralizedStates 23 transitionCheck 0 (targets rule) (productCheck rule)
         (maxGeneralizedStates - suc place) place total xs inside (rw e at walked))
 
-    module _ (met end : ℕ) (e : step ≡ On met end) where
+    module _ {met end : ℕ} (e : step ≡ On met end) where
       abbrev ts : List Term
       ts = transitionsOf rule states place
 

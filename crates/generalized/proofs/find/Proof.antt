@@ -30,7 +30,7 @@ returns c =
     rw is at (s .pre .1 (c .before .before .if1 .taken))
 
 loop-holds : tie.Need-loop-holds Inv-loop μ-loop
-loop-holds c = seek-begins eqb _ 0 _ _ (c .before .pre .0)
+loop-holds c = seek-begins eqb
 
 mul-if3 : tie.Need-mul-if3 Inv-loop μ-loop
 mul-if3 c = search needs
@@ -41,7 +41,7 @@ shared-slice-read-if3 c = search needs
 returns-2 : tie.Need-returns-2 Inv-loop μ-loop
 returns-2 c =
     let at = c .before .before .before in
-    seek-finds eqb _ 0 _ _ (at .before .before .pre .0) (at .loop .i) (omega arith) (at .loop .inv) (eq-eqb _ _ (sym (c .if3 .taken)))
+    seek-finds eqb (at .loop .inv) (at .before .before .pre .0) 0 (omega arith) (eq-eqb _ _ (sym (c .if3 .taken)))
 
 add-i : tie.Need-add-i Inv-loop μ-loop
 add-i c = search needs
@@ -52,12 +52,13 @@ loop-less c = search needs
 loop-again : tie.Need-loop-again Inv-loop μ-loop
 loop-again c =
     let at = c .before .before .before in
-    seek-steps eqb _ 0 _ _ (at .before .before .pre .0) (at .loop .i) (omega arith) (at .loop .inv) (ne-eqb _ _ (λ e. c .if3 .left (sym e)))
+    seek-steps eqb (at .loop .inv) (at .before .before .pre .0) 0 (omega arith)
+    (ne-eqb _ _ (λ e. c .if3 .left (sym e)))
 
 returns-3 : tie.Need-returns-3 Inv-loop μ-loop
 returns-3 c =
     let at = c .before in
-    seek-ends eqb _ 0 _ _ (at .before .before .pre .0) (at .loop .i) (c .loop-test .left) (at .loop .inv)
+    seek-ends eqb (at .loop .inv) (at .before .before .pre .0) (c .loop-test .left)
 
 pub find-spec : {M : Type 1} → statement M
 find-spec =
