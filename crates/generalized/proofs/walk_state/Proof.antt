@@ -48,8 +48,8 @@ slice-aggregate-meet-all-2 c = search needs
 
 meet-all-requires : tie.Need-meet-all-requires
 meet-all-requires c κs =
-    let told = c .before .before .before .before .before .before in
-    let s = told .before .before .before .before .before .before .before .before .before .before .before .before .before in
+    let test = c .before .before .before .before .before .before .before .before .before in
+    let s = test .before .before .before .before .before .before .before .before .before .before in
     (search needs, search needs, s .pre .3)
 
 same-length : tie.Need-same-length
