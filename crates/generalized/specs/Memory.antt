@@ -86,6 +86,7 @@ pub record NumberedState (x : ℕ) (xs : List ℕ) (met : Result (List ℕ)) (nu
   pub found : number ≡ find eqb x (take count items)
   pub inside : number < count
 
+-- what a meeting comes to: x has its number, or it is one too many
 abbrev pub Meets : (full place x : ℕ) (xs : List ℕ) (met : Result (List ℕ)) → Met → (items : List ℕ) → Type 0
 Meets full place x xs met (Number number count) items = NumberedState x xs met number count items
 Meets full place x xs met Full items = met ≡ refused full place
@@ -126,6 +127,7 @@ pub record Added (rule : List ℕ) (ts : List Term) (total : ℕ) (before : List
   pub same : take total after ≡ take total before
   pub listed : ListedKept rule (take n states) ts (take (length ts) (drop total after))
 
+-- what walking a state comes to: ts are added, or the refusal
 abbrev pub AddsTransitions : (rule : List ℕ) (ts : List Term) (total : ℕ) (before : List ℕ) (met : Result (List ℕ))
     → Step → (states after : List ℕ) → Type 0
 AddsTransitions rule ts total before met (On n m) states after = Added rule ts total before met n m states after

@@ -99,7 +99,7 @@ pub fn must_not_of(x: u64) -> u8
     (x % 256) as u8
 }
 
-// The place of x in a list, the first n of items, or n; it is looked for at last first.
+// The place of x in a list, the first n of items, or n; the place last is looked at first.
 fn find(items: &[u64], n: usize, x: u64, last: usize) -> usize
     requires { ⌜ (n ≤ length (now items)) × OwnNumber last n (now items) ⌝ }
     ensures { λ r. ⌜ r ≡ find eqb x (take n (now (items .entry))) ⌝ }
@@ -117,7 +117,7 @@ fn find(items: &[u64], n: usize, x: u64, last: usize) -> usize
     n
 }
 
-// x in a list, the first n of items, after the one at last: an unseen one is put behind them, if there is a place.
+// x in a list, the first n of items, when last was met before it: an unseen one is put behind them, if there is a place.
 fn meet_state(items: &mut [u64], n: usize, x: u64, last: usize) -> Met
     requires { ⌜ (n ≤ length (now items)) × OwnNumber last n (now items) ⌝ }
     ensures { λ r. ⌜ MeetsState x n (now (items .entry)) r (now (items .exit)) ⌝ }
