@@ -27,24 +27,29 @@ pub record Covering (cs : List ℕ) (sets : Terms) (states : List ℕ) (i : ℕ)
   pub room : length states ≡ maxGeneralizedStates
   pub listed : take i states ≡ map obligationsN (take i (sets .items))
 
-module _ (cs : List ℕ) (sets : Terms) (states : List ℕ) where
-  pub cover-begins : IsCover sets cs → length cs ≤ maxTerms → length states ≡ maxGeneralizedStates → Covering cs sets states 0
-  cover-begins is few room =
-      let fits : sets .count ≤ maxTerms = omega (arith, is .count, length-map cs packSet) in
-      record { within = omega arith; few = fits; is = carried is fits; room = room; listed = refl }
+pub cover-begins : {cs : List ℕ} {sets : Terms} {states : List ℕ} → IsCover sets cs → length cs ≤ maxTerms
+    → length states ≡ maxGeneralizedStates → Covering cs sets states 0
+cover-begins {cs} {sets} is few room =
+    let fits : sets .count ≤ maxTerms = omega (arith, is .count, length-map cs packSet) in
+    record { within = omega arith; few = fits; is = carried is fits; room = room; listed = refl }
 
-  module _ (i : ℕ) (inv : Covering cs sets states i) where
-    pub cover-steps : length (sets .items) ≡ maxTerms → i < sets .count → Covering cs sets (set states i (obligationsN (getD (sets .items) i 0))) (i + 1)
-    cover-steps places lt = record {
-      within = omega arith;
-      few = inv .few;
-      is = inv .is;
-      room = length-set states i (obligationsN (getD (sets .items) i 0)) ∙ inv .room;
-      listed = rw (add-one, take-suc-set states i (obligationsN (getD (sets .items) i 0)) (omega arith), inv .listed, take-suc (sets .items) i 0 (omega arith))
-          (sym (map-append obligationsN (take i (sets .items)) (getD (sets .items) i 0 ∷ [])));
-    }
+module _ {cs : List ℕ} {sets : Terms} {states : List ℕ} {i : ℕ} (inv : Covering cs sets states i) where
+  pub cover-steps : length (sets .items) ≡ maxTerms → i < sets .count
+      → Covering cs sets (set states i (obligationsN (getD (sets .items) i 0))) (i + 1)
+  cover-steps places lt =
+      let x = obligationsN (getD (sets .items) i 0) in
+      let stored = take-suc-set states i x (omega (arith, inv .few, inv .room)) in
+      let taken = take-suc (sets .items) i 0 (omega (arith, inv .few)) in
+      record {
+        within = omega arith;
+        few = inv .few;
+        is = inv .is;
+        room = length-set states i x ∙ inv .room;
+        listed = rw (add-one, stored, inv .listed, taken)
+            (sym (map-append obligationsN (take i (sets .items)) (getD (sets .items) i 0 ∷ [])));
+      }
 
-    pub cover-ends : sets .count ≤ i → take (sets .count) states ≡ cs
-    cover-ends ge =
-        let same : i ≡ sets .count = omega (arith, inv .within) in
-        (rw same at (inv .listed)) ∙ ap (map obligationsN) (inv .is) ∙ unpacked cs
+  pub cover-ends : sets .count ≤ i → take (sets .count) states ≡ cs
+  cover-ends ge =
+      let same : i ≡ sets .count = omega (arith, inv .within) in
+      (rw same at (inv .listed)) ∙ ap (map obligationsN) (inv .is) ∙ unpacked cs

@@ -1,4 +1,4 @@
--- A walk that numbers what it meets and is accepted: what it began with comes first, and each state that it took was let
+-- A walk that numbers what it meets and is accepted: what it began with comes first, each state that it took was let
 -- pass and has its targets among those numbered. Assumes of the test `same` that it tells what is equal.
 use mathlib.Core.Path.{_≡_, refl, sym, ap, subst, _∙_}
 use mathlib.Core.Logic.{inl, inr}
@@ -8,7 +8,7 @@ use Prim.Native.Nat.{ℕ, zero, suc, _+_, _≤_, _<_}
 use native.Mathlib.Decide.{ℕ-discrete, decLt}
 use native.Mathlib.Omega.{arith}
 use lib.ListN.{length, getD, length-append, List·getD-append}
-use Rattle.answer.specs.Result.{accepted, Check, fine}
+use Rattle.answer.specs.Result.{Result, accepted, Check, fine}
 use Rattle.answer.proofs.Results.{never-both, then-accepted}
 use Rattle.sets.specs.Sets.{In}
 use Rattle.sets.proofs.Members.{All, all-one, at-in, in-append, append-in}
@@ -34,11 +34,15 @@ module _ {A : Type 0} {xs ys : List A} (e : Extends xs ys) where
   extends-in x m = subst (λ (zs : List A). In x zs) (sym (e .are)) (in-append x xs (e .more) (inl m))
 
   extends-on : {zs : List A} → Extends ys zs → Extends xs zs
-  extends-on f = record { more = e .more ++ f .more; are = f .are ∙ ap (λ (l : List A). l ++ f .more) (e .are) ∙ append-assoc xs (e .more) (f .more) }
+  extends-on f = record {
+    more = e .more ++ f .more;
+    are = f .are ∙ ap (λ (l : List A). l ++ f .more) (e .are) ∙ append-assoc xs (e .more) (f .more);
+  }
 
 module _ {A : Type 0} (same : A → A → Bool) where
   -- what has a number stands there
-  find-at : ((x y : A) → same x y ≡ true → x ≡ y) → (d x : A) (xs : List A) → find same x xs < length xs → getD xs (find same x xs) d ≡ x
+  pub find-at : ((x y : A) → same x y ≡ true → x ≡ y) → (d x : A) (xs : List A) → find same x xs < length xs
+      → getD xs (find same x xs) d ≡ x
   unfolding find
   find-at sound d x [] l = absurd (omega arith)
   find-at sound d x (y ∷ ys) l = go (same x y) refl l (find-at sound d x ys)
@@ -46,7 +50,8 @@ module _ {A : Type 0} (same : A → A → Bool) where
       place : Bool → ℕ
       place b = elim b [ true ↦ 0 | false ↦ suc (find same x ys) ]
 
-      go : (b : Bool) → same x y ≡ b → place b < suc (length ys) → (find same x ys < length ys → getD ys (find same x ys) d ≡ x) → getD (y ∷ ys) (place b) d ≡ x
+      go : (b : Bool) → same x y ≡ b → place b < suc (length ys)
+          → (find same x ys < length ys → getD ys (find same x ys) d ≡ x) → getD (y ∷ ys) (place b) d ≡ x
       go true q l ih = sym (sound x y q)
       go false q l ih = ih (omega arith)
 
@@ -56,7 +61,8 @@ module _ {A : Type 0} (same : A → A → Bool) where
   find-in self x [] h = absurd h
   find-in self x (y ∷ ys) h = go (same x y) refl h (find-in self x ys)
     where
-      go : (b : Bool) → same x y ≡ b → In x (y ∷ ys) → (In x ys → find same x ys < length ys) → (elim b [ true ↦ 0 | false ↦ suc (find same x ys) ]) < suc (length ys)
+      go : (b : Bool) → same x y ≡ b → In x (y ∷ ys) → (In x ys → find same x ys < length ys)
+          → (elim b [ true ↦ 0 | false ↦ suc (find same x ys) ]) < suc (length ys)
       go true q h ih = omega arith
       go false q (inl e) ih = absurd (false≢true (sym q ∙ sym (ap (same x) e) ∙ self x))
       go false q (inr h) ih = let l = ih h in omega arith
@@ -69,7 +75,8 @@ module _ {A : Type 0} (same : A → A → Bool) where
       has : ((x y : A) → same x y ≡ true → x ≡ y) → All (λ t. In t ys) ts
       pub every : (P : A → Type 0) → All P ts → All P xs → All P ys
 
-    meet-grows : (place : ℕ) (x : A) (xs ys : List A) → meet same limit full place x xs ≡ accepted ys → Grows (x ∷ []) xs ys
+    meet-grows : (place : ℕ) (x : A) (xs ys : List A) → meet same limit full place x xs ≡ accepted ys
+        → Grows (x ∷ []) xs ys
     meet-grows place x xs ys e = pick (decLt (find same x xs) (length xs)) (decLt (length xs) limit)
       where
         pick : Dec (find same x xs < length xs) → Dec (length xs < limit) → Grows (x ∷ []) xs ys
@@ -79,7 +86,8 @@ module _ {A : Type 0} (same : A → A → Bool) where
             subst (Grows (x ∷ []) xs) z (record {
               extends = extends-self xs;
               small = λ le. le;
-              has = λ sound. all-one (λ t. In t xs) x (subst (λ (y : A). In y xs) (find-at sound x x xs l) (at-in x xs (find same x xs) l));
+              has = λ sound. all-one (λ t. In t xs) x
+                  (subst (λ (y : A). In y xs) (find-at sound x x xs l) (at-in x xs (find same x xs) l));
               every = λ P ps all. all;
             })
         pick (no g) (yes l) =
@@ -91,21 +99,32 @@ module _ {A : Type 0} (same : A → A → Bool) where
               has = λ sound t m. in-append t xs (x ∷ []) (inr m);
               every = λ P ps all y m. elim (append-in y xs (x ∷ []) m) [ inl a ↦ all y a | inr b ↦ ps y b ];
             })
-        pick (no g) (no h) = absurd (never-both (sym (meet-full same limit full place x xs (omega arith) (omega arith)) ∙ e))
+        pick (no g) (no h) =
+            absurd (never-both (sym (meet-full same limit full place x xs (omega arith) (omega arith)) ∙ e))
 
     grows-on : (ts us : List A) {xs more ys : List A} → Grows ts xs more → Grows us more ys → Grows (ts ++ us) xs ys
     grows-on ts us g h = record {
       extends = extends-on (g .extends) (h .extends);
       small = λ le. h .small (g .small le);
-      has = λ sound t m. elim (append-in t ts us m) [ inl a ↦ extends-in (h .extends) t (g .has sound t a) | inr b ↦ h .has sound t b ];
-      every = λ P ps all. h .every P (λ t m. ps t (in-append t ts us (inr m))) (g .every P (λ t m. ps t (in-append t ts us (inl m))) all);
+      has = λ sound t m. elim (append-in t ts us m) [
+        | inl a ↦ extends-in (h .extends) t (g .has sound t a)
+        | inr b ↦ h .has sound t b
+      ];
+      every = λ P ps all. h .every P (λ t m. ps t (in-append t ts us (inr m)))
+          (g .every P (λ t m. ps t (in-append t ts us (inl m))) all);
     }
 
-    pub all-grows : (place : ℕ) (ts : List A) (count : ℕ) (xs ys : List A) → meetAll same limit full each place ts count xs ≡ accepted ys → Grows ts xs ys
+    pub all-grows : (place : ℕ) (ts : List A) (count : ℕ) (xs ys : List A)
+        → meetAll same limit full each place ts count xs ≡ accepted ys → Grows ts xs ys
     unfolding meetAll
     all-grows place [] count xs ys e =
         let z : xs ≡ ys = cc in
-        subst (Grows [] xs) z (record { extends = extends-self xs; small = λ le. le; has = λ sound t m. absurd m; every = λ P ps all. all })
+        subst (Grows [] xs) z (record {
+          extends = extends-self xs;
+          small = λ le. le;
+          has = λ sound t m. absurd m;
+          every = λ P ps all. all;
+        })
     all-grows place (t ∷ ts) count xs ys e =
         let (u, p, q) = then-accepted (each place count) _ e in
         let (more, r, z) = then-accepted (meet same limit full place t xs) _ q in
@@ -128,7 +147,8 @@ module _ {A : Type 0} (same : A → A → Bool) where
         pub numbered : (x : A) → In x ys → (find same x ys < length ys) × (getD ys (find same x ys) none ≡ x)
 
       module _ (sound : (x y : A) → same x y ≡ true → x ≡ y) (self : (x : A) → same x x ≡ true) where
-        ends : (place : ℕ) (xs ys : List A) → length xs ≤ limit → length xs ≤ place → accepted xs ≡ accepted ys → Explored place xs ys
+        ends : (place : ℕ) (xs ys : List A) → length xs ≤ limit → length xs ≤ place → accepted xs ≡ accepted ys
+            → Explored place xs ys
         ends place xs ys le end e =
             let z : xs ≡ ys = cc in
             subst (Explored place xs) z (record {
@@ -139,7 +159,8 @@ module _ {A : Type 0} (same : A → A → Bool) where
               numbered = λ x m. let l = find-in self x xs m in (l, find-at sound none x xs l);
             })
 
-        goes-on : (place : ℕ) {xs more ys : List A} → place < length xs → before place (getD xs place none) ≡ fine → Grows (targets (getD xs place none)) xs more → Explored (suc place) more ys → Explored place xs ys
+        goes-on : (place : ℕ) {xs more ys : List A} → place < length xs → before place (getD xs place none) ≡ fine
+            → Grows (targets (getD xs place none)) xs more → Explored (suc place) more ys → Explored place xs ys
         goes-on place {xs} {more} {ys} lt f g r = record {
           extends = all;
           small = r .small;
@@ -155,19 +176,38 @@ module _ {A : Type 0} (same : A → A → Bool) where
             stays = extends-at all none place lt
 
             pick : (k : ℕ) → place ≤ k → k < length ys → Dec (k ≡ place) → Taken ys k
-            pick k a b (yes e) = rw e (record { passed = rw stays f; closed = rw stays (λ y m. extends-in (r .extends) y (g .has sound y m)) })
+            pick k a b (yes e) = rw e (record {
+              passed = rw stays f;
+              closed = rw stays (λ y m. extends-in (r .extends) y (g .has sound y m));
+            })
             pick k a b (no n) = r .taken k (omega arith) b
 
-        pub explored : (fuel place count : ℕ) (xs ys : List A) → length xs ≤ limit → limit ≤ place + fuel → explore same limit full each none targets before fuel place count xs ≡ accepted ys → Explored place xs ys
+        abbrev walk : (fuel place count : ℕ) → List A → Result (List A)
+        walk = explore same limit full each none targets before
+
+        pub explored : (fuel place count : ℕ) (xs ys : List A) → length xs ≤ limit → limit ≤ place + fuel
+            → walk fuel place count xs ≡ accepted ys → Explored place xs ys
         explored zero place count xs ys le room e =
-            ends place xs ys le (omega arith) (sym (explore-ends same limit full each none targets before zero place count xs (omega arith)) ∙ e)
-        explored (suc fuel) place count xs ys le room e = pick (decLt place (length xs)) (λ more l. explored fuel (suc place) (count + length (targets (getD xs place none))) more ys l (omega arith))
+            let none-left : length xs ≤ place = omega arith in
+            let end = explore-ends same limit full each none targets before zero place count xs none-left in
+            ends place xs ys le none-left (sym end ∙ e)
+        explored (suc fuel) place count xs ys le room e =
+            pick (decLt place (length xs)) (λ more l. explored fuel (suc place) further more ys l (omega arith))
           where
+            further : ℕ
+            further = count + length (targets (getD xs place none))
+
             pick : Dec (place < length xs)
-                → ((more : List A) → length more ≤ limit → explore same limit full each none targets before fuel (suc place) (count + length (targets (getD xs place none))) more ≡ accepted ys → Explored (suc place) more ys) → Explored place xs ys
+                → ((more : List A) → length more ≤ limit → walk fuel (suc place) further more ≡ accepted ys
+                → Explored (suc place) more ys)
+                → Explored place xs ys
             pick (yes lt) rest =
-                let (more, p, q) = then-accepted _ _ (sym (explore-is same limit full each none targets before fuel place count xs lt) ∙ e) in
+                let is = explore-is same limit full each none targets before fuel place count xs lt in
+                let (more, p, q) = then-accepted _ _ (sym is ∙ e) in
                 let (u, f, m) = then-accepted (before place (getD xs place none)) _ p in
                 let g = all-grows place (targets (getD xs place none)) count xs more m in
                 goes-on place lt f g (rest more (g .small le) q)
-            pick (no ge) rest = ends place xs ys le (omega arith) (sym (explore-ends same limit full each none targets before (suc fuel) place count xs (omega arith)) ∙ e)
+            pick (no ge) rest =
+                let none-left : length xs ≤ place = omega arith in
+                let end = explore-ends same limit full each none targets before (suc fuel) place count xs none-left in
+                ends place xs ys le none-left (sym end ∙ e)

@@ -13,7 +13,8 @@ use Rattle.answer.specs.Result.{Result, accepted, refused, andThen, Check, fine
 use Rattle.generalized.specs.Explore.{find, meet, meetAll, explore}
 use Rattle.generalized.proofs.Lists.{drop-next}
 
-and-then-on : {A : Type 0} (a : Check) (b : Result A) (next : A → Result A) → andThen a (λ _. andThen b next) ≡ andThen (andThen a (λ _. b)) next
+and-then-on : {A : Type 0} (a : Check) (b : Result A) (next : A → Result A)
+    → andThen a (λ _. andThen b next) ≡ andThen (andThen a (λ _. b)) next
 and-then-on (accepted u) b next = refl
 and-then-on (refused number place) b next = refl
 
@@ -23,79 +24,99 @@ module _ {A : Type 0} (same : A → A → Bool) where
     pub within : i ≤ n
     pub left : find same x (take n xs) ≡ i + find same x (drop i (take n xs))
 
-  module _ (x d : A) (xs : List A) (n : ℕ) (le : n ≤ length xs) where
-    pub seek-begins : Seeking x xs n 0
-    seek-begins = record { within = omega arith; left = omega arith }
+  pub seek-begins : {x : A} {xs : List A} {n : ℕ} → Seeking x xs n 0
+  seek-begins = record { within = omega arith; left = omega arith }
 
-    pub seek-finds : (i : ℕ) → i < n → Seeking x xs n i → same x (getD xs i d) ≡ true → i ≡ find same x (take n xs)
+  module _ {x : A} {xs : List A} {n i : ℕ} (inv : Seeking x xs n i) (le : n ≤ length xs) where
+    pub seek-ends : n ≤ i → n ≡ find same x (take n xs)
     unfolding find
-    seek-finds i lt inv e =
-        let here : find same x (drop i (take n xs)) ≡ 0 = rw (drop-next d xs n i le lt, e, find) in
-        omega (arith, inv .left)
-
-    pub seek-steps : (i : ℕ) → i < n → Seeking x xs n i → same x (getD xs i d) ≡ false → Seeking x xs n (i + 1)
-    unfolding find
-    seek-steps i lt inv e =
-        let later : find same x (drop i (take n xs)) ≡ suc (find same x (drop (suc i) (take n xs))) = rw (drop-next d xs n i le lt, e, find) in
-        record { within = omega arith; left = rw add-one (omega (arith, inv .left)) }
-
-    pub seek-ends : (i : ℕ) → n ≤ i → Seeking x xs n i → n ≡ find same x (take n xs)
-    unfolding find
-    seek-ends i ge inv =
-        let none : find same x (drop i (take n xs)) ≡ 0 = rw (drop-of-length-le (take n xs) {i = i} (omega (arith, length-take-le n xs le))) in
+    seek-ends ge =
+        let size = length-take-le n xs le in
+        let none : find same x (drop i (take n xs)) ≡ 0 =
+        rw (drop-of-length-le (take n xs) {i = i} (omega (arith, size))) in
         omega (arith, inv .left, inv .within)
 
+    module _ (d : A) (lt : i < n) where
+      pub seek-finds : same x (getD xs i d) ≡ true → i ≡ find same x (take n xs)
+      unfolding find
+      seek-finds e =
+          let here : find same x (drop i (take n xs)) ≡ 0 = rw (drop-next d xs n i le lt, e, find) in
+          omega (arith, inv .left)
+
+      pub seek-steps : same x (getD xs i d) ≡ false → Seeking x xs n (i + 1)
+      unfolding find
+      seek-steps e =
+          let later : find same x (drop i (take n xs)) ≡ suc (find same x (drop (suc i) (take n xs))) =
+          rw (drop-next d xs n i le lt, e, find) in
+          record { within = omega arith; left = rw add-one (omega (arith, inv .left)) }
+
   module _ (limit full place : ℕ) (x : A) (xs : List A) where
-    pub meet-seen : find same x xs < length xs → meet same limit full place x xs ≡ accepted xs
+    abbrev met : Result (List A)
+    met = meet same limit full place x xs
+
+    pub meet-seen : find same x xs < length xs → met ≡ accepted xs
     unfolding meet
     meet-seen lt = rw (lt-ltb (find same x xs) (length xs) lt, meet)
 
-    pub meet-next : length xs ≤ find same x xs → length xs < limit → meet same limit full place x xs ≡ accepted (xs ++ (x ∷ []))
+    pub meet-next : length xs ≤ find same x xs → length xs < limit → met ≡ accepted (xs ++ (x ∷ []))
     unfolding meet
     meet-next le lt = rw (le-ltb (find same x xs) (length xs) le, lt-ltb (length xs) limit lt, meet)
 
-    pub meet-full : length xs ≤ find same x xs → limit ≤ length xs → meet same limit full place x xs ≡ refused full place
+    pub meet-full : length xs ≤ find same x xs → limit ≤ length xs → met ≡ refused full place
     unfolding meet
     meet-full le l = rw (le-ltb (find same x xs) (length xs) le, le-ltb (length xs) limit l, meet)
 
-  -- the targets of a state, of which y is the next
-  module _ (limit full : ℕ) (each : (place count : ℕ) → Check) (place : ℕ) (y : A) (ys : List A) (count : ℕ) (xs : List A) where
-    pub all-refused : {number at : ℕ} → each place count ≡ refused number at → meetAll same limit full each place (y ∷ ys) count xs ≡ refused number at
-    unfolding meetAll
-    all-refused e = rw e
-
-    pub all-full : {number at : ℕ} → each place count ≡ fine → meet same limit full place y xs ≡ refused number at → meetAll same limit full each place (y ∷ ys) count xs ≡ refused number at
-    unfolding meetAll
-    all-full e f = rw (e, f)
-
-    pub all-next : {more : List A} → each place count ≡ fine → meet same limit full place y xs ≡ accepted more → meetAll same limit full each place (y ∷ ys) count xs ≡ meetAll same limit full each place ys (suc count) more
-    unfolding meetAll
-    all-next e f = rw (e, f)
-
-  pub all-met : (limit full : ℕ) (each : (place count : ℕ) → Check) (place count : ℕ) (xs : List A) → meetAll same limit full each place [] count xs ≡ accepted xs
-  unfolding meetAll
-  all-met limit full each place count xs = refl
-
   module _ (limit full : ℕ) (each : (place count : ℕ) → Check) where
-    -- the state at place, as it is taken
-    module _ (none : A) (targets : A → List A) (before : ℕ → A → Check) (fuel place count : ℕ) (xs : List A) where
-      abbrev taken : Result (List A)
-      taken = andThen (before place (getD xs place none)) (λ _. meetAll same limit full each place (targets (getD xs place none)) count xs)
+    abbrev all : (place : ℕ) (targets : List A) (count : ℕ) → List A → Result (List A)
+    all = meetAll same limit full each
 
-      pub explore-is : place < length xs → explore same limit full each none targets before (suc fuel) place count xs
-          ≡ andThen taken (λ more. explore same limit full each none targets before fuel (suc place) (count + length (targets (getD xs place none))) more)
+    pub all-met : (place count : ℕ) (xs : List A) → all place [] count xs ≡ accepted xs
+    unfolding meetAll
+    all-met place count xs = refl
+
+    -- the targets of a state, of which y is the next
+    module _ (place : ℕ) (y : A) (ys : List A) (count : ℕ) (xs : List A) where
+      pub all-refused : {number at : ℕ} → each place count ≡ refused number at
+          → all place (y ∷ ys) count xs ≡ refused number at
+      unfolding meetAll
+      all-refused e = rw e
+
+      pub all-full : {number at : ℕ} → each place count ≡ fine → meet same limit full place y xs ≡ refused number at
+          → all place (y ∷ ys) count xs ≡ refused number at
+      unfolding meetAll
+      all-full e f = rw (e, f)
+
+      pub all-next : {more : List A} → each place count ≡ fine → meet same limit full place y xs ≡ accepted more
+          → all place (y ∷ ys) count xs ≡ all place ys (suc count) more
+      unfolding meetAll
+      all-next e f = rw (e, f)
+
+    module _ (none : A) (targets : A → List A) (before : ℕ → A → Check) where
+      abbrev walk : (fuel place count : ℕ) → List A → Result (List A)
+      walk = explore same limit full each none targets before
+
+      pub explore-ends : (fuel place count : ℕ) (xs : List A) → length xs ≤ place
+          → walk fuel place count xs ≡ accepted xs
       unfolding explore
-      explore-is lt = rw (lt-ltb place (length xs) lt, explore) (and-then-on (before place (getD xs place none)) (meetAll same limit full each place (targets (getD xs place none)) count xs) _)
+      explore-ends zero place count xs le = refl
+      explore-ends (suc fuel) place count xs le = rw (le-ltb place (length xs) le, explore)
 
-      pub explore-next : {ys : List A} → place < length xs → taken ≡ accepted ys
-          → explore same limit full each none targets before (suc fuel) place count xs ≡ explore same limit full each none targets before fuel (suc place) (count + length (targets (getD xs place none))) ys
-      explore-next lt e = explore-is lt ∙ rw e
+      -- the state at place, as it is taken, and the walk after it
+      module _ (fuel place count : ℕ) (xs : List A) where
+        abbrev taken : Result (List A)
+        taken = andThen (before place (getD xs place none)) (λ _. all place (targets (getD xs place none)) count xs)
 
-      pub explore-refused : {number at : ℕ} → place < length xs → taken ≡ refused number at → explore same limit full each none targets before (suc fuel) place count xs ≡ refused number at
-      explore-refused lt e = explore-is lt ∙ rw e
+        abbrev rest : List A → Result (List A)
+        rest more = walk fuel (suc place) (count + length (targets (getD xs place none))) more
 
-    pub explore-ends : (none : A) (targets : A → List A) (before : ℕ → A → Check) (fuel place count : ℕ) (xs : List A) → length xs ≤ place
-        → explore same limit full each none targets before fuel place count xs ≡ accepted xs
-    unfolding explore
-    explore-ends none targets before zero place count xs le = refl
-    explore-ends none targets before (suc fuel) place count xs le = rw (le-ltb place (length xs) le, explore)
+        pub explore-is : place < length xs → walk (suc fuel) place count xs ≡ andThen taken rest
+        unfolding explore
+        explore-is lt = rw (lt-ltb place (length xs) lt, explore) (and-then-on (before place (getD xs place none)) _ _)
+
+        pub explore-next : {ys : List A} → place < length xs → taken ≡ accepted ys
+            → walk (suc fuel) place count xs ≡ rest ys
+        explore-next lt e = explore-is lt ∙ rw e
+
+        pub explore-refused : {number at : ℕ} → place < length xs → taken ≡ refused number at
+            → walk (suc fuel) place count xs ≡ refused number at
+        explore-refused lt e = explore-is lt ∙ rw e

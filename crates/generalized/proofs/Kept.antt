@@ -27,11 +27,14 @@ numbers-bytes none t h = absurd h
 numbers-bytes (more u own rest) t (inl e) = subst Bytes (sym e) own
 numbers-bytes (more u own rest) t (inr h) = numbers-bytes rest t h
 
-all-bytes : (rule : List ℕ) → sizesChecked rule ≡ fine → (xs : List ℕ) (t : Term) → In t (allTransitions rule xs) → Bytes t
+all-bytes : (rule : List ℕ) → sizesChecked rule ≡ fine → (xs : List ℕ) (t : Term) → In t (allTransitions rule xs)
+    → Bytes t
 unfolding allTransitions transitions
 all-bytes rule passed [] t h = absurd h
 all-bytes rule passed (x ∷ xs) t h =
-    ⊎-elim (numbers-bytes (partial-packed rule x (nodeCount rule) (in-range rule passed)) t) (all-bytes rule passed xs t) (append-in t (transitions rule x) (allTransitions rule xs) h)
+    let packed = partial-packed rule x (nodeCount rule) (in-range rule passed) in
+    ⊎-elim (numbers-bytes packed t) (all-bytes rule passed xs t)
+    (append-in t (transitions rule x) (allTransitions rule xs) h)
 
 pub record Parts (rule states : List ℕ) (t : Term) : Type 0 where
   pub target : keptTarget (kept rule states t) ≡ find eqb (t .obligations) states
@@ -40,7 +43,8 @@ pub record Parts (rule states : List ℕ) (t : Term) : Type 0 where
   pub mustNot : keptMustNot (kept rule states t) ≡ t .mustNot
 
 -- of every transition of the states xs
-pub kept-parts : (rule : List ℕ) → sizesChecked rule ≡ fine → (xs states : List ℕ) (t : Term) → In t (allTransitions rule xs) → Parts rule states t
+pub kept-parts : (rule : List ℕ) → sizesChecked rule ≡ fine → (xs states : List ℕ) (t : Term)
+    → In t (allTransitions rule xs) → Parts rule states t
 kept-parts rule passed xs states t h =
     let small = all-bytes rule passed xs t h in
     let byte = fulfilment-byte rule (bytes-fine rule passed) t in

@@ -41,7 +41,8 @@ module _ (rule : List ℕ) (passed : sizesChecked rule ≡ fine) where
   initial-few = few (root rule) (omega (arith, some-nodes)) .cover
 
   -- a state that 21 lets pass has no more transitions than a product may have terms
-  pub few-transitions : (place state : ℕ) → productCheck rule place state ≡ fine → length (transitions rule state) ≤ maxProduct
+  pub few-transitions : (place state : ℕ) → productCheck rule place state ≡ fine
+      → length (transitions rule state) ≤ maxProduct
   unfolding productCheck transitions
   few-transitions place state e =
       let last : suc (root rule) ≡ nodeCount rule = omega (arith, some-nodes) in

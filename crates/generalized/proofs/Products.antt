@@ -22,12 +22,13 @@ use Rattle.term.specs.Limits.{tablePlaces}
 use Rattle.term.specs.Term.{Term, terms}
 use Rattle.term.specs.Size.{sizesChecked}
 use Rattle.term.specs.Memory.{pack, rowOf, TermRow}
-use Rattle.term.proofs.Packing.{Numbers, of-terms, numbers-are, canonical, product-numbers, owing-numbers, terms-numbers}
+use Rattle.term.proofs.Packing.{Numbers, of-terms, numbers-are, canonical}
+use Rattle.term.proofs.Packing.{product-numbers, owing-numbers, terms-numbers}
 use Rattle.term.proofs.Rising.{product-one}
 use Rattle.term.proofs.Rows.{row-is, row-fits}
 use Rattle.generalized.specs.Limits.{maxProduct}
 use Rattle.generalized.specs.Generalized.{times, partialProduct, transitions, productCheck}
-use Rattle.generalized.specs.Memory.{Factor, Product}
+use Rattle.generalized.specs.Memory.{Factor, ProductRoom, Product}
 use Rattle.generalized.proofs.Passed.{most-nodes, few, in-range}
 
 -- ts are terms whose must and mustNot are bytes
@@ -38,14 +39,17 @@ times-packed : (b : Bool) {ts us : List Term} → Packed ts → Packed us → Pa
 times-packed true p t = canonical of-terms (product-numbers of-terms p t)
 times-packed false p t = p
 
-pub partial-packed : (rule : List ℕ) (state n : ℕ) → ((k : ℕ) → k < n → InRange (tree rule k)) → Packed (partialProduct rule state n)
+pub partial-packed : (rule : List ℕ) (state n : ℕ) → ((k : ℕ) → k < n → InRange (tree rule k))
+    → Packed (partialProduct rule state n)
 unfolding partialProduct
 partial-packed rule state zero ranges = owing-numbers (0 ∷ [])
 partial-packed rule state (suc n) ranges =
-    times-packed (has state n) (partial-packed rule state n (λ k lt. ranges k (omega arith))) (terms-numbers (tree rule n) (ranges n (omega arith)))
+    times-packed (has state n) (partial-packed rule state n (λ k lt. ranges k (omega arith)))
+    (terms-numbers (tree rule n) (ranges n (omega arith)))
 
 -- a node's row can be multiplied with
-pub factor-of : (rule table : List ℕ) (k : ℕ) → sizesChecked rule ≡ fine → length table ≡ tablePlaces → k < nodeCount rule → TermRow rule table k → Factor table k
+pub factor-of : (rule table : List ℕ) (k : ℕ) → sizesChecked rule ≡ fine → length table ≡ tablePlaces
+    → k < nodeCount rule → TermRow rule table k → Factor table k
 factor-of rule table k passed size lt row = record {
   inside = omega (arith, row-fits row size (omega (arith, most-nodes rule passed)));
   few = omega (arith, row .count, few rule passed k lt .terms);
@@ -61,64 +65,81 @@ partialCheck rule state place n = require (leb (length (partialProduct rule stat
 pub record Multiplying (rule : List ℕ) (state n : ℕ) (items next : List ℕ) (count k : ℕ) : Type 0 where
   pub small : n ≤ maxNodes
   pub within : k ≤ n
-  pub room : length items ≡ maxProduct
-  pub beside : length next ≡ maxProduct
+  pub room : ProductRoom items next
   pub fits : count ≤ maxProduct
   pub are : take count items ≡ map pack (partialProduct rule state k)
   pub passed : (place : ℕ) → Passing (partialCheck rule state place) n k
 
-module _ (rule : List ℕ) (state n : ℕ) where
-  pub multiply-begins : (items next : List ℕ) → n ≤ maxNodes → length items ≡ maxProduct → length next ≡ maxProduct → Multiplying rule state n (set items 0 0) next 1 0
-  unfolding partialProduct
-  multiply-begins items next le room beside = record {
-    small = le;
-    within = omega arith;
-    room = length-set items 0 0 ∙ room;
-    beside = beside;
-    fits = omega arith;
-    are = take-suc-set items 0 0 (omega arith);
-    passed = λ place. pass-begins _ n;
-  }
+pub multiply-begins : {rule : List ℕ} {state n : ℕ} (items next : List ℕ) → n ≤ maxNodes → ProductRoom items next
+    → Multiplying rule state n (set items 0 0) next 1 0
+unfolding partialProduct
+multiply-begins {n = n} items next le room = record {
+  small = le;
+  within = omega arith;
+  room = record { room = length-set items 0 0 ∙ room .room; beside = room .beside };
+  fits = omega arith;
+  are = take-suc-set items 0 0 (omega (arith, room .room));
+  passed = λ place. pass-begins _ n;
+}
 
-  module _ (items next : List ℕ) (count k : ℕ) (lt : k < n) (inv : Multiplying rule state n items next count k) where
+module _ {rule : List ℕ} {state n : ℕ} {items next : List ℕ} {count k : ℕ}
+    (inv : Multiplying rule state n items next count k) where
+  pub multiply-ends : n ≡ nodeCount rule → n ≤ k → Product rule state items count
+  unfolding productCheck transitions
+  multiply-ends e ge =
+      let same : k ≡ nodeCount rule = omega (arith, inv .within) in
+      record {
+        checked = λ _ place. rw (← e) (sym (pass-ends (partialCheck rule state place) n k ge (inv .passed place)));
+        terms = λ _. rw (← same) (inv .are);
+        over = λ lt. absurd (omega (arith, inv .fits));
+      }
+
+  module _ (lt : k < n) where
+    -- the product over the obligations up to k
+    abbrev further : List Term
+    further = partialProduct rule state (suc k)
+
+    passed-on : length further ≤ maxProduct → (place : ℕ) → Passing (partialCheck rule state place) n (k + 1)
+    passed-on le place = pass-steps _ n k lt (inv .passed place) (rw (le-leb (length further) maxProduct le))
+
     -- a node that is no obligation changes nothing
     pub multiply-skips : has state k ≡ false → Multiplying rule state n items next count (k + 1)
     unfolding partialProduct
     multiply-skips e =
-        let same : partialProduct rule state (suc k) ≡ partialProduct rule state k = rw e in
-        let size : length (partialProduct rule state (suc k)) ≡ count =
-        ap length same ∙ sym (length-map (partialProduct rule state k) pack) ∙ sym (ap length (inv .are)) ∙ length-take-le count items (omega (arith, inv .room, inv .fits)) in
+        let same : further ≡ partialProduct rule state k = rw e in
+        let size = length-take-le count items (omega (arith, inv .room .room, inv .fits)) in
+        let packed = length-map (partialProduct rule state k) pack in
         record {
           small = inv .small;
           within = omega arith;
           room = inv .room;
-          beside = inv .beside;
           fits = inv .fits;
           are = rw (add-one, same) (inv .are);
-          passed = λ place. pass-steps _ n k lt (inv .passed place) (rw (le-leb (length (partialProduct rule state (suc k))) maxProduct (omega (arith, size, inv .fits))));
+          passed = passed-on (omega (arith, inv .fits, size, packed, ap length same, ap length (inv .are)));
         }
 
-    module _ (ranges : (j : ℕ) → j < n → InRange (tree rule j)) (table : List ℕ) (row : TermRow rule table k) (own : has state k ≡ true)
-        (after : List ℕ) (r : ℕ) (size : length after ≡ length items) (turn : Stores after r (insertProductN (take count items) (rowOf table k) [])) where
-      next-is : Stores after r (map pack (partialProduct rule state (suc k)))
+    module _ (ranges : (j : ℕ) → j < n → InRange (tree rule j)) {table : List ℕ} (row : TermRow rule table k)
+        (own : has state k ≡ true) (after : List ℕ) (r : ℕ) (size : length after ≡ length items)
+        (turn : Stores after r (insertProductN (take count items) (rowOf table k) [])) where
+      next-is : Stores after r (map pack further)
       unfolding partialProduct
       next-is =
-          let packed : map pack (times true (partialProduct rule state k) (terms (tree rule k))) ≡ insertProductN (map pack (partialProduct rule state k)) (map pack (terms (tree rule k))) [] =
-          sym (numbers-are of-terms (product-numbers of-terms (partial-packed rule state k (λ j l. ranges j (omega arith))) (terms-numbers (tree rule k) (ranges k lt)))) in
-          rw (own, packed, ← inv .are, ← row-is row) turn
+          let before = partial-packed rule state k (λ j l. ranges j (omega arith)) in
+          let both = product-numbers of-terms before (terms-numbers (tree rule k) (ranges k lt)) in
+          rw (own, ← numbers-are of-terms both, ← inv .are, ← row-is row) turn
 
-      next-count : r ≡ min (suc maxProduct) (length (partialProduct rule state (suc k)))
-      next-count = omega (arith, next-is .count, size, inv .room, length-map (partialProduct rule state (suc k)) pack)
+      next-count : r ≡ min (suc maxProduct) (length further)
+      next-count = omega (arith, next-is .count, size, inv .room .room, length-map further pack)
 
-      pub multiply-steps : {beside : List ℕ} → length beside ≡ length next → r ≤ maxProduct → Multiplying rule state n after beside r (k + 1)
+      pub multiply-steps : {beside : List ℕ} → length beside ≡ length next → r ≤ maxProduct
+          → Multiplying rule state n after beside r (k + 1)
       multiply-steps same le = record {
         small = inv .small;
         within = omega arith;
-        room = size ∙ inv .room;
-        beside = same ∙ inv .beside;
+        room = record { room = size ∙ inv .room .room; beside = same ∙ inv .room .beside };
         fits = le;
-        are = rw add-one (items-are next-is (omega (arith, size, inv .room)));
-        passed = λ place. pass-steps _ n k lt (inv .passed place) (rw (le-leb (length (partialProduct rule state (suc k))) maxProduct (omega (arith, next-count))));
+        are = rw add-one (items-are next-is (omega (arith, size, inv .room .room)));
+        passed = passed-on (omega (arith, next-count));
       }
 
       pub multiply-over : n ≡ nodeCount rule → maxProduct < r → Product rule state after r
@@ -126,15 +147,7 @@ module _ (rule : List ℕ) (state n : ℕ) where
       multiply-over e over = record {
         checked = λ le. absurd (omega arith);
         terms = λ le. absurd (omega arith);
-        over = λ _ place. rw (← e) (sym (pass-fails (partialCheck rule state place) n k lt (inv .passed place) (rw (lt-leb (length (partialProduct rule state (suc k))) maxProduct (omega (arith, next-count))))));
-      }
-
-  pub multiply-ends : (items next : List ℕ) (count k : ℕ) → n ≡ nodeCount rule → n ≤ k → Multiplying rule state n items next count k → Product rule state items count
-  unfolding productCheck transitions
-  multiply-ends items next count k e ge inv =
-      let same : k ≡ nodeCount rule = omega (arith, inv .within) in
-      record {
-        checked = λ _ place. rw (← e) (sym (pass-ends (partialCheck rule state place) n k ge (inv .passed place)));
-        terms = λ _. rw (← same) (inv .are);
-        over = λ lt. absurd (omega (arith, inv .fits));
+        over = λ _ place. rw (← e)
+            (sym (pass-fails (partialCheck rule state place) n k lt (inv .passed place)
+            (rw (lt-leb (length further) maxProduct (omega (arith, next-count))))));
       }

@@ -13,6 +13,7 @@ use Rattle.term.specs.Term.{Term, term, product, cover, terms}
 use Rattle.generalized.specs.Limits.{maxProduct, maxGeneralizedTransitions, maxGeneralizedStates}
 use Rattle.generalized.specs.Explore.{explore}
 
+-- the product of ts and us where the obligation is there, else ts as they are
 abbrev pub times : Bool → List Term → List Term → List Term
 times true ts us = product ts us
 times false ts us = ts

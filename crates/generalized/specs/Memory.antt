@@ -10,16 +10,17 @@ use Rattle.answer.specs.Result.{Result, accepted, refused, andThen, fine}
 use Rattle.formula.specs.Formula.{formula}
 use Rattle.term.specs.Limits.{rowPlaces}
 use Rattle.term.specs.Term.{Term, cover}
-use Rattle.term.specs.Memory.{pack, rowOf}
+use Rattle.term.specs.Memory.{pack, unpack, rowOf}
 use Rattle.acceptance.specs.Acceptance.{fulfilment}
 use Rattle.generalized.specs.Limits.{maxProduct, maxGeneralizedTransitions, maxGeneralizedStates}
+use Rattle.generalized.specs.declared.Extent.{Extent}
 use Rattle.generalized.specs.declared.Met.{Met}
 use Rattle.generalized.specs.declared.Met.the-variants.{Number, Full}
 use Rattle.generalized.specs.declared.Step.{Step}
 use Rattle.generalized.specs.declared.Step.the-variants.{On, Stop}
 use Rattle.generalized.specs.declared.Walked.{Walked}
 use Rattle.generalized.specs.declared.Walked.the-variants.{Accepted, Refused}
-use Rattle.generalized.specs.Explore.{find, meetAll}
+use Rattle.generalized.specs.Explore.{find, meet, meetAll}
 use Rattle.generalized.specs.Generalized.{transitions, productCheck, transitionCheck, generalized}
 
 -- ---- the transitions of a state
@@ -30,6 +31,11 @@ pub record Factor (table : List ℕ) (k : ℕ) : Type 0 where
   pub inside : k * rowPlaces + 1 + getD table (k * rowPlaces) 0 ≤ length table
   pub few : getD table (k * rowPlaces) 0 ≤ maxProduct
   pub alone : insertProductN (0 ∷ []) (rowOf table k) [] ≡ rowOf table k
+
+-- product and next have a place for each term that a product may have
+pub record ProductRoom (product next : List ℕ) : Type 0 where
+  pub room : length product ≡ maxProduct
+  pub beside : length next ≡ maxProduct
 
 -- the first count of items are a state's transitions, unless a partial product is too large; then count is above that
 pub record Product (rule : List ℕ) (state : ℕ) (items : List ℕ) (count : ℕ) : Type 0 where
@@ -67,6 +73,10 @@ pub record ListedKept (rule xs : List ℕ) (ts : List Term) (ns : List ℕ) : Ty
 
 -- ---- a state walked
 
+-- k, where it is below n, is the number of the one at place k of items: it stands nowhere before
+abbrev pub OwnNumber : (k n : ℕ) (items : List ℕ) → Type 0
+OwnNumber k n items = k < n → k ≡ find eqb (getD items k 0) (take n items)
+
 -- x, met when xs were there: its number, and that count are in items then, xs the first of them
 pub record NumberedState (x : ℕ) (xs : List ℕ) (met : Result (List ℕ)) (number count : ℕ) (items : List ℕ)
     : Type 0 where
@@ -76,16 +86,22 @@ pub record NumberedState (x : ℕ) (xs : List ℕ) (met : Result (List ℕ)) (nu
   pub found : number ≡ find eqb x (take count items)
   pub inside : number < count
 
+-- what a meeting comes to: x has its number, or it is one too many
 abbrev pub Meets : (full place x : ℕ) (xs : List ℕ) (met : Result (List ℕ)) → Met → (items : List ℕ) → Type 0
 Meets full place x xs met (Number number count) items = NumberedState x xs met number count items
 Meets full place x xs met Full items = met ≡ refused full place
 
--- places for all states and transitions, n and m of which are taken
-pub record WalkRoom (n m : ℕ) (states transitions : List ℕ) : Type 0 where
+-- x met when the first n of items are there, for any refusal where items has no place for one more
+abbrev pub MeetsState : (x n : ℕ) (items : List ℕ) → Met → (after : List ℕ) → Type 0
+MeetsState x n items met after =
+    (full place : ℕ) → Meets full place x (take n items) (meet eqb (length items) full place x (take n items)) met after
+
+-- places for all states and transitions, of which those of size are taken
+pub record WalkRoom (size : Extent) (states transitions : List ℕ) : Type 0 where
   pub states-room : length states ≡ maxGeneralizedStates
-  pub few : n ≤ maxGeneralizedStates
+  pub few : size .states ≤ maxGeneralizedStates
   pub transitions-room : length transitions ≡ maxGeneralizedTransitions
-  pub fits : m ≤ maxGeneralizedTransitions
+  pub fits : size .transitions ≤ maxGeneralizedTransitions
 
 -- the targets of the transitions ts of the state at place, met when count transitions and the states xs are there
 abbrev pub meetTargets : (place : ℕ) (ts : List Term) (count : ℕ) (xs : List ℕ) → Result (List ℕ)
@@ -111,12 +127,41 @@ pub record Added (rule : List ℕ) (ts : List Term) (total : ℕ) (before : List
   pub same : take total after ≡ take total before
   pub listed : ListedKept rule (take n states) ts (take (length ts) (drop total after))
 
+-- what walking a state comes to: ts are added, or the refusal
 abbrev pub AddsTransitions : (rule : List ℕ) (ts : List Term) (total : ℕ) (before : List ℕ) (met : Result (List ℕ))
     → Step → (states after : List ℕ) → Type 0
 AddsTransitions rule ts total before met (On n m) states after = Added rule ts total before met n m states after
 AddsTransitions rule ts total before met (Stop number place) states after = met ≡ refused number place
 
+-- the first count of bytes tell which untils of a rule the first count of ts fulfil
+abbrev pub Told : (rule ts bytes : List ℕ) (count : ℕ) → Type 0
+Told rule ts bytes count = take count bytes ≡ map (fulfilment rule) (map unpack (take count ts))
+
+-- the first count of ts, transitions of the state at place of a rule whose untils the bytes tell, met one after another
+-- and added to the states and transitions before
+abbrev pub MeetsAll : (ts bytes : List ℕ) (count place : ℕ) (before : Extent) (states transitions : List ℕ)
+    → Step → (states′ transitions′ : List ℕ) → Type 0
+MeetsAll ts bytes count place before states transitions step states′ transitions′ =
+    (rule : List ℕ) → Told rule ts bytes count
+    → AddsTransitions rule (map unpack (take count ts)) (before .transitions) transitions
+    (meetTargets place (map unpack (take count ts)) (before .transitions) (take (before .states) states))
+    step states′ transitions′
+
+-- the state at place walked, and its transitions added to the states and transitions before
+abbrev pub WalksState : (rule : List ℕ) (place : ℕ) (before : Extent) (states transitions : List ℕ)
+    → Step → (states′ transitions′ : List ℕ) → Type 0
+WalksState rule place before states transitions step states′ transitions′ =
+    AddsTransitions rule (transitionsOf rule states place) (before .transitions) transitions
+    (walkState rule place (before .transitions) (take (before .states) states))
+    step states′ transitions′
+
 -- ---- the whole walk
+
+-- the caller's tables have a place for each state, each transition, and the end of each state's transitions
+pub record WalkPlaces (states transitions ends : List ℕ) : Type 0 where
+  pub states-room : length states ≡ maxGeneralizedStates
+  pub transitions-room : length transitions ≡ maxGeneralizedTransitions
+  pub ends-room : length ends ≡ maxGeneralizedStates
 
 -- the transitions of the states xs, one after another
 unfoldable pub allTransitions : (rule xs : List ℕ) → List Term

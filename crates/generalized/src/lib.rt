@@ -2,8 +2,8 @@
 // stand in tables that the caller lends, each transition with the number of its target and the untils that it fulfils.
 use acceptance::Untils;
 ghost use mathlib.Core.Path.{_≡_};
-ghost use mathlib.Core.List.{List, [], map};
-ghost use Prim.Native.Nat.{ℕ, _≤_, _<_};
+ghost use mathlib.Core.List.{[]};
+ghost use Prim.Native.Nat.{_≤_, _<_};
 ghost use lib.ListN.{length, take, set};
 ghost use lib.Dec.{eqb};
 ghost use Rattle.answer.specs.Result.{fine};
@@ -15,11 +15,13 @@ ghost use Rattle.term.specs.Limits.{maxTerms, tablePlaces};
 ghost use Rattle.term.specs.Term.{cover};
 ghost use Rattle.term.specs.Size.{sizesChecked};
 ghost use Rattle.term.specs.Memory.{unpack, rowOf, TermRows};
-ghost use Rattle.acceptance.specs.Acceptance.{fulfilment};
 ghost use Rattle.acceptance.specs.Memory.{Known};
-ghost use Rattle.generalized.specs.Limits.{maxProduct, maxGeneralizedStates, maxGeneralizedTransitions};
-ghost use Rattle.generalized.specs.Explore.{find, meet};
-ghost use Rattle.generalized.specs.Memory.{Factor, Product, keptN, keptTarget, keptUntils, keptMust, keptMustNot, Meets, WalkRoom, meetTargets, transitionsOf, walkState, AddsTransitions, Walks};
+ghost use Rattle.generalized.specs.Limits.{maxProduct, maxGeneralizedStates};
+ghost use Rattle.generalized.specs.Explore.{find};
+ghost use Rattle.generalized.specs.Memory.{Factor, ProductRoom, Product};
+ghost use Rattle.generalized.specs.Memory.{keptN, keptTarget, keptUntils, keptMust, keptMustNot};
+ghost use Rattle.generalized.specs.Memory.{OwnNumber, MeetsState, WalkRoom, MeetsAll, WalksState};
+ghost use Rattle.generalized.specs.Memory.{WalkPlaces, Walks};
 
 // The numbers of document 01 by which the first walk is refused.
 pub const PRODUCT_TOO_LARGE: u8 = 21;
@@ -97,11 +99,14 @@ pub fn must_not_of(x: u64) -> u8
     (x % 256) as u8
 }
 
-// The place of x in a list, the first n of items, or n.
-fn find(items: &[u64], n: usize, x: u64) -> usize
-    requires { ⌜ n ≤ length (now items) ⌝ }
+// The place of x in a list, the first n of items, or n; the place last is looked at first.
+fn find(items: &[u64], n: usize, x: u64, last: usize) -> usize
+    requires { ⌜ (n ≤ length (now items)) × OwnNumber last n (now items) ⌝ }
     ensures { λ r. ⌜ r ≡ find eqb x (take n (now (items .entry))) ⌝ }
 {
+    if last < n && items[last] == x {
+        return last;
+    }
     let mut i = 0;
     while i < n {
         if items[i] == x {
@@ -112,12 +117,12 @@ fn find(items: &[u64], n: usize, x: u64) -> usize
     n
 }
 
-// x in a list, the first n of items: an unseen one is put behind them, if there is a place.
-fn meet_state(items: &mut [u64], n: usize, x: u64) -> Met
-    requires { ⌜ n ≤ length (now items) ⌝ }
-    ensures { λ r. ⌜ ((full place : ℕ) → Meets full place x (take n (now (items .entry))) (meet eqb (length (now (items .entry))) full place x (take n (now (items .entry)))) r (now (items .exit))) ⌝ }
+// x in a list, the first n of items, when last was met before it: an unseen one is put behind them, if there is a place.
+fn meet_state(items: &mut [u64], n: usize, x: u64, last: usize) -> Met
+    requires { ⌜ (n ≤ length (now items)) × OwnNumber last n (now items) ⌝ }
+    ensures { λ r. ⌜ MeetsState x n (now (items .entry)) r (now (items .exit)) ⌝ }
 {
-    let k = find(items, n, x);
+    let k = find(items, n, x, last);
     if k < n {
         return Met::Number(k, n);
     }
@@ -130,8 +135,9 @@ fn meet_state(items: &mut [u64], n: usize, x: u64) -> Met
 
 // The first count of product times the terms of node k, which stand in its row of the table; how many there are then.
 fn times(table: &[u64], k: usize, product: &mut [u64], count: usize, next: &mut [u64]) -> usize
-    requires { ⌜ (k < maxNodes) × (count ≤ maxProduct) × (length (now product) ≡ maxProduct) × (length (now next) ≡ maxProduct) × Factor (now table) k ⌝ }
-    ensures { λ r. ⌜ Stores (now (product .exit)) r (insertProductN (take count (now (product .entry))) (rowOf (now (table .entry)) k) []) ⌝ }
+    requires { ⌜ (k < maxNodes) × (count ≤ maxProduct) × Factor (now table) k × ProductRoom (now product) (now next) ⌝ }
+    ensures { λ r. ⌜ Stores (now (product .exit)) r
+        (insertProductN (take count (now (product .entry))) (rowOf (now (table .entry)) k) []) ⌝ }
 {
     let row = k * term::ROW_PLACES;
     let n = table[row] as usize;
@@ -157,7 +163,9 @@ fn state_terms(
     product: &mut [u64],
     next: &mut [u64],
 ) -> usize
-    requires { ⌜ (sizesChecked (now rule) ≡ fine) × (length (now table) ≡ tablePlaces) × TermRows (now rule) (now table) (nodeCount (now rule)) × (length (now product) ≡ maxProduct) × (length (now next) ≡ maxProduct) ⌝ }
+    requires { ⌜ (sizesChecked (now rule) ≡ fine)
+        × (length (now table) ≡ tablePlaces) × TermRows (now rule) (now table) (nodeCount (now rule))
+        × ProductRoom (now product) (now next) ⌝ }
     ensures { λ r. ⌜ Product (now (rule .entry)) obligations (now (product .exit)) r ⌝ }
 {
     let n = rule.len() / 3;
@@ -179,7 +187,7 @@ fn state_terms(
 }
 
 // The first count of ts, transitions of a state, met one after another and put into the table with the
-// untils that the bytes tell.
+// untils that the bytes tell. Those that owe the same stand side by side, so a target is mostly the last one met.
 fn meet_all(
     ts: &[u64],
     bytes: &[u8],
@@ -189,22 +197,26 @@ fn meet_all(
     transitions: &mut [u64],
     before: Extent,
 ) -> Step
-    requires { ⌜ (count ≤ length (now ts)) × (count ≤ length (now bytes)) × WalkRoom (before .states) (before .transitions) (now states) (now transitions) ⌝ }
-    ensures { λ r. ⌜ ((rule : List ℕ) → take count (now (bytes .entry)) ≡ map (fulfilment rule) (map unpack (take count (now (ts .entry)))) → AddsTransitions rule (map unpack (take count (now (ts .entry)))) (before .transitions) (now (transitions .entry)) (meetTargets (state .0) (map unpack (take count (now (ts .entry)))) (before .transitions) (take (before .states) (now (states .entry)))) r (now (states .exit)) (now (transitions .exit))) ⌝ }
+    requires { ⌜ (count ≤ length (now ts)) × (count ≤ length (now bytes))
+        × WalkRoom before (now states) (now transitions) ⌝ }
+    ensures { λ r. ⌜ MeetsAll (now (ts .entry)) (now (bytes .entry)) count (state .0) before
+        (now (states .entry)) (now (transitions .entry)) r (now (states .exit)) (now (transitions .exit)) ⌝ }
 {
     let total = before.transitions;
     let mut seen = before.states;
+    let mut last = 0;
     let mut i = 0;
     while i < count {
         if MAX_TRANSITIONS <= total + i {
             return Step::Stop(TOO_MANY_TRANSITIONS, state.0);
         }
         let t = ts[i];
-        let met = meet_state(states, seen, t / 65536);
+        let met = meet_state(states, seen, t / 65536, last);
         let Met::Number(target, more) = met else {
             return Step::Stop(TOO_MANY_STATES, state.0);
         };
         transitions[total + i] = keep(target, bytes[i], t);
+        last = target;
         seen = more;
         i += 1;
     }
@@ -221,8 +233,11 @@ fn walk_state(
     transitions: &mut [u64],
     before: Extent,
 ) -> Step
-    requires { ⌜ (sizesChecked (now rule) ≡ fine) × Known (now rule) (now table) (untils .nodes) (untils .count) × (state .0 < before .states) × WalkRoom (before .states) (before .transitions) (now states) (now transitions) ⌝ }
-    ensures { λ r. ⌜ AddsTransitions (now (rule .entry)) (transitionsOf (now (rule .entry)) (now (states .entry)) (state .0)) (before .transitions) (now (transitions .entry)) (walkState (now (rule .entry)) (state .0) (before .transitions) (take (before .states) (now (states .entry)))) r (now (states .exit)) (now (transitions .exit)) ⌝ }
+    requires { ⌜ (sizesChecked (now rule) ≡ fine)
+        × Known (now rule) (now table) (untils .nodes) (untils .count)
+        × (state .0 < before .states) × WalkRoom before (now states) (now transitions) ⌝ }
+    ensures { λ r. ⌜ WalksState (now (rule .entry)) (state .0) before
+        (now (states .entry)) (now (transitions .entry)) r (now (states .exit)) (now (transitions .exit)) ⌝ }
 {
     let at = state.0;
     let obligations = states[at];
@@ -270,7 +285,9 @@ pub fn walk(
     transitions: &mut [u64],
     ends: &mut [usize],
 ) -> Walked
-    requires { ⌜ (sizesChecked (now rule) ≡ fine) × (length (now table) ≡ tablePlaces) × TermRows (now rule) (now table) (nodeCount (now rule)) × (length (now states) ≡ maxGeneralizedStates) × (length (now transitions) ≡ maxGeneralizedTransitions) × (length (now ends) ≡ maxGeneralizedStates) ⌝ }
+    requires { ⌜ (sizesChecked (now rule) ≡ fine)
+        × (length (now table) ≡ tablePlaces) × TermRows (now rule) (now table) (nodeCount (now rule))
+        × WalkPlaces (now states) (now transitions) (now ends) ⌝ }
     ensures { λ r. ⌜ Walks (now (rule .entry)) r (now (states .exit)) (now (transitions .exit)) (now (ends .exit)) ⌝ }
 {
     let untils = acceptance::untils_of(rule);

@@ -1,34 +1,47 @@
--- `generalized::find` meets its contract: none of those passed is x (`Seeking`).
+-- `generalized::find` meets its contract: the one at last has its own place, and none of those passed is x (`Seeking`).
 -- Assumes nothing.
 use borrow.Author.Needs.{needs}
 use native.Mathlib.Omega.{arith}
 use Prim.Native.Nat.{_-_}
 use mathlib.Core.Path.{sym}
+use lib.ListN.{getD}
 use lib.Dec.{eqb}
-use borrow.Author.Tests.{eq-eqb, ne-eqb}
+use borrow.Author.Tests.{eq-eqb, ne-eqb, eqb-true}
 use Rattle.generalized.proofs.Exploring.{Seeking, seek-begins, seek-finds, seek-steps, seek-ends}
 use Rattle.generalized.proofs.find.Statement.{statement}
 use Rattle.generalized.proofs.find.Tie as tie
 
 abbrev Inv-loop : tie.InvT-loop
-Inv-loop items n x i₀ i = Seeking eqb x items n i
+Inv-loop items n x last i₀ i = Seeking eqb x items n i
 
 abbrev μ-loop : tie.MeasureT-loop
-μ-loop items n x i₀ i = n - i
+μ-loop items n x last i₀ i = n - i
 
-loop-holds : tie.Need-loop-holds Inv-loop μ-loop
-loop-holds c = seek-begins eqb _ 0 _ _ (c .pre)
+mul-if2 : tie.Need-mul-if2 Inv-loop μ-loop
+mul-if2 c = search needs
 
-mul-if1 : tie.Need-mul-if1 Inv-loop μ-loop
-mul-if1 c = search needs
-
-shared-slice-read-if1 : tie.Need-shared-slice-read-if1 Inv-loop μ-loop
-shared-slice-read-if1 c = search needs
+shared-slice-read-if2 : tie.Need-shared-slice-read-if2 Inv-loop μ-loop
+shared-slice-read-if2 c = search needs
 
 returns : tie.Need-returns Inv-loop μ-loop
 returns c =
+    let s = c .before .before .before in
+    let is = eqb-true (getD (s .args .items .now) (s .args .last) 0) (s .args .x) (c .if2 .taken) in
+    rw is at (s .pre .1 (c .before .before .if1 .taken))
+
+loop-holds : tie.Need-loop-holds Inv-loop μ-loop
+loop-holds c = seek-begins eqb
+
+mul-if3 : tie.Need-mul-if3 Inv-loop μ-loop
+mul-if3 c = search needs
+
+shared-slice-read-if3 : tie.Need-shared-slice-read-if3 Inv-loop μ-loop
+shared-slice-read-if3 c = search needs
+
+returns-2 : tie.Need-returns-2 Inv-loop μ-loop
+returns-2 c =
     let at = c .before .before .before in
-    seek-finds eqb _ 0 _ _ (at .before .pre) (at .loop .i) (omega arith) (at .loop .inv) (eq-eqb _ _ (sym (c .if1 .taken)))
+    seek-finds eqb (at .loop .inv) (at .before .before .pre .0) 0 (omega arith) (eq-eqb _ _ (sym (c .if3 .taken)))
 
 add-i : tie.Need-add-i Inv-loop μ-loop
 add-i c = search needs
@@ -39,12 +52,13 @@ loop-less c = search needs
 loop-again : tie.Need-loop-again Inv-loop μ-loop
 loop-again c =
     let at = c .before .before .before in
-    seek-steps eqb _ 0 _ _ (at .before .pre) (at .loop .i) (omega arith) (at .loop .inv) (ne-eqb _ _ (λ e. c .if1 .left (sym e)))
+    seek-steps eqb (at .loop .inv) (at .before .before .pre .0) 0 (omega arith)
+    (ne-eqb _ _ (λ e. c .if3 .left (sym e)))
 
-returns-2 : tie.Need-returns-2 Inv-loop μ-loop
-returns-2 c =
+returns-3 : tie.Need-returns-3 Inv-loop μ-loop
+returns-3 c =
     let at = c .before in
-    seek-ends eqb _ 0 _ _ (at .before .pre) (at .loop .i) (c .loop-test .left) (at .loop .inv)
+    seek-ends eqb (at .loop .inv) (at .before .before .pre .0) (c .loop-test .left)
 
 pub find-spec : {M : Type 1} → statement M
 find-spec =
@@ -52,11 +66,14 @@ find-spec =
     (tie.spec
     Inv-loop
     μ-loop
-    loop-holds
-    mul-if1
-    shared-slice-read-if1
+    mul-if2
+    shared-slice-read-if2
     returns
+    loop-holds
+    mul-if3
+    shared-slice-read-if3
+    returns-2
     add-i
     loop-less
     loop-again
-    returns-2)
+    returns-3)

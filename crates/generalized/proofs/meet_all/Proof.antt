@@ -3,20 +3,23 @@
 use borrow.Author.Needs.{needs}
 use native.Mathlib.Omega.{arith}
 use Prim.Native.Nat.{_-_}
-use Rattle.generalized.proofs.Meeting.{Meeting, meeting-begins, meeting-late, meeting-full, target-small, meeting-steps, meeting-ends}
+use Rattle.generalized.proofs.Meeting.{Meeting, meeting-begins, meeting-late, meeting-full, target-small}
+use Rattle.generalized.proofs.Meeting.{meeting-steps, meeting-ends}
 use Rattle.generalized.proofs.meet_all.Statement.{statement}
 use Rattle.generalized.proofs.meet_all.Tie as tie
 
 abbrev Inv-loop : tie.InvT-loop
-Inv-loop ts bytes count place states₀ transitions₀ total seen₀ i₀ states transitions seen i = Meeting ts bytes count (place .0) states₀ seen₀ transitions₀ total states transitions seen i
+Inv-loop ts bytes count place states₀ transitions₀ total seen₀ last₀ i₀ states transitions seen last i =
+    Meeting ts bytes count (place .0) (record { states = seen₀; transitions = total }) states₀ transitions₀
+    states transitions seen last i
 
 abbrev μ-loop : tie.MeasureT-loop
-μ-loop ts bytes count place states₀ transitions₀ total seen₀ i₀ states transitions seen i = count - i
+μ-loop ts bytes count place states₀ transitions₀ total seen₀ last₀ i₀ states transitions seen last i = count - i
 
 loop-holds : tie.Need-loop-holds Inv-loop μ-loop
 loop-holds c =
     let s = c .before .before .before .before in
-    meeting-begins _ _ _ _ _ _ _ _ (s .pre .2)
+    meeting-begins (s .pre .2)
 
 add-if1 : tie.Need-add-if1 Inv-loop μ-loop
 add-if1 c = search needs
@@ -31,7 +34,7 @@ returns : tie.Need-returns Inv-loop μ-loop
 returns c rule told =
     let at = c .before .before in
     let s = at .before .before .before .before .before in
-    meeting-late _ _ _ _ _ _ _ _ (s .pre .0) _ _ _ (at .loop .i) (at .loop .inv) (c .before .loop-test .taken) (c .if1 .taken)
+    meeting-late (at .loop .inv) (s .pre .0) (c .before .loop-test .taken) (c .if1 .taken)
 
 mul-t : tie.Need-mul-t Inv-loop μ-loop
 mul-t c = search needs
@@ -60,7 +63,9 @@ returns-2 c rule told =
     let test = met .before .before .before in
     let at = test .before .before in
     let s = at .before .before .before .before .before in
-    meeting-full _ _ _ _ _ _ _ _ (s .pre .0) _ _ _ (at .loop .i) (at .loop .inv) (omega arith) (test .if1 .left) (met .meet-state .result) (met .meet-state .last .0) (met .meet-state .ensures 23 _) (c .enum-told .given .1)
+    meeting-full (at .loop .inv) (s .pre .0) (omega arith) (test .if1 .left)
+    (met .meet-state .result) (met .meet-state .last .0) (met .meet-state .ensures)
+    (c .enum-told .given .1)
 
 shared-slice-read-keep : tie.Need-shared-slice-read-keep Inv-loop μ-loop
 shared-slice-read-keep c = search needs
@@ -71,7 +76,9 @@ keep-requires c κs =
     let test = met .before .before .before in
     let at = test .before .before in
     let s = at .before .before .before .before .before in
-    target-small _ _ _ _ _ _ _ _ (s .pre .0) _ _ _ (at .loop .i) (at .loop .inv) (omega arith) (test .if1 .left) (met .meet-state .result) (met .meet-state .last .0) (met .meet-state .ensures 23 _) _ _ (c .before .before .met .given .1) (met .meet-state .kept .0)
+    target-small (at .loop .inv) (s .pre .0) (omega arith) (test .if1 .left)
+    (met .meet-state .result) (met .meet-state .last .0) (met .meet-state .ensures)
+    (c .before .before .met .given .1) (met .meet-state .kept .0)
 
 add-transitions : tie.Need-add-transitions Inv-loop μ-loop
 add-transitions c = search needs
@@ -94,10 +101,12 @@ loop-again c =
     let test = met .before .before .before in
     let at = test .before .before in
     let s = at .before .before .before .before .before in
-    meeting-steps _ _ _ _ _ _ _ _ (s .pre .0) _ _ _ (at .loop .i) (at .loop .inv) (omega arith) (test .if1 .left) (met .meet-state .result) (met .meet-state .last .0) (met .meet-state .ensures 23 _) _ _ (c .before .before .before .met .given .1) (met .meet-state .kept .0) (s .pre .1) (c .keep .ensures)
+    meeting-steps (at .loop .inv) (s .pre .0) (omega arith) (test .if1 .left)
+    (met .meet-state .result) (met .meet-state .last .0) (met .meet-state .ensures)
+    (c .before .before .before .met .given .1) (met .meet-state .kept .0) (s .pre .1) (c .keep .ensures)
 
-add-t25 : tie.Need-add-t25 Inv-loop μ-loop
-add-t25 c = search needs
+add-t26 : tie.Need-add-t26 Inv-loop μ-loop
+add-t26 c = search needs
 
 same-length-5 : tie.Need-same-length-5 Inv-loop μ-loop
 same-length-5 c = search needs
@@ -109,7 +118,7 @@ returns-3 : tie.Need-returns-3 Inv-loop μ-loop
 returns-3 c rule told =
     let at = c .before in
     let s = at .before .before .before .before .before in
-    meeting-ends _ _ _ _ _ _ _ _ (s .pre .0) _ _ _ (at .loop .i) (at .loop .inv) (c .loop-test .left) rule told
+    meeting-ends (at .loop .inv) (s .pre .0) (c .loop-test .left) rule told
 
 pub meet-all-spec : {M : Type 1} → statement M
 meet-all-spec =
@@ -138,7 +147,7 @@ meet-all-spec =
     add-i
     loop-less
     loop-again
-    add-t25
+    add-t26
     same-length-5
     same-length-6
     returns-3)

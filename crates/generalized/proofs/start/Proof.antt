@@ -21,7 +21,7 @@ root-cover-requires c κs = search needs
 loop-holds : tie.Need-loop-holds Inv-loop μ-loop
 loop-holds c =
     let s = c .before .before .before in
-    cover-begins _ _ _ (c .root-cover .ensures) (initial-few _ (s .pre .0)) (s .pre .1)
+    cover-begins (c .root-cover .ensures) (initial-few _ (s .pre .0)) (s .pre .1)
 
 mul-states : tie.Need-mul-states Inv-loop μ-loop
 mul-states c = search needs
@@ -44,13 +44,13 @@ loop-less c = search needs
 loop-again : tie.Need-loop-again Inv-loop μ-loop
 loop-again c =
     let at = c .before .before in
-    cover-steps _ _ _ (at .loop .i) (at .loop .inv) (search needs) (c .before .loop-test .taken)
+    cover-steps (at .loop .inv) (search needs) (c .before .loop-test .taken)
 
 same-length : tie.Need-same-length Inv-loop μ-loop
 same-length c = search needs
 
 returns : tie.Need-returns Inv-loop μ-loop
-returns c = (cover-ends _ _ _ (c .before .loop .i) (c .before .loop .inv) (c .loop-test .left), c .before .loop .inv .few)
+returns c = (cover-ends (c .before .loop .inv) (c .loop-test .left), c .before .loop .inv .few)
 
 pub start-spec : {M : Type 1} → statement M
 start-spec =

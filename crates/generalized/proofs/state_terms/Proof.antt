@@ -6,12 +6,14 @@ use borrow.Author.Tests.{not-true, not-false}
 use Prim.Native.Nat.{_-_}
 use mathlib.Core.Path.{refl, sym, _∙_}
 use Rattle.generalized.proofs.Passed.{most-nodes, in-range}
-use Rattle.generalized.proofs.Products.{factor-of, Multiplying, multiply-begins, multiply-skips, multiply-steps, multiply-over, multiply-ends}
+use Rattle.generalized.proofs.Products.{factor-of, Multiplying, multiply-begins, multiply-skips}
+use Rattle.generalized.proofs.Products.{multiply-steps, multiply-over, multiply-ends}
 use Rattle.generalized.proofs.state_terms.Statement.{statement}
 use Rattle.generalized.proofs.state_terms.Tie as tie
 
 abbrev Inv-loop : tie.InvT-loop
-Inv-loop rule table state product₀ next₀ n count₀ k₀ product next count k = Multiplying rule state n product next count k
+Inv-loop rule table state product₀ next₀ n count₀ k₀ product next count k =
+    Multiplying rule state n product next count k
 
 abbrev μ-loop : tie.MeasureT-loop
 μ-loop rule table state product₀ next₀ n count₀ k₀ product next count k = n - k
@@ -22,7 +24,7 @@ slice-write-product c = search needs
 loop-holds : tie.Need-loop-holds Inv-loop μ-loop
 loop-holds c =
     let s = c .before .before .before .before in
-    multiply-begins _ _ _ (s .args .product .now) _ (omega (arith, most-nodes _ (s .pre .0))) (s .pre .3) (s .pre .4)
+    multiply-begins (s .args .product .now) _ (omega (arith, most-nodes _ (s .pre .0))) (s .pre .3)
 
 has-requires : tie.Need-has-requires Inv-loop μ-loop
 has-requires c κs = search needs
@@ -36,13 +38,14 @@ loop-less c = search needs
 loop-again : tie.Need-loop-again Inv-loop μ-loop
 loop-again c =
     let at = c .before .before .before in
-    multiply-skips _ _ _ _ _ _ (at .loop .k) (omega arith) (at .loop .inv) (sym (c .before .has .ensures) ∙ not-true _ (c .if1 .taken))
+    multiply-skips (at .loop .inv) (omega arith) (sym (c .before .has .ensures) ∙ not-true _ (c .if1 .taken))
 
 times-requires : tie.Need-times-requires Inv-loop μ-loop
 times-requires c κs =
     let at = c .before .before .before .before .before in
     let s = at .before .before .before .before .before in
-    (omega arith, at .loop .inv .fits, at .loop .inv .room, at .loop .inv .beside, factor-of _ _ (at .loop .k) (s .pre .0) (s .pre .1) (omega arith) (s .pre .2 _ (omega arith)))
+    let factor = factor-of _ _ (at .loop .k) (s .pre .0) (s .pre .1) (omega arith) (s .pre .2 _ (omega arith)) in
+    (omega arith, at .loop .inv .fits, factor, at .loop .inv .room)
 
 same-length : tie.Need-same-length Inv-loop μ-loop
 same-length c = search needs
@@ -56,7 +59,9 @@ returns c =
     let test = call .before .before .before in
     let at = test .before .before .before in
     let s = at .before .before .before .before .before in
-    multiply-over _ _ _ _ _ _ (at .loop .k) (omega arith) (at .loop .inv) (λ j lt. in-range _ (s .pre .0) j (omega arith)) _ (s .pre .2 _ (omega arith)) (sym (test .before .has .ensures) ∙ not-false _ (test .if1 .left)) _ _ (call .times .kept .1 .1 .0) (call .times .ensures) refl (c .if2 .taken)
+    multiply-over (at .loop .inv) (omega arith) (λ j lt. in-range _ (s .pre .0) j (omega arith))
+    (s .pre .2 _ (omega arith)) (sym (test .before .has .ensures) ∙ not-false _ (test .if1 .left)) _ _
+    (call .times .kept .1 .1 .0) (call .times .ensures) refl (c .if2 .taken)
 
 add-k-2 : tie.Need-add-k-2 Inv-loop μ-loop
 add-k-2 c = search needs
@@ -70,7 +75,9 @@ loop-again-2 c =
     let test = call .before .before .before in
     let at = test .before .before .before in
     let s = at .before .before .before .before .before in
-    multiply-steps _ _ _ _ _ _ (at .loop .k) (omega arith) (at .loop .inv) (λ j lt. in-range _ (s .pre .0) j (omega arith)) _ (s .pre .2 _ (omega arith)) (sym (test .before .has .ensures) ∙ not-false _ (test .if1 .left)) _ _ (call .times .kept .1 .1 .0) (call .times .ensures) (call .times .kept .1 .1 .1 .1 .0) (c .if2 .left)
+    multiply-steps (at .loop .inv) (omega arith) (λ j lt. in-range _ (s .pre .0) j (omega arith))
+    (s .pre .2 _ (omega arith)) (sym (test .before .has .ensures) ∙ not-false _ (test .if1 .left)) _ _
+    (call .times .kept .1 .1 .0) (call .times .ensures) (call .times .kept .1 .1 .1 .1 .0) (c .if2 .left)
 
 same-length-3 : tie.Need-same-length-3 Inv-loop μ-loop
 same-length-3 c = search needs
@@ -79,7 +86,7 @@ same-length-4 : tie.Need-same-length-4 Inv-loop μ-loop
 same-length-4 c = search needs
 
 returns-2 : tie.Need-returns-2 Inv-loop μ-loop
-returns-2 c = multiply-ends _ _ _ _ _ _ (c .before .loop .k) refl (c .loop-test .left) (c .before .loop .inv)
+returns-2 c = multiply-ends (c .before .loop .inv) refl (c .loop-test .left)
 
 pub state-terms-spec : {M : Type 1} → statement M
 state-terms-spec =

@@ -18,12 +18,14 @@ use Rattle.generalized.proofs.times.Statement.{statement}
 use Rattle.generalized.proofs.times.Tie as tie
 
 -- the first n of ws put over the front of places
-front : (ws places : List ℕ) (n : ℕ) {after vs : List ℕ} → n ≤ length places → length ws ≡ n → ws ≡ vs → after ≡ ws ++ drop n places → Stores after n vs
-front ws places n le l is e =
-    let size : length (ws ++ drop n places) ≡ length places = length-append ws (drop n places) ∙ omega (arith, length-drop n places) in
-    rw (e, ← is) (record { count = omega (arith, size, l); items = λ _. take-at ws (drop n places) n l })
+front : (ws places : List ℕ) {n : ℕ} {after vs : List ℕ} → n ≤ length places → length ws ≡ n → ws ≡ vs
+    → after ≡ ws ++ drop n places → Stores after n vs
+front ws places {n} le l is e =
+    let size = length-append ws (drop n places) in
+    let left = length-drop n places in
+    rw (e, ← is) (record { count = omega (arith, size, left, l); items = λ _. take-at ws (drop n places) n l })
 
-module _ (table : List ℕ) (k n : ℕ) (factor : Factor table k) (is : n ≡ getD table (k * rowPlaces) 0) where
+module _ {table : List ℕ} {k n : ℕ} (factor : Factor table k) (is : n ≡ getD table (k * rowPlaces) 0) where
   abbrev part : List ℕ
   part = take (k * rowPlaces + 1 + n - (k * rowPlaces + 1)) (drop (k * rowPlaces + 1) table)
 
@@ -34,20 +36,31 @@ module _ (table : List ℕ) (k n : ℕ) (factor : Factor table k) (is : n ≡ ge
       rw (same, take-take n n (drop (k * rowPlaces + 1) table) (omega arith), from, is)
 
   row-size : length (take n part) ≡ n
-  row-size = rw row (rw is (length-take-le (getD table (k * rowPlaces) 0) (drop (suc (k * rowPlaces)) table) (omega (arith, factor .inside, length-drop (suc (k * rowPlaces)) table))))
+  row-size =
+      let left = length-drop (suc (k * rowPlaces)) table in
+      rw (row, is) (length-take-le (getD table (k * rowPlaces) 0) _ (omega (arith, factor .inside, left)))
 
-  alone : (product : List ℕ) (count : ℕ) {after : List ℕ} → count ≡ 1 → getD product 0 0 ≡ 0 → length product ≡ maxProduct → after ≡ take n part ++ drop n product → Stores after n (insertProductN (take count product) (rowOf table k) [])
-  alone product count one zero size e =
-      let first : take 1 product ≡ 0 ∷ [] = take-suc product 0 0 (omega arith) ∙ rw zero in
-      rw (one, first, factor .alone) (front (take n part) product n (omega (arith, factor .few)) row-size row e)
+  module _ (product : List ℕ) (size : length product ≡ maxProduct) (count : ℕ) where
+    -- the product with the row
+    abbrev times : List ℕ
+    times = insertProductN (take count product) (rowOf table k) []
 
-  module _ (product next : List ℕ) (count more : ℕ) (size : length product ≡ maxProduct) (room : length next ≡ maxProduct) (h : Stores next more (insertProductN (take count product) (take n part) [])) where
-    over : maxProduct < more → Stores product more (insertProductN (take count product) (rowOf table k) [])
-    over lt = rw (← row) (record { count = omega (arith, h .count); items = λ le. absurd (omega (arith, h .count)) })
+    alone : {after : List ℕ} → count ≡ 1 → getD product 0 0 ≡ 0 → after ≡ take n part ++ drop n product
+        → Stores after n times
+    alone one zero e =
+        let first : take 1 product ≡ 0 ∷ [] = take-suc product 0 0 (omega arith) ∙ rw zero in
+        rw (one, first, factor .alone) (front (take n part) product (omega (arith, factor .few)) row-size row e)
 
-    back : more ≤ maxProduct → {after : List ℕ} → after ≡ take more next ++ drop more product → Stores after more (insertProductN (take count product) (rowOf table k) [])
-    back le e =
-        rw (← row) (front (take more next) product more (omega arith) (length-take-le more next (omega arith)) (items-are h (omega arith)) e)
+    module _ {next : List ℕ} {more : ℕ} (room : length next ≡ maxProduct)
+        (h : Stores next more (insertProductN (take count product) (take n part) [])) where
+      over : maxProduct < more → Stores product more times
+      over lt = rw (← row) (record { count = omega (arith, h .count); items = λ le. absurd (omega (arith, h .count)) })
+
+      back : more ≤ maxProduct → {after : List ℕ} → after ≡ take more next ++ drop more product
+          → Stores after more times
+      back le e =
+          let taken = length-take-le more next (omega arith) in
+          rw (← row) (front (take more next) product (omega arith) taken (items-are h (omega arith)) e)
 
 mul-row : tie.Need-mul-row
 mul-row c = search needs
@@ -90,7 +103,8 @@ returns c =
     let call = c .before .before in
     let test = call .before .before .before in
     let s = test .before .before .before .before .before .before .before in
-    alone (s .args .table .now) (s .args .k) _ (s .pre .4) refl (s .args .product .now) (s .args .count) (test .before .before .if1 .taken) (eqb-true (getD (s .args .product .now) 0 0) 0 (test .if2 .taken)) (s .pre .2) (call .copy-words .ensures)
+    alone (s .pre .2) refl (s .args .product .now) (s .pre .3 .room) (s .args .count) (test .before .before .if1 .taken)
+    (eqb-true (getD (s .args .product .now) 0 0) 0 (test .if2 .taken)) (call .copy-words .ensures)
 
 add-product : tie.Need-add-product
 add-product c = search needs
@@ -120,7 +134,8 @@ returns-2 : tie.Need-returns-2
 returns-2 c =
     let call = c .before .before .before in
     let s = call .before .before .before .before .before .before .before .before .before in
-    over (s .args .table .now) (s .args .k) _ (s .pre .4) refl (s .args .product .now) _ (s .args .count) _ (s .pre .2) (call .product2 .kept .0 ∙ s .pre .3) (call .product2 .ensures .updates _ (empty _)) (c .if3 .taken)
+    over (s .pre .2) refl (s .args .product .now) (s .pre .3 .room) (s .args .count)
+    (call .product2 .kept .0 ∙ s .pre .3 .beside) (call .product2 .ensures .updates _ (empty _)) (c .if3 .taken)
 
 copy-words-requires-2 : tie.Need-copy-words-requires-2
 copy-words-requires-2 c κs = search needs
@@ -137,7 +152,9 @@ returns-3 c =
     let test = copy .before .before .before in
     let call = test .before .before .before in
     let s = call .before .before .before .before .before .before .before .before .before in
-    back (s .args .table .now) (s .args .k) _ (s .pre .4) refl (s .args .product .now) _ (s .args .count) _ (s .pre .2) (call .product2 .kept .0 ∙ s .pre .3) (call .product2 .ensures .updates _ (empty _)) (test .if3 .left) (copy .copy-words2 .ensures)
+    back (s .pre .2) refl (s .args .product .now) (s .pre .3 .room) (s .args .count)
+    (call .product2 .kept .0 ∙ s .pre .3 .beside) (call .product2 .ensures .updates _ (empty _))
+    (test .if3 .left) (copy .copy-words2 .ensures)
 
 pub times-spec : {M : Type 1} → statement M
 times-spec =

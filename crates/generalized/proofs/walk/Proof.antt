@@ -11,10 +11,12 @@ use Rattle.generalized.proofs.walk.Statement.{statement}
 use Rattle.generalized.proofs.walk.Tie as tie
 
 abbrev Inv-loop : tie.InvT-loop
-Inv-loop rule table states₀ transitions₀ ends₀ untils initial size₀ place₀ states transitions ends size place = Walking rule initial states transitions ends (size .states) (size .transitions) (place .0)
+Inv-loop rule table states₀ transitions₀ ends₀ untils initial size₀ place₀ states transitions ends size place =
+    Walking rule initial states transitions ends size (place .0)
 
 abbrev μ-loop : tie.MeasureT-loop
-μ-loop rule table states₀ transitions₀ ends₀ untils initial size₀ place₀ states transitions ends size place = maxGeneralizedStates - place .0
+μ-loop rule table states₀ transitions₀ ends₀ untils initial size₀ place₀ states transitions ends size place =
+    maxGeneralizedStates - place .0
 
 untils-of-requires : tie.Need-untils-of-requires Inv-loop μ-loop
 untils-of-requires c κs = bytes-fine _ (c .before .before .before .before .before .pre .0)
@@ -22,20 +24,34 @@ untils-of-requires c κs = bytes-fine _ (c .before .before .before .before .befo
 start-requires : tie.Need-start-requires Inv-loop μ-loop
 start-requires c κs =
     let s = c .before .before .before .before .before .before .before in
-    (s .pre .0, s .pre .3)
+    (s .pre .0, s .pre .3 .states-room)
 
 loop-holds : tie.Need-loop-holds Inv-loop μ-loop
 loop-holds c =
     let begun = c .before .before .start in
     let s = c .before .before .before .before .before .before .before .before .before .before in
-    walk-begins _ _ _ _ _ (begun .ensures .0) (begun .ensures .1) (begun .kept .1 .0 ∙ s .pre .3) (s .pre .4) (s .pre .5)
+    walk-begins _ _ _ _ (begun .ensures .0) (begun .ensures .1)
+    (record {
+      states-room = begun .kept .1 .0 ∙ s .pre .3 .states-room;
+      transitions-room = s .pre .3 .transitions-room;
+      ends-room = s .pre .3 .ends-room;
+    })
 
 walk-state-requires : tie.Need-walk-state-requires Inv-loop μ-loop
 walk-state-requires c κs =
     let at = c .before .before .before .before .before in
     let untils = at .before .before .before .before .before in
-    let s = untils .before .before .before .before .before .before in
-    (s .pre .0, record { accepted = bytes-fine _ (s .pre .0); places = s .pre .1; rows = s .pre .2; untils = untils .untils-of .ensures }, c .before .before .if1 .taken, at .loop .inv .room)
+    let s = untils .before .before .before .before .before .before in (
+      s .pre .0,
+      record {
+        accepted = bytes-fine _ (s .pre .0);
+        places = s .pre .1;
+        rows = s .pre .2;
+        untils = untils .untils-of .ensures;
+      },
+      c .before .before .if1 .taken,
+      at .loop .inv .room,
+    )
 
 enum-known-step : tie.Need-enum-known-step Inv-loop μ-loop
 enum-known-step c = search needs
@@ -58,7 +74,10 @@ loop-again c =
     let state = put .before .before .before .before .before .before .before .before .before in
     let at = state .before .before .before .before .before .before in
     let walk = state .walk-state in
-    walk-steps _ _ _ _ _ _ _ _ (at .loop .inv) (state .before .before .before .if1 .taken) (walk .result) (walk .last .1 .1 .1 .1 .0) (walk .last .1 .1 .1 .1 .1 .0) (walk .ensures) _ _ (put .before .before .before .step .given .1) (walk .kept .1 .1 .1 .1 .0) (walk .kept .1 .1 .1 .1 .1 .0) (put .put-end .ensures)
+    walk-steps (at .loop .inv) (state .before .before .before .if1 .taken)
+    (walk .result) (walk .last .1 .1 .1 .1 .0) (walk .last .1 .1 .1 .1 .1 .0) (walk .ensures)
+    (put .before .before .before .step .given .1) (walk .kept .1 .1 .1 .1 .0) (walk .kept .1 .1 .1 .1 .1 .0)
+    (put .put-end .ensures)
 
 enum-known-step-2 : tie.Need-enum-known-step-2 Inv-loop μ-loop
 enum-known-step-2 c = search needs
@@ -77,7 +96,9 @@ returns c =
     let state = c .before .before .before .before .before .before .before in
     let at = state .before .before .before .before .before .before in
     let walk = state .walk-state in
-    walk-refused _ _ _ _ _ _ _ _ (at .loop .inv) (state .before .before .before .if1 .taken) (walk .result) (walk .last .1 .1 .1 .1 .0) (walk .last .1 .1 .1 .1 .1 .0) (walk .ensures) (c .before .step2 .given .1)
+    walk-refused (at .loop .inv) (state .before .before .before .if1 .taken)
+    (walk .result) (walk .last .1 .1 .1 .1 .0) (walk .last .1 .1 .1 .1 .1 .0) (walk .ensures)
+    (c .before .step2 .given .1)
 
 same-length-4 : tie.Need-same-length-4 Inv-loop μ-loop
 same-length-4 c = search needs
@@ -89,7 +110,7 @@ same-length-6 : tie.Need-same-length-6 Inv-loop μ-loop
 same-length-6 c = search needs
 
 returns-2 : tie.Need-returns-2 Inv-loop μ-loop
-returns-2 c = walk-ends _ _ _ _ _ _ _ _ (c .before .before .before .loop .inv) (c .if1 .left)
+returns-2 c = walk-ends (c .before .before .before .loop .inv) (c .if1 .left)
 
 pub walk-spec : {M : Type 1} → statement M
 walk-spec =

@@ -21,13 +21,13 @@ slice-aggregate-state-terms-2 c = search needs
 state-terms-requires : tie.Need-state-terms-requires
 state-terms-requires c κs =
     let s = c .before .before .before .before .before .before .before in
-    (s .pre .0, s .pre .1 .places, s .pre .1 .rows, refl, refl)
+    (s .pre .0, s .pre .1 .places, s .pre .1 .rows, record { room = refl; beside = refl })
 
 returns : tie.Need-returns
 returns c =
     let terms = c .before .before .before in
     let s = terms .before .before .before .before .before .before .before .before in
-    state-refused _ _ _ _ _ (s .pre .2) _ _ (terms .state-terms .ensures) (c .if1 .taken)
+    state-refused _ _ _ (s .args .before) (s .pre .2) _ _ (terms .state-terms .ensures) (c .if1 .taken)
 
 slice-aggregate-fulfil : tie.Need-slice-aggregate-fulfil
 slice-aggregate-fulfil c = search needs
@@ -48,7 +48,8 @@ slice-aggregate-meet-all-2 c = search needs
 
 meet-all-requires : tie.Need-meet-all-requires
 meet-all-requires c κs =
-    let s = c .before .before .before .before .before .before .before .before .before .before .before .before .before .before .before .before .before .before .before in
+    let test = c .before .before .before .before .before .before .before .before .before in
+    let s = test .before .before .before .before .before .before .before .before .before .before in
     (search needs, search needs, s .pre .3)
 
 same-length : tie.Need-same-length
@@ -64,7 +65,10 @@ returns-2 c =
     let test = told .before .before .before in
     let terms = test .before .before .before in
     let s = terms .before .before .before .before .before .before .before .before in
-    state-adds _ (s .args .states .now) _ _ (s .args .before .transitions) (s .pre .2) _ _ (terms .state-terms .ensures) (s .pre .0) (test .if1 .left) _ (s .args .transitions .now) (all .meet-all .result) (all .meet-all .last .1 .1 .1 .1 .0) (all .meet-all .last .1 .1 .1 .1 .1 .0) (told .fulfil .ensures) (all .meet-all .ensures)
+    state-adds _ (s .args .states .now) _ (s .args .before) (s .pre .2) _ _ (terms .state-terms .ensures)
+    (s .pre .0) (test .if1 .left) _ (s .args .transitions .now)
+    (all .meet-all .result) (all .meet-all .last .1 .1 .1 .1 .0) (all .meet-all .last .1 .1 .1 .1 .1 .0)
+    (told .fulfil .ensures) (all .meet-all .ensures)
 
 pub walk-state-spec : {M : Type 1} → statement M
 walk-state-spec =

@@ -53,7 +53,7 @@ slice-aggregate-walk-4 : tie.Need-slice-aggregate-walk-4
 slice-aggregate-walk-4 c = search needs
 
 walk-requires : tie.Need-walk-requires
-walk-requires c κs = (passed (c .before .before .before .before), c .before .before .before .before .before .before .before .tabulate .kept .1 .0, c .before .before .before .before .before .before .before .tabulate .ensures .1 (ap answer (c .before .before .before .before .enum-told .given .1)), refl, refl, refl)
+walk-requires c κs = (passed (c .before .before .before .before), c .before .before .before .before .before .before .before .tabulate .kept .1 .0, c .before .before .before .before .before .before .before .tabulate .ensures .1 (ap answer (c .before .before .before .before .enum-told .given .1)), record { states-room = refl; transitions-room = refl; ends-room = refl })
 
 enum-known-walked : tie.Need-enum-known-walked
 enum-known-walked c = search needs
