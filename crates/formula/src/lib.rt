@@ -3,7 +3,6 @@ use answer::Checked;
 use answer::wide;
 ghost use mathlib.Core.Path.{_≡_};
 ghost use mathlib.Core.Bool.{true, cond};
-ghost use mathlib.Core.List.{List, [], _∷_};
 ghost use lib.Dec.{eqb};
 ghost use Prim.Native.Nat.{ℕ, _+_, _*_, _<_, _≤_};
 ghost use lib.ListN.{length, getD};
@@ -260,7 +259,7 @@ pub fn check_syntax(highest: u8, rule: &[u8]) -> Checked
 
 // 1 for an until, else 0.
 fn until_count(kind: u8) -> usize
-    ensures { λ r. ⌜ r ≡ length (cond {A = List ℕ} (eqb kind 7) (kind ∷ []) []) ⌝ }
+    ensures { λ r. ⌜ r ≡ cond (eqb kind 7) 1 0 ⌝ }
 {
     if kind == UNTIL { 1 } else { 0 }
 }
