@@ -21,7 +21,8 @@ module _ (xs vs : List ℕ) (n : ℕ) where
   pub store-begins : Storing xs vs n xs 0
   store-begins = record { within = omega arith; size = refl; stored = refl }
 
-  pub store-steps : (ys : List ℕ) (i : ℕ) → i < n → n ≤ length xs → n ≤ length vs → Storing xs vs n ys i → Storing xs vs n (set ys i (getD vs i 0)) (i + 1)
+  pub store-steps : (ys : List ℕ) (i : ℕ) → i < n → n ≤ length xs → n ≤ length vs → Storing xs vs n ys i
+      → Storing xs vs n (set ys i (getD vs i 0)) (i + 1)
   store-steps ys i lt room source inv = record {
     within = omega arith;
     size = simp length-set (inv .size);
@@ -50,6 +51,7 @@ module _ (xs ys : List ℕ) (i : ℕ) where
       ∙ rw (take-all {A = ℕ} (length xs) (replicate (length xs) 0) (omega arith), drop-length, append-nil)
 
 -- the two bytes of a number
-pub two-stores : (table : List ℕ) (at x : ℕ) → set (set table at (x % 256)) (at + 1) (x / 256) ≡ sets table at (twoBytes x)
+pub two-stores : (table : List ℕ) (at x : ℕ)
+    → set (set table at (x % 256)) (at + 1) (x / 256) ≡ sets table at (twoBytes x)
 unfolding twoBytes
 two-stores table at x = rw (add-one at)

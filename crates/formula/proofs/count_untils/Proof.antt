@@ -35,7 +35,8 @@ loop-less c = search needs
 loop-again : tie.Need-loop-again Inv-loop μ-loop
 loop-again c =
     let at = c .before .before .before in
-    untils-step _ _ _ (at .loop .i) _ _ (omega arith) (at .loop .inv) (c .before .kind-of .ensures) (c .until-count .ensures)
+    untils-step _ _ _ (at .loop .i) _ _ (omega arith) (at .loop .inv) (c .before .kind-of .ensures)
+    (c .until-count .ensures)
 
 returns : tie.Need-returns Inv-loop μ-loop
 returns c = untils-end _ _ _ (c .before .loop .i) (omega arith) (c .before .loop .inv)
