@@ -20,12 +20,14 @@ fine-second (accepted u) b e = e
 fine-second (refused number place) b e = not-fine e
 
 -- the first refusal found is the lowest
-lowest-found : (check : ℕ → Check) (i n : ℕ) {number place : ℕ} → i < n → lowest check i ≡ fine → refused number place ≡ check i → refused number place ≡ lowest check n
+lowest-found : (check : ℕ → Check) (i n : ℕ) {number place : ℕ} → i < n → lowest check i ≡ fine
+    → refused number place ≡ check i → refused number place ≡ lowest check n
 unfolding lowest
 lowest-found check i zero lt e f = absurd (omega arith)
 lowest-found check i (suc n) {number} {place} lt e f = pick (ℕ-discrete i n) (λ lt. lowest-found check i n lt e f)
   where
-    pick : Dec (i ≡ n) → (i < n → refused number place ≡ lowest check n) → refused number place ≡ andThen (lowest check n) (λ _. check n)
+    pick : Dec (i ≡ n) → (i < n → refused number place ≡ lowest check n)
+        → refused number place ≡ andThen (lowest check n) (λ _. check n)
     pick (yes same) below = rw (← same, e) f
     pick (no other) below = rw (← below (omega arith)) refl
 
@@ -43,7 +45,8 @@ module _ (check : ℕ → Check) (n : ℕ) where
   unfolding lowest
   pass-steps i lt inv f = record { within = omega arith; passed = rw (add-one, inv .passed) f }
 
-  pub pass-fails : (i : ℕ) {number place : ℕ} → i < n → Passing check n i → refused number place ≡ check i → refused number place ≡ lowest check n
+  pub pass-fails : (i : ℕ) {number place : ℕ} → i < n → Passing check n i → refused number place ≡ check i
+      → refused number place ≡ lowest check n
   pass-fails i lt inv f = lowest-found check i n lt (inv .passed) f
 
   pub pass-ends : (i : ℕ) → n ≤ i → Passing check n i → fine ≡ lowest check n
@@ -55,7 +58,8 @@ module _ (check : ℕ → Check) (n : ℕ) where
 pub lowest-each : (check : ℕ → Check) (n : ℕ) → lowest check n ≡ fine → (k : ℕ) → k < n → check k ≡ fine
 unfolding lowest
 lowest-each check zero e k lt = absurd (omega arith)
-lowest-each check (suc n) e k lt = pick (ℕ-discrete k n) (λ lt. lowest-each check n (fine-first (lowest check n) (check n) e) k lt)
+lowest-each check (suc n) e k lt =
+    pick (ℕ-discrete k n) (λ lt. lowest-each check n (fine-first (lowest check n) (check n) e) k lt)
   where
     pick : Dec (k ≡ n) → (k < n → check k ≡ fine) → check k ≡ fine
     pick (yes same) below = rw same (fine-second (lowest check n) (check n) e)
@@ -67,7 +71,8 @@ unfolding lowest
 lowest-below check zero e k le =
     let z : k ≡ 0 = omega arith in
     rw z refl
-lowest-below check (suc n) e k le = pick (ℕ-discrete k (suc n)) (λ le. lowest-below check n (fine-first (lowest check n) (check n) e) k le)
+lowest-below check (suc n) e k le =
+    pick (ℕ-discrete k (suc n)) (λ le. lowest-below check n (fine-first (lowest check n) (check n) e) k le)
   where
     pick : Dec (k ≡ suc n) → (k ≤ n → lowest check k ≡ fine) → lowest check k ≡ fine
     pick (yes same) below = rw same e

@@ -1,5 +1,5 @@
--- An automaton with finitely many states has an accepting pass through the cycle of a lasso exactly if some endless run of
--- it accepts again and again. Assumes of the word only that it repeats.
+-- An automaton with finitely many states has an accepting pass through the cycle of a lasso exactly if some endless run
+-- of it accepts again and again. Assumes of the word only that it repeats.
 use Prim.Native.Nat.{ℕ, zero, suc, _+_, _-_, _*_, _<_, _≤_}
 use mathlib.Core.Path.{_≡_, refl, sym, _∙_, ap, subst}
 use mathlib.Core.Logic.{_⊎_, inl, inr, _↔_}
@@ -42,14 +42,16 @@ pub record Pass (s n : ℕ) (w : ℕ → ℕ) {X : Type 0} (automaton : Automato
   pub accepts : (i : ℕ) × (s + first * n ≤ i) × (i ≤ s + second * n) × automaton .Accepting (at i)
 
 -- an automaton's accepting passes are those of the automaton over its state numbers
-pub pass-iff : (a : Automaton) (stem cycle : List ℕ) → AcceptingPass a stem cycle ↔ Pass (length stem) (length cycle) (letter stem cycle) (numbered a)
+pub pass-iff : (a : Automaton) (stem cycle : List ℕ)
+    → AcceptingPass a stem cycle ↔ Pass (length stem) (length cycle) (letter stem cycle) (numbered a)
 pass-iff a stem cycle = (
   λ p. record { at = p .at; first = p .first; second = p .second; later = p .later; begins = p .begins; steps = p .steps; same = p .same; accepts = p .accepts },
   λ p. record { at = p .at; first = p .first; second = p .second; later = p .later; begins = p .begins; steps = p .steps; same = p .same; accepts = p .accepts },
 )
 
 -- ---- from an endless run through states below N to a pass
-module _ (s n : ℕ) (pos : 0 < n) (w : ℕ → ℕ) (automaton : AutomatonOver ℕ) (p : ℕ → ℕ) (run : Endless w automaton p) (N : ℕ) (few : (i : ℕ) → p i < N) where
+module _ (s n : ℕ) (pos : 0 < n) (w : ℕ → ℕ) (automaton : AutomatonOver ℕ) (p : ℕ → ℕ) (run : Endless w automaton p)
+    (N : ℕ) (few : (i : ℕ) → p i < N) where
   -- passes between whose beginnings the run accepts
   pass : ℕ → ℕ
   pass zero = 0
@@ -61,7 +63,9 @@ module _ (s n : ℕ) (pos : 0 < n) (w : ℕ → ℕ) (automaton : AutomatonOver 
 
   pass-grows : (d k : ℕ) → pass k ≤ pass (k + d)
   pass-grows zero k = subst (λ (c : ℕ). pass k ≤ pass c) {x = k} (omega arith) (omega arith)
-  pass-grows (suc d) k = subst (λ (c : ℕ). pass k ≤ pass c) {x = suc (k + d)} (omega arith) (omega (arith, pass-grows d k, pass-next (k + d)))
+  pass-grows (suc d) k =
+      subst (λ (c : ℕ). pass k ≤ pass c) {x = suc (k + d)} (omega arith)
+      (omega (arith, pass-grows d k, pass-next (k + d)))
 
   between : (k : ℕ) → (j : ℕ) × (s + pass k * n ≤ j) × (j ≤ s + pass (suc k) * n) × automaton .Accepting (p j)
   unfolding pass
@@ -84,10 +88,13 @@ module _ (s n : ℕ) (pos : 0 < n) (w : ℕ → ℕ) (automaton : AutomatonOver 
       }
         where
           up : pass (suc a) ≤ pass b
-          up = subst (λ (c : ℕ). pass (suc a) ≤ pass c) {x = suc a + (b - suc a)} (omega arith) (pass-grows (b - suc a) (suc a))
+          up =
+              subst (λ (c : ℕ). pass (suc a) ≤ pass c) {x = suc a + (b - suc a)} (omega arith)
+              (pass-grows (b - suc a) (suc a))
 
 -- ---- from a pass to an endless run, round and round
-module _ (s n : ℕ) (pos : 0 < n) (w : ℕ → ℕ) (round : (i : ℕ) → s ≤ i → w (i + n) ≡ w i) {X : Type 0} (automaton : AutomatonOver X) (l : Pass s n w automaton) where
+module _ (s n : ℕ) (pos : 0 < n) (w : ℕ → ℕ) (round : (i : ℕ) → s ≤ i → w (i + n) ≡ w i) {X : Type 0}
+    (automaton : AutomatonOver X) (l : Pass s n w automaton) where
   abbrev turns : ℕ
   turns = l .second - l .first
 
@@ -120,7 +127,8 @@ module _ (s n : ℕ) (pos : 0 < n) (w : ℕ → ℕ) (round : (i : ℕ) → s �
   back (suc i) = turn (suc (back i)) (ℕ-discrete (suc (back i)) end)
 
   Turned : ℕ → Type 0
-  Turned i = ((suc (back i) ≡ end) × (back (suc i) ≡ start)) ⊎ ((suc (back i) ≡ end → ⊥) × (back (suc i) ≡ suc (back i)))
+  Turned i =
+      ((suc (back i) ≡ end) × (back (suc i) ≡ start)) ⊎ ((suc (back i) ≡ end → ⊥) × (back (suc i) ≡ suc (back i)))
 
   turned : (i : ℕ) → Turned i
   unfolding back turn Turned
@@ -198,19 +206,23 @@ module _ (s n : ℕ) (pos : 0 < n) (w : ℕ → ℕ) (round : (i : ℕ) → s �
       go h (inr x) = absurd (x .0 (omega (arith, ahead d i (omega arith))))
 
   visit : (k : ℕ) → start ≤ k → k < end → Again (λ j. back j ≡ k)
-  visit k a b i = let (j, x, e) = come-round i in (j + (k - start), omega arith, omega (arith, ahead (k - start) j (omega arith)))
+  visit k a b i =
+      let (j, x, e) = come-round i in (j + (k - start), omega arith, omega (arith, ahead (k - start) j (omega arith)))
 
   accepts-again : Again (λ j. automaton .Accepting (l .at (back j)))
   accepts-again i = let (k, a, b, c) = l .accepts in split k a b c (decLt k end)
     where
-      put : (k : ℕ) → automaton .Accepting (l .at k) → (j : ℕ) × (i ≤ j) × (back j ≡ k) → (j : ℕ) × (i ≤ j) × automaton .Accepting (l .at (back j))
+      put : (k : ℕ) → automaton .Accepting (l .at k) → (j : ℕ) × (i ≤ j) × (back j ≡ k)
+          → (j : ℕ) × (i ≤ j) × automaton .Accepting (l .at (back j))
       put k c (j, x, e) = (j, x, subst (λ (z : ℕ). automaton .Accepting (l .at z)) (sym e) c)
 
-      split : (k : ℕ) → start ≤ k → k ≤ end → automaton .Accepting (l .at k) → Dec (k < end) → (j : ℕ) × (i ≤ j) × automaton .Accepting (l .at (back j))
+      split : (k : ℕ) → start ≤ k → k ≤ end → automaton .Accepting (l .at k) → Dec (k < end)
+          → (j : ℕ) × (i ≤ j) × automaton .Accepting (l .at (back j))
       split k a b c (yes h) = put k c (visit k a h i)
       split k a b c (no h) =
           let e : k ≡ end = omega arith in
-          put start (subst (automaton .Accepting) (ap (l .at) e ∙ sym (l .same)) c) (visit start (omega arith) start-end i)
+          put start (subst (automaton .Accepting) (ap (l .at) e ∙ sym (l .same)) c)
+          (visit start (omega arith) start-end i)
 
   pub pass-endless : (p : ℕ → X) × Endless w automaton p
   pass-endless = (

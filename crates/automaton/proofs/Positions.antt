@@ -17,7 +17,8 @@ unfoldable pub some-dec : (P : ℕ → Type 0) → Decided P → (d i : ℕ) →
 some-dec P dp zero i = no (λ (j, a, b, p). omega arith)
 some-dec P dp (suc d) i = go (dp i) (some-dec P dp d (suc i))
   where
-    go : Dec (P i) → Dec ((j : ℕ) × (suc i ≤ j) × (j < suc i + d) × P j) → Dec ((j : ℕ) × (i ≤ j) × (j < i + suc d) × P j)
+    go : Dec (P i) → Dec ((j : ℕ) × (suc i ≤ j) × (j < suc i + d) × P j)
+        → Dec ((j : ℕ) × (i ≤ j) × (j < i + suc d) × P j)
     go (yes p) r = yes (i, omega arith, omega arith, p)
     go (no p) (yes (j, a, b, q)) = yes (j, omega arith, omega arith, q)
     go (no p) (no r) = no (λ (j, a, b, q). late j a b q (ℕ-discrete i j))
@@ -63,7 +64,8 @@ pigeon (suc N) f h = go (some-dec (λ j. f j ≡ f (suc N)) (λ j. ℕ-discrete 
         small : (i : ℕ) → i ≤ N → g i < N
         small i l = less (f i) (decLt top (f i)) (h (suc N) (omega arith)) (h i (omega arith)) (other i l)
 
-        same : (a b : ℕ) → a ≤ N → b ≤ N → (p : Dec (top < f a)) (q : Dec (top < f b)) → lower (f a) p ≡ lower (f b) q → f a ≡ f b
+        same : (a b : ℕ) → a ≤ N → b ≤ N → (p : Dec (top < f a)) (q : Dec (top < f b)) → lower (f a) p ≡ lower (f b) q
+            → f a ≡ f b
         same a b x y (yes p) (yes q) e = omega arith
         same a b x y (yes p) (no q) e = absurd (other b y (omega arith))
         same a b x y (no p) (yes q) e = absurd (other a x (omega arith))

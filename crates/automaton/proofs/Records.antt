@@ -17,7 +17,8 @@ module _ {A : Type 0} (bytesOf : A → List ℕ) where
   pub records-append : (xs ys : List A) → records bytesOf (xs ++ ys) ≡ records bytesOf xs ++ records bytesOf ys
   unfolding records
   records-append [] ys = refl
-  records-append (x ∷ xs) ys = rw (records-append xs ys) (sym (append-assoc (bytesOf x) (records bytesOf xs) (records bytesOf ys)))
+  records-append (x ∷ xs) ys =
+      rw (records-append xs ys) (sym (append-assoc (bytesOf x) (records bytesOf xs) (records bytesOf ys)))
 
   pub records-last : (xs : List A) (x : A) → records bytesOf (xs ++ (x ∷ [])) ≡ records bytesOf xs ++ bytesOf x
   unfolding records
@@ -46,7 +47,8 @@ module _ {A : Type 0} (bytesOf : A → List ℕ) (size : ℕ) (sized : (x : A) �
   pub number-at : (none : A) (xs : List A) (rest : List ℕ) (i j k : ℕ) → i < length xs → j + 1 < size → k ≡ size * i + j
       → numberAt (records bytesOf xs ++ rest) k ≡ numberAt (bytesOf (getD xs i none)) j
   number-at none xs rest i j k l m e =
-      ap₂ (λ (x y : ℕ). x + 256 * y) (byte-at none xs rest i j k l (omega arith) e) (byte-at none xs rest i (j + 1) (k + 1) l m (omega arith))
+      ap₂ (λ (x y : ℕ). x + 256 * y) (byte-at none xs rest i j k l (omega arith) e)
+      (byte-at none xs rest i (j + 1) (k + 1) l m (omega arith))
 
 -- ---- a list with its numbers
 
@@ -56,14 +58,16 @@ module _ {A : Type 0} where
   numbered-length from [] = refl
   numbered-length from (x ∷ xs) = ap suc (numbered-length (suc from) xs)
 
-  pub numbered-last : (from : ℕ) (xs : List A) (x : A) → numbered from (xs ++ (x ∷ [])) ≡ numbered from xs ++ ((from + length xs, x) ∷ [])
+  pub numbered-last : (from : ℕ) (xs : List A) (x : A)
+      → numbered from (xs ++ (x ∷ [])) ≡ numbered from xs ++ ((from + length xs, x) ∷ [])
   unfolding numbered
   numbered-last from [] x = let e : from + 0 ≡ from = omega arith in rw e
   numbered-last from (y ∷ xs) x =
       let e : from + suc (length xs) ≡ suc from + length xs = omega arith in
       rw (numbered-last (suc from) xs x, e)
 
-  numbered-at : (none : A) (from : ℕ) (xs : List A) (i : ℕ) → i < length xs → getD (numbered from xs) i (0, none) ≡ (from + i, getD xs i none)
+  numbered-at : (none : A) (from : ℕ) (xs : List A) (i : ℕ) → i < length xs
+      → getD (numbered from xs) i (0, none) ≡ (from + i, getD xs i none)
   unfolding numbered
   numbered-at none from [] i l = absurd (omega arith)
   numbered-at none from (x ∷ xs) zero l = let e : from + 0 ≡ from = omega arith in rw e
@@ -105,12 +109,14 @@ module _ (a : Automaton) (rest : List ℕ) (i : ℕ) (inside : i < length (a .st
   here : getD (numbered 0 (a .states)) i (0, noState) ≡ (i, getD (a .states) i noState)
   here = let e : 0 + i ≡ i = omega arith in numbered-at noState 0 (a .states) i inside ∙ rw e
 
-  pub state-byte-at : (j k : ℕ) → j < 4 → k ≡ 4 * i + j → getD (stateRecords a ++ rest) k 0 ≡ getD (stateRecord i (getD (a .states) i noState)) j 0
+  pub state-byte-at : (j k : ℕ) → j < 4 → k ≡ 4 * i + j
+      → getD (stateRecords a ++ rest) k 0 ≡ getD (stateRecord i (getD (a .states) i noState)) j 0
   unfolding stateRecords
   state-byte-at j k l e =
       byte-at recordOf 4 record-length (0, noState) (numbered 0 (a .states)) rest i j k there l e ∙ rw here
 
-  pub state-number-at : (j k : ℕ) → j + 1 < 4 → k ≡ 4 * i + j → numberAt (stateRecords a ++ rest) k ≡ numberAt (stateRecord i (getD (a .states) i noState)) j
+  pub state-number-at : (j k : ℕ) → j + 1 < 4 → k ≡ 4 * i + j
+      → numberAt (stateRecords a ++ rest) k ≡ numberAt (stateRecord i (getD (a .states) i noState)) j
   unfolding stateRecords
   state-number-at j k l e =
       number-at recordOf 4 record-length (0, noState) (numbered 0 (a .states)) rest i j k there l e ∙ rw here
@@ -118,7 +124,8 @@ module _ (a : Automaton) (rest : List ℕ) (i : ℕ) (inside : i < length (a .st
 transitions-length : (ts : List Transition) → length (records transitionRecord ts) ≡ length ts * 4
 transitions-length ts = records-length transitionRecord 4 transition-length ts
 
-pub transitions-count : (ss : List State) → length (records (λ s. records transitionRecord (s .transitions)) ss) ≡ transitionCount ss * 4
+pub transitions-count : (ss : List State)
+    → length (records (λ s. records transitionRecord (s .transitions)) ss) ≡ transitionCount ss * 4
 unfolding records transitionCount
 transitions-count [] = refl
 transitions-count (s ∷ ss) = rw length-append (omega (arith, transitions-length (s .transitions), transitions-count ss))

@@ -33,7 +33,8 @@ pub record WellFormed (a : Automaton) : Type 0 where
   pub rising : (i : ℕ) → suc i < length (a .initial) → getD (a .initial) i 0 < getD (a .initial) (suc i) 0
 
 -- so there are at most maxOfState transitions for each state
-pub few-together : (n : ℕ) (ss : List State) → ((s : State) → In s ss → WellFormedState n s) → transitionCount ss ≤ maxOfState * length ss
+pub few-together : (n : ℕ) (ss : List State) → ((s : State) → In s ss → WellFormedState n s)
+    → transitionCount ss ≤ maxOfState * length ss
 unfolding transitionCount
 few-together n [] each = omega arith
 few-together n (s ∷ ss) each = omega (arith, each s (inl refl) .few, few-together n ss (λ u m. each u (inr m)))

@@ -11,7 +11,8 @@ use Rattle.answer.proofs.Results.{then-accepted}
 use Rattle.automaton.specs.Automaton.{Automaton}
 use Rattle.translation.specs.Degeneralized.{translation}
 use Rattle.lasso.proofs.Checking.{lasso-some}
-use Rattle.demands.specs.Demand.{roomCheck, inputCheck, concluded, decidedBy, decided, decidable, Answers, Decides}
+use Rattle.demands.specs.Demand.{roomCheck, inputCheck, concluded, decidedBy, decided, decidable, Answers}
+use Rattle.demands.specs.Demand.{Decides}
 use Rattle.judge.proofs.VerdictIff.{recognized-exactly}
 use Rattle.correctness.proofs.WellFormed.{translation-well-formed}
 use Rattle.correctness.proofs.AcceptingPass.{translation-recognizes}
@@ -31,4 +32,6 @@ module _ (rule stem cycle s t i image work : List ℕ) where
           → Answers (decidedBy check (concluded r stem cycle s t i image work) s t i image work .answer) (andThen check (λ _. andThen r (λ _. accepted tt))) (Satisfies rule stem cycle)
       go (refused number place) e r known = refl
       go (accepted u) e (refused number place) known = refl
-      go (accepted u) e (accepted a) known = recognized-exactly a (translation-well-formed rule a known) stem cycle (translation-recognizes rule a known) (some e)
+      go (accepted u) e (accepted a) known =
+          recognized-exactly a (translation-well-formed rule a known) stem cycle (translation-recognizes rule a known)
+          (some e)

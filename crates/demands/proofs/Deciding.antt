@@ -1,5 +1,5 @@
--- Translate, write and judge in a row: what each call hands to the next, and what the five buffers hold at each way out.
--- Assumes nothing.
+-- Translate, write and judge in a row: what each call hands to the next, and what the five buffers hold at each way
+-- out. Assumes nothing.
 use Prim.Native.Nat.{ℕ, _≤_}
 use mathlib.Core.Path.{_≡_, refl, sym, _∙_, ap}
 use mathlib.Core.List.{List, _++_}
@@ -76,7 +76,9 @@ module _ (rule stem cycle s t i image work : List ℕ) (passes : inputCheck rule
   unfolding writes
   image-written a e =
       let formed = translation-well-formed rule a e in
-      let long = fine-long _ _ _ (filled-long s t i (stateRecords a) (transitionRecords a) (initialRecords a) (passed .tables-room)) in
+      let long =
+      fine-long _ _ _
+      (filled-long s t i (stateRecords a) (transitionRecords a) (initialRecords a) (passed .tables-room)) in
       rw (long, le-leb largestImage (length image) (passed .image-room), counts-fit a formed, tables-read a formed)
 
   module _ (s' t' i' : List ℕ) {told : Result Counts} (translates : outcome told s' t' i' ≡ translated rule s t i) where
@@ -84,19 +86,23 @@ module _ (rule stem cycle s t i image work : List ℕ) (passes : inputCheck rule
     is-stored = translates ∙ translated-stored
 
     -- 20 to 24
-    pub rule-refused : {number place : ℕ} → told ≡ refused number place → decision (refused number place) s' t' i' image work ≡ concluded (translation rule) stem cycle s t i image work
+    pub rule-refused : {number place : ℕ} → told ≡ refused number place
+        → decision (refused number place) s' t' i' image work ≡ concluded (translation rule) stem cycle s t i image work
     unfolding stored
     rule-refused {number} {place} e = go (translation rule) refl is-stored
       where
-        go : (r : Result Automaton) → translation rule ≡ r → outcome told s' t' i' ≡ stored r s t i → decision (refused number place) s' t' i' image work ≡ concluded r stem cycle s t i image work
+        go : (r : Result Automaton) → translation rule ≡ r → outcome told s' t' i' ≡ stored r s t i
+            → decision (refused number place) s' t' i' image work ≡ concluded r stem cycle s t i image work
         go (accepted a) known is = never-both (sym e ∙ ap (λ (o : Outcome). o .answer) is)
         go (refused n p) known is =
-            let same : _≡_ {A = Result Counts} (refused number place) (refused n p) = sym e ∙ ap (λ (o : Outcome). o .answer) is in
+            let same : _≡_ {A = Result Counts} (refused number place) (refused n p) =
+            sym e ∙ ap (λ (o : Outcome). o .answer) is in
             let same-number : number ≡ n = cc in
             let same-place : place ≡ p = cc in
             λ k. decision (refused (same-number k) (same-place k)) (is k .states) (is k .transitions) (is k .initial) image work
 
-    module _ (c : Counts) (counted : told ≡ accepted c) (image' : List ℕ) {written : Result ℕ} (writing : buffer written image' ≡ writes c s' t' i' image) where
+    module _ (c : Counts) (counted : told ≡ accepted c) (image' : List ℕ) {written : Result ℕ}
+        (writing : buffer written image' ≡ writes c s' t' i' image) where
       -- the image of the rule's automaton is at the start of the buffer, and its records are in the tables
       record Stored : Type 0 where
         automaton : Automaton
@@ -115,7 +121,13 @@ module _ (rule stem cycle s t i image work : List ℕ) (passes : inputCheck rule
               let handed : writes c s' t' i' image ≡ writes (counts a) (filled s (stateRecords a)) (filled t (transitionRecords a)) (filled i (initialRecords a)) image =
               λ k. writes (same k) (tables k .states) (tables k .transitions) (tables k .initial) image in
               let done = writing ∙ handed ∙ image-written a known in
-              record { automaton = a; translated-to = known; tables = tables; answered = ap (λ (b : Buffer). b .answer) done; stored-in = ap (λ (b : Buffer). b .image) done }
+              record {
+                automaton = a;
+                translated-to = known;
+                tables = tables;
+                answered = ap (λ (b : Buffer). b .answer) done;
+                stored-in = ap (λ (b : Buffer). b .image) done;
+              }
           go (refused n p) known tables = never-both (sym (ap (λ (o : Outcome). o .answer) tables) ∙ counted)
 
       -- the writer refuses nothing
@@ -133,9 +145,12 @@ module _ (rule stem cycle s t i image work : List ℕ) (passes : inputCheck rule
         image-inside = omega (arith, image-size, ap length (has-stored .stored-in), length-append (imageBytes a) (drop (length (imageBytes a)) image))
 
         image-is : take n image' ≡ imageBytes a
-        image-is = ap (take n) (has-stored .stored-in) ∙ take-at (imageBytes a) (drop (length (imageBytes a)) image) n image-size
+        image-is =
+            ap (take n) (has-stored .stored-in)
+            ∙ take-at (imageBytes a) (drop (length (imageBytes a)) image) n image-size
 
-        pub lasso-judged : {answer : Result Verdict} {work' : List ℕ} → judgement answer work' ≡ judged (take n image') stem cycle work
+        pub lasso-judged : {answer : Result Verdict} {work' : List ℕ}
+            → judgement answer work' ≡ judged (take n image') stem cycle work
             → decision answer s' t' i' image' work' ≡ concluded (translation rule) stem cycle s t i image work
         unfolding stored
         lasso-judged {answer} {work'} judges =
@@ -152,12 +167,14 @@ module _ (rule stem cycle s t i image work : List ℕ) {r : Bool} (tested : r �
   short-refused f = rw (← tested, not-true r f)
 
   module _ (long : not r ≡ false) where
-    pub bytes-refused : {number place : ℕ} → refused number place ≡ Rule.checked rule → decision (refused number place) s t i image work ≡ decided rule stem cycle s t i image work
+    pub bytes-refused : {number place : ℕ} → refused number place ≡ Rule.checked rule
+        → decision (refused number place) s t i image work ≡ decided rule stem cycle s t i image work
     unfolding decided inputCheck roomCheck
     bytes-refused e = rw (← tested, not-false r long, ← e)
 
     module _ (bytes : fine ≡ Rule.checked rule) where
-      pub lasso-refused : {number place : ℕ} → refused number place ≡ lassoCheck stem cycle → decision (refused number place) s t i image work ≡ decided rule stem cycle s t i image work
+      pub lasso-refused : {number place : ℕ} → refused number place ≡ lassoCheck stem cycle
+          → decision (refused number place) s t i image work ≡ decided rule stem cycle s t i image work
       unfolding decided inputCheck roomCheck
       lasso-refused e = rw (← tested, not-false r long, ← bytes, ← e)
 
@@ -166,6 +183,7 @@ module _ (rule stem cycle s t i image work : List ℕ) {r : Bool} (tested : r �
         unfolding inputCheck roomCheck
         input-fine = rw (← tested, not-false r long, ← bytes, ← lasso)
 
-        pub concludes : {d : Decision} → d ≡ concluded (translation rule) stem cycle s t i image work → d ≡ decided rule stem cycle s t i image work
+        pub concludes : {d : Decision} → d ≡ concluded (translation rule) stem cycle s t i image work
+            → d ≡ decided rule stem cycle s t i image work
         unfolding decided
         concludes e = rw (input-fine) e

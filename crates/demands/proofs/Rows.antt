@@ -9,7 +9,8 @@ use mathlib.Core.Bool.{Bool, true, false}
 use lib.ListN.{length}
 use Rattle.sets.specs.Sets.{insert, union, insertJoin, insertJoins, insertProduct, any, In}
 use Rattle.answer.specs.Result.{accepted, fine, lowest}
-use Rattle.formula.specs.Rule.{leftOperand, rightOperand, lengthCheck, nodeCheck, places, placeCheck, syntaxCheck, untils, untilCheck}
+use Rattle.formula.specs.Rule.{leftOperand, rightOperand, lengthCheck, nodeCheck, places, placeCheck, syntaxCheck}
+use Rattle.formula.specs.Rule.{untils, untilCheck}
 use Rattle.formula.specs.Rule
 use Rattle.formula.specs.Formula.{trees, tree, formula}
 use Rattle.lasso.specs.Lasso.{letter, lassoCheck}
@@ -20,8 +21,10 @@ use Rattle.acceptance.specs.Acceptance.{shows, fulfils}
 use Rattle.generalized.specs.Generalized.{partialProduct, transitions, productCheck, targets, generalized}
 use Rattle.generalized.specs.Memory.{allTransitions}
 use Rattle.automaton.specs.Automaton.{Transition, State, Automaton}
-use Rattle.translation.specs.Degeneralized.{climb, nextLevel, numbers, initialNumbers, pairTransitions, target, degeneralized, stateOf, translation}
-use Rattle.automaton.specs.Records.{records, numbered, stateRecord, transitionRecord, stateRecords, transitionRecords, initialRecords}
+use Rattle.translation.specs.Degeneralized.{climb, nextLevel, numbers, initialNumbers, pairTransitions, target}
+use Rattle.translation.specs.Degeneralized.{degeneralized, stateOf, translation}
+use Rattle.automaton.specs.Records.{records, numbered, stateRecord, transitionRecord, stateRecords, transitionRecords}
+use Rattle.automaton.specs.Records.{initialRecords}
 use Rattle.answer.specs.Bytes.{twoBytes}
 use Rattle.automaton.specs.Tables.{transitionCount}
 use Rattle.sets.proofs.Members.{All}
@@ -160,19 +163,28 @@ table = p1 ∷ p2 ∷ p3 ∷ p4 ∷ p5 ∷ p6 ∷ p7 ∷ p8 ∷ p9 ∷ []
 -- ---- the whole table, computed
 
 walks : map (λ row. generalized (row .rule)) table ≡ map (λ row. accepted (row .sets)) table
-unfolding on state transition table p1 p2 p3 p4 p5 p6 p7 p8 p9 insert union insertJoin insertJoins insertProduct lowest trees tree formula cover terms find meet meetAll explore partialProduct transitions productCheck targets generalized allTransitions
+unfolding on state transition table p1 p2 p3 p4 p5 p6 p7 p8 p9 insert union insertJoin insertJoins insertProduct lowest
+    trees tree formula cover terms find meet meetAll explore partialProduct transitions productCheck targets generalized
+    allTransitions
 walks = refl
 
 counts : map (λ row. length (allTransitions (row .rule) (row .sets))) table ≡ map (λ row. row .count) table
-unfolding on state transition table p1 p2 p3 p4 p5 p6 p7 p8 p9 insert union insertJoin insertJoins insertProduct lowest trees tree formula cover terms find meet meetAll explore partialProduct transitions productCheck targets generalized allTransitions
+unfolding on state transition table p1 p2 p3 p4 p5 p6 p7 p8 p9 insert union insertJoin insertJoins insertProduct lowest
+    trees tree formula cover terms find meet meetAll explore partialProduct transitions productCheck targets generalized
+    allTransitions
 counts = refl
 
 translations : map (λ row. translation (row .rule)) table ≡ map (λ row. accepted (row .automaton)) table
-unfolding on state transition table p1 p2 p3 p4 p5 p6 p7 p8 p9 insert union insertJoin insertJoins insertProduct any lowest leftOperand rightOperand lengthCheck nodeCheck places placeCheck syntaxCheck untils untilCheck Rule.checked trees tree formula cover terms sizeCheck sizesChecked find meet meetAll explore partialProduct transitions productCheck targets generalized shows fulfils climb nextLevel numbers initialNumbers pairTransitions target degeneralized stateOf translation
+unfolding on state transition table p1 p2 p3 p4 p5 p6 p7 p8 p9 insert union insertJoin insertJoins insertProduct any
+    lowest leftOperand rightOperand lengthCheck nodeCheck places placeCheck syntaxCheck untils untilCheck Rule.checked
+    trees tree formula cover terms sizeCheck sizesChecked find meet meetAll explore partialProduct transitions
+    productCheck targets generalized shows fulfils climb nextLevel numbers initialNumbers pairTransitions target
+    degeneralized stateOf translation
 translations = refl
 
 images : map (λ row. map (λ image. imageBytes (row .automaton)) (row .images)) table ≡ map (λ row. map (λ image. image) (row .images)) table
-unfolding on state transition table p1 p2 p3 p4 p5 p6 p7 p8 p9 transitionCount records numbered twoBytes stateRecord transitionRecord stateRecords transitionRecords initialRecords entry contents imageBytes
+unfolding on state transition table p1 p2 p3 p4 p5 p6 p7 p8 p9 transitionCount records numbered twoBytes stateRecord
+    transitionRecord stateRecords transitionRecords initialRecords entry contents imageBytes
 images = refl
 
 fits : map (λ row. map (λ c. lassoCheck (c .stem) (c .cycle)) (row .cases)) table ≡ map (λ row. map (λ c. fine) (row .cases)) table
@@ -180,7 +192,9 @@ unfolding on state transition table p1 p2 p3 p4 p5 p6 p7 p8 p9 lassoCheck
 fits = refl
 
 verdicts : map (λ row. map (λ c. verdict (row .automaton) (c .stem) (c .cycle)) (row .cases)) table ≡ map (λ row. map (λ c. c .verdict) (row .cases)) table
-unfolding on state transition table p1 p2 p3 p4 p5 p6 p7 p8 p9 letter any Search.visit Search.visitAll Search.readTargets Search.after Search.onward Search.reach Search.reachedFrom Search.starts Search.hasAcceptingPass verdict
+unfolding on state transition table p1 p2 p3 p4 p5 p6 p7 p8 p9 letter any Search.visit Search.visitAll
+    Search.readTargets Search.after Search.onward Search.reach Search.reachedFrom Search.starts Search.hasAcceptingPass
+    verdict
 verdicts = refl
 
 -- ---- each row by itself

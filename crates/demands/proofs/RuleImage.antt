@@ -10,5 +10,6 @@ use Rattle.image.specs.Reader.{readImage}
 use Rattle.image.proofs.ImageAccepted.{image-accepted}
 use Rattle.correctness.proofs.WellFormed.{translation-well-formed}
 
-pub rule-image-accepted : (rule : List ℕ) (a : Automaton) → translation rule ≡ accepted a → readImage (imageBytes a) ≡ accepted a
+pub rule-image-accepted : (rule : List ℕ) (a : Automaton) → translation rule ≡ accepted a
+    → readImage (imageBytes a) ≡ accepted a
 rule-image-accepted rule a e = image-accepted a (translation-well-formed rule a e)

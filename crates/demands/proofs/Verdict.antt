@@ -1,5 +1,5 @@
--- What judging says of a lasso and the image of a rule's automaton, which is well-formed and recognizes what satisfies the
--- rule. Assumes nothing.
+-- What judging says of a lasso and the image of a rule's automaton, which is well-formed and recognizes what satisfies
+-- the rule. Assumes nothing.
 use Prim.Native.Nat.{ℕ, _+_, _≤_, _<_}
 use mathlib.Core.Path.{_≡_}
 use mathlib.Core.List.{List}
@@ -18,7 +18,9 @@ use Rattle.correctness.proofs.AcceptingPass.{translation-recognizes}
 -- Demand 3, of judging: the rule is accepted, and a is its automaton; the image is the one byte string of a, whoever
 -- wrote it; the lasso has a letter in its cycle and is within the limit of letters, and there are working bytes enough.
 -- Then the answer is kept exactly when the lasso satisfies the rule, and broken exactly when it does not.
-pub verdict-iff-satisfied : (rule stem cycle : List ℕ) (a : Automaton) → translation rule ≡ accepted a → (work : List ℕ) → 0 < length cycle → length stem + length cycle ≤ maxLetters → workBytes ≤ length work
+pub verdict-iff-satisfied : (rule stem cycle : List ℕ) (a : Automaton) → translation rule ≡ accepted a → (work : List ℕ)
+    → 0 < length cycle → length stem + length cycle ≤ maxLetters → workBytes ≤ length work
     → Exactly (judged (imageBytes a) stem cycle work .answer) (Satisfies rule stem cycle)
 verdict-iff-satisfied rule stem cycle a e work pos few enough =
-    recognized-verdict a (translation-well-formed rule a e) stem cycle (translation-recognizes rule a e) pos work few enough
+    recognized-verdict a (translation-well-formed rule a e) stem cycle (translation-recognizes rule a e) pos work few
+    enough

@@ -25,7 +25,8 @@ ghost use Rattle.demands.specs.Demand.{inputCheck, decision, concluded, 
 
 // Whether lent tables, an image's buffer and working bytes of these lengths are long enough.
 fn room_fits(states: usize, transitions: usize, initial: usize, image: usize, work: usize) -> bool
-    ensures { λ r. ⌜ r ≡ (leb statesBytes states && (leb transitionsBytes transitions && (leb initialBytes initial && (leb largestImage image && leb workBytes work)))) ⌝ }
+    ensures { λ r. ⌜ r ≡ (leb statesBytes states && (leb transitionsBytes transitions
+        && (leb initialBytes initial && (leb largestImage image && leb workBytes work)))) ⌝ }
 {
     if states < STATES_BYTES {
         return false;
@@ -53,8 +54,13 @@ fn decide_checked(
     image: &mut [u8],
     work: &mut [u8],
 ) -> Judged
-    requires { ⌜ inputCheck (now rule) (now stem) (now cycle) (now states) (now transitions) (now initial) (now image) (now work) ≡ fine ⌝ }
-    ensures { λ r. ⌜ decision (judgeAnswer r) (now (states .exit)) (now (transitions .exit)) (now (initial .exit)) (now (image .exit)) (now (work .exit)) ≡ concluded (translation (now (rule .entry))) (now (stem .entry)) (now (cycle .entry)) (now (states .entry)) (now (transitions .entry)) (now (initial .entry)) (now (image .entry)) (now (work .entry)) ⌝ }
+    requires { ⌜ inputCheck (now rule) (now stem) (now cycle)
+        (now states) (now transitions) (now initial) (now image) (now work) ≡ fine ⌝ }
+    ensures { λ r. ⌜ decision (judgeAnswer r) (now (states .exit)) (now (transitions .exit)) (now (initial .exit))
+        (now (image .exit)) (now (work .exit))
+        ≡ concluded (translation (now (rule .entry))) (now (stem .entry)) (now (cycle .entry))
+        (now (states .entry)) (now (transitions .entry)) (now (initial .entry))
+        (now (image .entry)) (now (work .entry)) ⌝ }
 {
     match translate(rule, states, transitions, initial) {
         Translated::Refused(number, place) => Judged::Refused(number, place),
@@ -77,7 +83,11 @@ pub fn decide(
     image: &mut [u8],
     work: &mut [u8],
 ) -> Judged
-    ensures { λ r. ⌜ decision (judgeAnswer r) (now (states .exit)) (now (transitions .exit)) (now (initial .exit)) (now (image .exit)) (now (work .exit)) ≡ decided (now (rule .entry)) (now (stem .entry)) (now (cycle .entry)) (now (states .entry)) (now (transitions .entry)) (now (initial .entry)) (now (image .entry)) (now (work .entry)) ⌝ }
+    ensures { λ r. ⌜ decision (judgeAnswer r) (now (states .exit)) (now (transitions .exit)) (now (initial .exit))
+        (now (image .exit)) (now (work .exit))
+        ≡ decided (now (rule .entry)) (now (stem .entry)) (now (cycle .entry))
+        (now (states .entry)) (now (transitions .entry)) (now (initial .entry))
+        (now (image .entry)) (now (work .entry)) ⌝ }
 {
     let fits = room_fits(
         states.len(),

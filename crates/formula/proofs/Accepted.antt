@@ -10,7 +10,8 @@ use lib.ListN.{length}
 use borrow.Author.Tests.{leb-true, ltb-true, eqb-true}
 use Rattle.answer.specs.Result.{fine, lowest}
 use Rattle.formula.specs.Limits.{ruleBytes, maxUntils, propositions}
-use Rattle.formula.specs.Rule.{nodeCount, kindAt, leftAt, rightAt, releaseKind, lengthCheck, nodeCheck, syntaxCheck, untilCheck, checked, untils as untilsOf}
+use Rattle.formula.specs.Rule.{nodeCount, kindAt, leftAt, rightAt, releaseKind, lengthCheck, nodeCheck}
+use Rattle.formula.specs.Rule.{syntaxCheck, untilCheck, checked, untils as untilsOf}
 use Rattle.answer.proofs.Lowest.{fine-first, fine-second, lowest-each}
 use Rattle.formula.proofs.Operands.{left-proposition, left-child, right-next, right-child}
 use Rattle.formula.proofs.Checks.{Tested, tested}
@@ -25,7 +26,8 @@ pub record Node (rule : List ℕ) (n : ℕ) : Type 0 where
 module _ (rule : List ℕ) (n : ℕ) (node : Tested rule n) where
   proposition-small : 1 < kindAt rule n → kindAt rule n < 4 → leftAt rule n < propositions
   proposition-small low high =
-      let fits : ltb (leftAt rule n) propositions ≡ true = rw (← left-proposition (kindAt rule n) (omega arith) (omega arith)) at (node .left-fits) in
+      let fits : ltb (leftAt rule n) propositions ≡ true =
+      rw (← left-proposition (kindAt rule n) (omega arith) (omega arith)) at (node .left-fits) in
       omega (arith, ltb-true)
 
   left-below : 3 < kindAt rule n → leftAt rule n < n
@@ -37,14 +39,20 @@ module _ (rule : List ℕ) (n : ℕ) (node : Tested rule n) where
     where
       pick : Dec (kindAt rule n ≡ 6) → rightAt rule n < n
       pick (yes e) =
-          let zero : rightAt rule n ≡ 0 = eqb-true (rightAt rule n) 0 (rw (← right-next (kindAt rule n) e) at (node .right-fits)) in
+          let zero : rightAt rule n ≡ 0 =
+          eqb-true (rightAt rule n) 0 (rw (← right-next (kindAt rule n) e) at (node .right-fits)) in
           omega (arith, left-below inner)
-      pick (no other) = ltb-true (rightAt rule n) n (rw (← right-child (kindAt rule n) (omega arith) other) at (node .right-below))
+      pick (no other) =
+          ltb-true (rightAt rule n) n (rw (← right-child (kindAt rule n) (omega arith) other) at (node .right-below))
 
 pub node-fine : (highest : ℕ) (rule : List ℕ) (n : ℕ) → nodeCheck highest rule n ≡ fine → Node rule n
 node-fine highest rule n e =
     let node = tested highest rule n e in
-    record { proposition = proposition-small rule n node; left = left-below rule n node; right = right-below rule n node }
+    record {
+      proposition = proposition-small rule n node;
+      left = left-below rule n node;
+      right = right-below rule n node;
+    }
 
 -- a rule that `check` accepts
 pub record Accepted (rule : List ℕ) : Type 0 where
@@ -60,7 +68,8 @@ accepted-fine rule e =
     let syntax = fine-first (syntaxCheck releaseKind rule) _ e in
     let size = required _ 1 0 _ (fine-first (lengthCheck rule) _ syntax) in
     let parts = and-eq-true-iff _ _ .0 (require-fine _ 2 0 (size .1)) in
-    let nodes = fine-first (lowest (nodeCheck releaseKind rule) (nodeCount rule)) _ (fine-second (lengthCheck rule) _ syntax) in
+    let nodes =
+    fine-first (lowest (nodeCheck releaseKind rule) (nodeCount rule)) _ (fine-second (lengthCheck rule) _ syntax) in
     let some : 0 < length rule = ltb-true 0 (length rule) (parts .0) in
     let whole : length rule % 3 ≡ 0 = eqb-true (length rule % 3) 0 (parts .1) in
     record {

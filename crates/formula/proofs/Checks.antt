@@ -10,7 +10,9 @@ use borrow.Author.Tests.{lt-ltb, le-ltb, le-leb, lt-leb, eq-eqb, ne-eqb, not-tru
 use Rattle.formula.specs.declared.Operand.{Operand}
 use Rattle.answer.specs.Result.{fine, refused, lowest}
 use Rattle.formula.specs.Limits.{ruleBytes}
-use Rattle.formula.specs.Rule.{kindAt, leftByteFits, rightByteFits, leftChildFits, rightChildFits, releaseKind, nodeCount, root, nodeCheck, ChildrenBelow, places, placeCheck, lengthCheck, syntaxCheck, untilCheck, checked}
+use Rattle.formula.specs.Rule.{kindAt, leftByteFits, rightByteFits, leftChildFits, rightChildFits, releaseKind}
+use Rattle.formula.specs.Rule.{nodeCount, root, nodeCheck, ChildrenBelow, places, placeCheck, lengthCheck}
+use Rattle.formula.specs.Rule.{syntaxCheck, untilCheck, checked}
 use Rattle.answer.proofs.Lowest.{lowest-each}
 use Rattle.answer.proofs.Results.{require-fine, required}
 
@@ -69,7 +71,8 @@ module _ (rule : List ℕ) (k : ℕ) where
 
     pub place-leaf : kindAt rule k < 4 → fine ≡ placeCheck rule k
     unfolding placeCheck
-    place-leaf leaf = rw (ne-eqb count 0 some, and-false (not (eqb k (root rule))), le-ltb 3 (kindAt rule k) (omega arith))
+    place-leaf leaf =
+        rw (ne-eqb count 0 some, and-false (not (eqb k (root rule))), le-ltb 3 (kindAt rule k) (omega arith))
 
     pub place-twice : (count ≡ 1 → ⊥) → 4 ≤ kindAt rule k → refused 6 k ≡ placeCheck rule k
     unfolding placeCheck
@@ -93,19 +96,27 @@ module _ (highest : ℕ) (rule : List ℕ) where
     module _ (some : length rule ≡ 0 → ⊥) (whole : length rule % 3 ≡ 0) where
       length-fine : lengthCheck rule ≡ fine
       unfolding lengthCheck
-      length-fine = rw (le-leb (length rule) ruleBytes fits, lt-ltb 0 (length rule) (omega arith), eq-eqb (length rule % 3) 0 whole)
+      length-fine =
+          rw (
+            le-leb (length rule) ruleBytes fits,
+            lt-ltb 0 (length rule) (omega arith),
+            eq-eqb (length rule % 3) 0 whole,
+          )
 
-      pub node-refused : {number place : ℕ} → refused number place ≡ lowest (nodeCheck highest rule) (nodeCount rule) → refused number place ≡ syntaxCheck highest rule
+      pub node-refused : {number place : ℕ} → refused number place ≡ lowest (nodeCheck highest rule) (nodeCount rule)
+          → refused number place ≡ syntaxCheck highest rule
       unfolding syntaxCheck
       node-refused e = rw (length-fine, ← e)
 
-      pub places-left : lowest (nodeCheck highest rule) (nodeCount rule) ≡ fine → lowest (placeCheck rule) (nodeCount rule) ≡ syntaxCheck highest rule
+      pub places-left : lowest (nodeCheck highest rule) (nodeCount rule) ≡ fine
+          → lowest (placeCheck rule) (nodeCount rule) ≡ syntaxCheck highest rule
       unfolding syntaxCheck
       places-left e = rw (length-fine, e)
 
 -- the whole rule by the answers of 1 to 6 and of 7
 module _ (rule : List ℕ) where
-  pub syntax-refused : {number place : ℕ} → refused number place ≡ syntaxCheck releaseKind rule → refused number place ≡ checked rule
+  pub syntax-refused : {number place : ℕ} → refused number place ≡ syntaxCheck releaseKind rule
+      → refused number place ≡ checked rule
   unfolding checked
   syntax-refused e = rw (← e)
 
@@ -135,7 +146,9 @@ tested highest rule n e =
     }
 
 -- and what fine checks say of the children of n nodes
-pub children-below : (highest : ℕ) (rule : List ℕ) (n : ℕ) → lowest (nodeCheck highest rule) n ≡ fine → ChildrenBelow rule n
+pub children-below : (highest : ℕ) (rule : List ℕ) (n : ℕ) → lowest (nodeCheck highest rule) n ≡ fine
+    → ChildrenBelow rule n
 children-below highest rule n all =
-    let node : (i : ℕ) → i < n → Tested rule i = λ i lt. tested highest rule i (lowest-each (nodeCheck highest rule) n all i lt) in
+    let node : (i : ℕ) → i < n → Tested rule i =
+    λ i lt. tested highest rule i (lowest-each (nodeCheck highest rule) n all i lt) in
     record { lefts = λ i lt. node i lt .left-below; rights = λ i lt. node i lt .right-below }

@@ -11,9 +11,11 @@ use borrow.Author.Tests.{eqb-true}
 use Rattle.answer.specs.Result.{fine, lowest}
 use Rattle.formula.specs.declared.Operand.{Operand}
 use Rattle.formula.specs.declared.Operand.the-variants.{Child}
-use Rattle.formula.specs.Rule.{nodeCount, root, kindAt, leftAt, rightAt, leftOperand, rightOperand, isChild, places, placeCheck, lengthCheck, nodeCheck, syntaxCheck, releaseKind, checked}
+use Rattle.formula.specs.Rule.{nodeCount, root, kindAt, leftAt, rightAt, leftOperand, rightOperand, isChild}
+use Rattle.formula.specs.Rule.{places, placeCheck, lengthCheck, nodeCheck, syntaxCheck, releaseKind, checked}
 use Rattle.answer.proofs.Lowest.{not-fine, fine-first, fine-second, lowest-each}
-use Rattle.formula.proofs.Operands.{left-unused, left-proposition, left-child, right-unused, right-next, right-child}
+use Rattle.formula.proofs.Operands.{left-unused, left-proposition, left-child, right-unused, right-next}
+use Rattle.formula.proofs.Operands.{right-child}
 use Rattle.formula.proofs.Checks.{place-none}
 use Rattle.formula.proofs.Accepted.{Node, accepted-fine}
 
@@ -35,7 +37,8 @@ module _ (rule : List ℕ) (n k : ℕ) where
     where
       pick : Dec (3 < kindAt rule n) → Dec (1 < kindAt rule n) → Parent rule n k
       pick (yes inner) d = by-left inner (child-is (leftAt rule n) k (left-child (kindAt rule n) (omega arith)) counted)
-      pick (no leaf) (yes proposition) = absurd (counted (rw (← left-proposition (kindAt rule n) (omega arith) (omega arith)) refl))
+      pick (no leaf) (yes proposition) =
+          absurd (counted (rw (← left-proposition (kindAt rule n) (omega arith) (omega arith)) refl))
       pick (no leaf) (no constant) = absurd (counted (rw (← left-unused (kindAt rule n) (omega arith)) refl))
 
   right-parent : (isChild (rightOperand (kindAt rule n)) (rightAt rule n) k ≡ 0 → ⊥) → Parent rule n k
@@ -43,7 +46,8 @@ module _ (rule : List ℕ) (n k : ℕ) where
     where
       pick : Dec (3 < kindAt rule n) → Dec (kindAt rule n ≡ 6) → Parent rule n k
       pick (yes inner) (yes next) = absurd (counted (rw (← right-next (kindAt rule n) next) refl))
-      pick (yes inner) (no pair) = by-right inner pair (child-is (rightAt rule n) k (right-child (kindAt rule n) (omega arith) pair) counted)
+      pick (yes inner) (no pair) =
+          by-right inner pair (child-is (rightAt rule n) k (right-child (kindAt rule n) (omega arith) pair) counted)
       pick (no leaf) d = absurd (counted (rw (← right-unused (kindAt rule n) (omega arith)) refl))
 
 -- one of the first n nodes, if k is a child at one of their places
@@ -51,9 +55,11 @@ parent-among : (rule : List ℕ) (n k : ℕ) → (places rule n k ≡ 0 → ⊥)
 unfolding places
 parent-among rule zero k counted = absurd (counted refl)
 parent-among rule (suc n) k counted =
-    pick (ℕ-discrete (places rule n k) 0) (ℕ-discrete (isChild (leftOperand (kindAt rule n)) (leftAt rule n) k) 0) (parent-among rule n k)
+    pick (ℕ-discrete (places rule n k) 0) (ℕ-discrete (isChild (leftOperand (kindAt rule n)) (leftAt rule n) k) 0)
+    (parent-among rule n k)
   where
-    pick : Dec (places rule n k ≡ 0) → Dec (isChild (leftOperand (kindAt rule n)) (leftAt rule n) k ≡ 0) → ((places rule n k ≡ 0 → ⊥) → (p : ℕ) × (p < n) × Parent rule p k) → (p : ℕ) × (p < suc n) × Parent rule p k
+    pick : Dec (places rule n k ≡ 0) → Dec (isChild (leftOperand (kindAt rule n)) (leftAt rule n) k ≡ 0)
+        → ((places rule n k ≡ 0 → ⊥) → (p : ℕ) × (p < n) × Parent rule p k) → (p : ℕ) × (p < suc n) × Parent rule p k
     pick (no below) d ih = let (p, lt, is) = ih below in (p, omega arith, is)
     pick (yes none) (no first) ih = (n, omega arith, left-parent rule n k first)
     pick (yes none) (yes other) ih = (n, omega arith, right-parent rule n k (λ e. counted (omega arith)))
@@ -63,7 +69,9 @@ module _ (rule : List ℕ) (passed : checked rule ≡ fine) where
   unfolding checked syntaxCheck
   place-fine k lt =
       let syntax = fine-first (syntaxCheck releaseKind rule) _ passed in
-      lowest-each (placeCheck rule) (nodeCount rule) (fine-second (lowest (nodeCheck releaseKind rule) (nodeCount rule)) _ (fine-second (lengthCheck rule) _ syntax)) k lt
+      lowest-each (placeCheck rule) (nodeCount rule)
+      (fine-second (lowest (nodeCheck releaseKind rule) (nodeCount rule)) _ (fine-second (lengthCheck rule) _ syntax)) k
+      lt
 
   node : (k : ℕ) → k < nodeCount rule → Node rule k
   node = accepted-fine rule passed .nodes
@@ -73,7 +81,9 @@ module _ (rule : List ℕ) (passed : checked rule ≡ fine) where
   parent-above p k lt (by-left inner e) = omega (arith, node p lt .left inner)
   parent-above p k lt (by-right inner pair e) = omega (arith, node p lt .right inner)
 
-  pub parent-of : (k : ℕ) → k < nodeCount rule → (k ≡ root rule → ⊥) → (p : ℕ) × (p < nodeCount rule) × (k < p) × Parent rule p k
+  pub parent-of : (k : ℕ) → k < nodeCount rule → (k ≡ root rule → ⊥)
+      → (p : ℕ) × (p < nodeCount rule) × (k < p) × Parent rule p k
   parent-of k lt other =
-      let (p, inside, is) = parent-among rule (nodeCount rule) k (λ none. not-fine (place-none rule k none other ∙ place-fine k lt)) in
+      let (p, inside, is) =
+      parent-among rule (nodeCount rule) k (λ none. not-fine (place-none rule k none other ∙ place-fine k lt)) in
       (p, inside, parent-above p k inside is, is)

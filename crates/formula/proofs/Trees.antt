@@ -31,7 +31,8 @@ abbrev Built : List Formula → List ℕ → (m n : ℕ) → Type 0
 Built all rest m n =
     getD all m bottom ≡ build (kindAt rest n) m (leftAt rest n) (getD (take m all) (leftAt rest n) bottom) (getD (take m all) (rightAt rest n) bottom)
 
-built : (n m : ℕ) (rest : List ℕ) (below : List Formula) → m ≡ length below + n → n * 3 + 2 < length rest → Built (trees below rest) rest m n
+built : (n m : ℕ) (rest : List ℕ) (below : List Formula) → m ≡ length below + n → n * 3 + 2 < length rest
+    → Built (trees below rest) rest m n
 unfolding trees
 built n m [] below e lt = absurd (omega arith)
 built n m (kind ∷ []) below e lt = absurd (omega arith)
@@ -73,10 +74,13 @@ module _ (rule : List ℕ) (n : ℕ) (inside : n < nodeCount rule) (node : Node 
     pub leaf-in : (l : ℕ) → l ≡ leftAt rule n → ((f g : Formula) → P (build k n l f g)) → P (tree rule n)
     leaf-in l el h = rw (of-parts, ← ek, ← el) (h _ _)
 
-    pub pair-in : (l r : ℕ) → l ≡ leftAt rule n → r ≡ rightAt rule n → 3 < k → P (build k n l (tree rule l) (tree rule r)) → P (tree rule n)
-    pair-in l r el er inner h = rw (of-parts, ← el, ← er, child l (left-below k ek inner l el), child r (right-below k ek inner r er), ← ek) h
+    pub pair-in : (l r : ℕ) → l ≡ leftAt rule n → r ≡ rightAt rule n → 3 < k
+        → P (build k n l (tree rule l) (tree rule r)) → P (tree rule n)
+    pair-in l r el er inner h =
+        rw (of-parts, ← el, ← er, child l (left-below k ek inner l el), child r (right-below k ek inner r er), ← ek) h
 
-in-range-build : (k n l : ℕ) (f g : Formula) → (1 < k → k < 4 → l < propositions) → (3 < k → InRange f) → (3 < k → InRange g) → InRange (build k n l f g)
+in-range-build : (k n l : ℕ) (f g : Formula) → (1 < k → k < 4 → l < propositions) → (3 < k → InRange f)
+    → (3 < k → InRange g) → InRange (build k n l f g)
 unfolding InRange
 in-range-build zero n l f g p a b = tt
 in-range-build (suc zero) n l f g p a b = tt
@@ -89,7 +93,8 @@ in-range-build (suc (suc (suc (suc (suc (suc (suc zero))))))) n l f g p a b = (a
 in-range-build (suc (suc (suc (suc (suc (suc (suc (suc zero)))))))) n l f g p a b = (a (omega arith), b (omega arith))
 in-range-build (suc (suc (suc (suc (suc (suc (suc (suc (suc k))))))))) n l f g p a b = tt
 
-in-range-step : (rule : List ℕ) (n : ℕ) → n < nodeCount rule → Node rule n → ((k : ℕ) → k < n → InRange (tree rule k)) → InRange (tree rule n)
+in-range-step : (rule : List ℕ) (n : ℕ) → n < nodeCount rule → Node rule n → ((k : ℕ) → k < n → InRange (tree rule k))
+    → InRange (tree rule n)
 in-range-step rule n inside node below = pick (decLt 3 (kindAt rule n))
   where
     pick : Dec (3 < kindAt rule n) → InRange (tree rule n)
@@ -100,14 +105,18 @@ in-range-step rule n inside node below = pick (decLt 3 (kindAt rule n))
         leaf-in rule n inside node InRange (kindAt rule n) refl (leftAt rule n) refl
         (λ f g. in-range-build (kindAt rule n) n (leftAt rule n) f g (node .proposition) (λ inner. absurd (leaf inner)) (λ inner. absurd (leaf inner)))
 
-in-range-to : (rule : List ℕ) (bound n : ℕ) → n < bound → n < nodeCount rule → ((k : ℕ) → k ≤ n → Node rule k) → InRange (tree rule n)
+in-range-to : (rule : List ℕ) (bound n : ℕ) → n < bound → n < nodeCount rule → ((k : ℕ) → k ≤ n → Node rule k)
+    → InRange (tree rule n)
 in-range-to rule zero n lt inside nodes = absurd (omega arith)
 in-range-to rule (suc bound) n lt inside nodes =
-    in-range-step rule n inside (nodes n (omega arith)) (λ k l. in-range-to rule bound k (omega arith) (omega arith) (λ j le. nodes j (omega arith)))
+    in-range-step rule n inside (nodes n (omega arith))
+    (λ k l. in-range-to rule bound k (omega arith) (omega arith) (λ j le. nodes j (omega arith)))
 
 -- the tree of node n has no other propositions than there are, if 3 to 5 let all nodes up to n pass
-pub tree-in-range : (rule : List ℕ) (n : ℕ) → n < nodeCount rule → ((k : ℕ) → k ≤ n → Node rule k) → InRange (tree rule n)
+pub tree-in-range : (rule : List ℕ) (n : ℕ) → n < nodeCount rule → ((k : ℕ) → k ≤ n → Node rule k)
+    → InRange (tree rule n)
 tree-in-range rule n inside nodes = in-range-to rule (suc n) n (omega arith) inside nodes
 
 pub accepted-in-range : (rule : List ℕ) → checked rule ≡ fine → (n : ℕ) → n < nodeCount rule → InRange (tree rule n)
-accepted-in-range rule passed n inside = tree-in-range rule n inside (λ k le. accepted-fine rule passed .nodes k (omega arith))
+accepted-in-range rule passed n inside =
+    tree-in-range rule n inside (λ k le. accepted-fine rule passed .nodes k (omega arith))

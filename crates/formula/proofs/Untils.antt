@@ -1,5 +1,5 @@
 -- The untils of a rule: what a loop over the nodes counts, and the check of the count. Assumes nothing.
-use mathlib.Core.Path.{_≡_, refl, _∙_}
+use mathlib.Core.Path.{_≡_, refl, sym, _∙_}
 use mathlib.Core.Bool.{Bool, true, false, cond}
 use mathlib.Core.List.{List, [], _∷_}
 use Prim.Native.Nat.{ℕ, _+_, _≤_, _<_}
@@ -18,27 +18,27 @@ pub record CountingUntils (rule : List ℕ) (n count i : ℕ) : Type 0 where
   pub most : count ≤ i
   pub counted : count ≡ length (untils rule i)
 
--- one or none, whatever the one is
-pub optional-most : (t : Bool) (x : ℕ) → length (cond {A = List ℕ} t (x ∷ []) []) ≤ 1
-optional-most true x = omega arith
-optional-most false x = omega arith
+-- 1 or 0, and the list of one or none
+pub one-at-most : (t : Bool) → cond t 1 0 ≤ 1
+one-at-most true = omega arith
+one-at-most false = omega arith
 
-optional-same : (t : Bool) (x y : ℕ) → length (cond {A = List ℕ} t (x ∷ []) []) ≡ length (cond {A = List ℕ} t (y ∷ []) [])
-optional-same true x y = refl
-optional-same false x y = refl
+one-or-none : (t : Bool) (x : ℕ) → length (cond {A = List ℕ} t (x ∷ []) []) ≡ cond t 1 0
+one-or-none true x = refl
+one-or-none false x = refl
 
 module _ (rule : List ℕ) (n : ℕ) where
   pub untils-begin : CountingUntils rule n 0 0
   unfolding untils
   untils-begin = record { within = omega arith; most = omega arith; counted = refl }
 
-  pub untils-step : (count i kind more : ℕ) → i < n → CountingUntils rule n count i → kind ≡ kindAt rule i → more ≡ length (cond {A = List ℕ} (eqb kind 7) (kind ∷ []) [])
-      → CountingUntils rule n (count + more) (i + 1)
+  pub untils-step : (count i kind more : ℕ) → i < n → CountingUntils rule n count i → kind ≡ kindAt rule i
+      → more ≡ cond (eqb kind 7) 1 0 → CountingUntils rule n (count + more) (i + 1)
   unfolding untils
   untils-step count i kind more lt inv e f =
-      let one = optional-most (eqb kind 7) kind in
+      let one = one-at-most (eqb kind 7) in
       let last = cond {A = List ℕ} (eqb (kindAt rule i) 7) (i ∷ []) [] in
-      let same : more ≡ length last = rw (← e) (f ∙ optional-same (eqb kind 7) kind i) in
+      let same : length last ≡ more = rw (← e) (one-or-none (eqb kind 7) i ∙ sym f) in
       record {
         within = omega arith;
         most = omega arith;

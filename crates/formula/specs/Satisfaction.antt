@@ -5,7 +5,8 @@ use mathlib.Core.Path.{_≡_}
 use mathlib.Core.List.{List}
 use mathlib.Core.Logic.{_⊎_}
 use Rattle.lasso.specs.Lasso.{letter}
-use Rattle.formula.specs.Formula.{Formula, bottom, top, proposition, negatedProposition, conjunction, disjunction, next, until, release, formula}
+use Rattle.formula.specs.Formula.{Formula, bottom, top, proposition, negatedProposition, conjunction, disjunction}
+use Rattle.formula.specs.Formula.{next, until, release, formula}
 
 -- whether a formula holds at letter i of a word: a proposition where its bit is 1, a negated proposition where it is
 -- 0, next where its operand holds one letter on, constants and connectives as usual. An until needs its right side

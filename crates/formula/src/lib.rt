@@ -3,13 +3,14 @@ use answer::Checked;
 use answer::wide;
 ghost use mathlib.Core.Path.{_≡_};
 ghost use mathlib.Core.Bool.{true, cond};
-ghost use mathlib.Core.List.{List, [], _∷_};
 ghost use lib.Dec.{eqb};
 ghost use Prim.Native.Nat.{ℕ, _+_, _*_, _<_, _≤_};
 ghost use lib.ListN.{length, getD};
 ghost use Rattle.answer.specs.Result.{lowest, answer};
 ghost use Rattle.formula.specs.Limits.{maxNodes};
-ghost use Rattle.formula.specs.Rule.{nodeCount, kindAt, leftAt, rightAt, leftOperand, rightOperand, byteFits, childFits, ChildrenBelow, isChild, nodeCheck, places, placeCheck, syntaxCheck, untils, untilCheck, checked};
+ghost use Rattle.formula.specs.Rule.{nodeCount, kindAt, leftAt, rightAt, leftOperand, rightOperand};
+ghost use Rattle.formula.specs.Rule.{byteFits, childFits, nodeCheck, ChildrenBelow, isChild, places, placeCheck};
+ghost use Rattle.formula.specs.Rule.{syntaxCheck, untils, untilCheck, checked};
 
 // The numbers of document 01 by which a rule is refused.
 pub const TOO_LONG: u8 = 1;
@@ -174,7 +175,8 @@ fn check_nodes(highest: u8, rule: &[u8], n: usize) -> Checked
 // One place more for the child, if the byte is one.
 fn count_child(counts: &mut [u8], operand: Operand, byte: usize)
     requires { ⌜ (childFits operand byte (length (now counts)) ≡ true) × ((k : ℕ) → getD (now counts) k 0 < 255) ⌝ }
-    ensures { λ _. ⌜ ((k : ℕ) → getD (now (counts .exit)) k 0 ≡ getD (now (counts .entry)) k 0 + isChild operand byte k) ⌝ }
+    ensures { λ _. ⌜ ((k : ℕ) → getD (now (counts .exit)) k 0
+        ≡ getD (now (counts .entry)) k 0 + isChild operand byte k) ⌝ }
 {
     if let Operand::Child = operand {
         counts[byte] += 1;
@@ -257,7 +259,7 @@ pub fn check_syntax(highest: u8, rule: &[u8]) -> Checked
 
 // 1 for an until, else 0.
 fn until_count(kind: u8) -> usize
-    ensures { λ r. ⌜ r ≡ length (cond {A = List ℕ} (eqb kind 7) (kind ∷ []) []) ⌝ }
+    ensures { λ r. ⌜ r ≡ cond (eqb kind 7) 1 0 ⌝ }
 {
     if kind == UNTIL { 1 } else { 0 }
 }

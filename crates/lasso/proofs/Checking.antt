@@ -39,4 +39,5 @@ module _ (stem cycle : List ℕ) where
   pub lasso-some : fine ≡ lassoCheck stem cycle → 0 < length cycle
   unfolding lassoCheck
   lasso-some e =
-      ltb-true 0 (length cycle) (require-fine (ltb 0 (length cycle)) 8 0 (fine-first (require (ltb 0 (length cycle)) 8 0) _ (sym e)))
+      ltb-true 0 (length cycle)
+      (require-fine (ltb 0 (length cycle)) 8 0 (fine-first (require (ltb 0 (length cycle)) 8 0) _ (sym e)))

@@ -8,11 +8,13 @@ use lib.ListN.{getD, length}
 use borrow.Author.Tests.{le-ltb}
 use Rattle.lasso.specs.Lasso.{letter}
 
-letter-late : (stem cycle : List ℕ) (i : ℕ) → length stem ≤ i → letter stem cycle i ≡ getD cycle ((i - length stem) % length cycle) 0
+letter-late : (stem cycle : List ℕ) (i : ℕ) → length stem ≤ i
+    → letter stem cycle i ≡ getD cycle ((i - length stem) % length cycle) 0
 unfolding letter
 letter-late stem cycle i l = rw (le-ltb i (length stem) l)
 
-pub letter-round : (stem cycle : List ℕ) (i : ℕ) → length stem ≤ i → letter stem cycle (i + length cycle) ≡ letter stem cycle i
+pub letter-round : (stem cycle : List ℕ) (i : ℕ) → length stem ≤ i
+    → letter stem cycle (i + length cycle) ≡ letter stem cycle i
 letter-round stem cycle i l =
     let e : i + length cycle - length stem ≡ i - length stem + length cycle = omega arith in
     letter-late stem cycle (i + length cycle) (omega arith)

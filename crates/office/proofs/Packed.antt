@@ -8,20 +8,26 @@ use Rattle.automaton.specs.Tables.{Counts, Outcome, outcome}
 use Rattle.image.specs.Calls.{Buffer, buffer}
 use Rattle.judge.specs.Judge.{Verdict, Judgement, judgement}
 use Rattle.demands.specs.Demand.{Decision, decision}
-use Rattle.office.specs.Packing.{packCounts, packLength, packVerdict, packedTables, packOutcome, packedSlice, packBuffer, packJudgement, packedDecision, packDecision}
+use Rattle.office.specs.Packing.{packCounts, packLength, packVerdict, packedTables, packOutcome, packedSlice}
+use Rattle.office.specs.Packing.{packBuffer, packJudgement, packedDecision, packDecision}
 
 -- of a call that fills three tables
-pub packed-tables : (a : Result Counts) (s t i : List ℕ) (o : Outcome) (r : ℕ) → r ≡ packCounts a → outcome a s t i ≡ o → packedTables r s t i ≡ packOutcome o
+pub packed-tables : (a : Result Counts) (s t i : List ℕ) (o : Outcome) (r : ℕ) → r ≡ packCounts a → outcome a s t i ≡ o
+    → packedTables r s t i ≡ packOutcome o
 packed-tables a s t i o r packs says = ap (λ (n : ℕ). packedTables n s t i) packs ∙ ap packOutcome says
 
 -- of write
-pub packed-buffer : (a : Result ℕ) (image : List ℕ) (b : Buffer) (r : ℕ) → r ≡ packLength a → buffer a image ≡ b → packedSlice r image ≡ packBuffer b
+pub packed-buffer : (a : Result ℕ) (image : List ℕ) (b : Buffer) (r : ℕ) → r ≡ packLength a → buffer a image ≡ b
+    → packedSlice r image ≡ packBuffer b
 packed-buffer a image b r packs says = ap (λ (n : ℕ). packedSlice n image) packs ∙ ap packBuffer says
 
 -- of judge
-pub packed-judgement : (a : Result Verdict) (work : List ℕ) (j : Judgement) (r : ℕ) → r ≡ packVerdict a → judgement a work ≡ j → packedSlice r work ≡ packJudgement j
+pub packed-judgement : (a : Result Verdict) (work : List ℕ) (j : Judgement) (r : ℕ) → r ≡ packVerdict a
+    → judgement a work ≡ j → packedSlice r work ≡ packJudgement j
 packed-judgement a work j r packs says = ap (λ (n : ℕ). packedSlice n work) packs ∙ ap packJudgement says
 
 -- of decide
-pub packed-decision : (a : Result Verdict) (s t i image work : List ℕ) (d : Decision) (r : ℕ) → r ≡ packVerdict a → decision a s t i image work ≡ d → packedDecision r s t i image work ≡ packDecision d
-packed-decision a s t i image work d r packs says = ap (λ (n : ℕ). packedDecision n s t i image work) packs ∙ ap packDecision says
+pub packed-decision : (a : Result Verdict) (s t i image work : List ℕ) (d : Decision) (r : ℕ) → r ≡ packVerdict a
+    → decision a s t i image work ≡ d → packedDecision r s t i image work ≡ packDecision d
+packed-decision a s t i image work d r packs says =
+    ap (λ (n : ℕ). packedDecision n s t i image work) packs ∙ ap packDecision says

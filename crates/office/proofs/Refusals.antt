@@ -1,5 +1,5 @@
--- Every refusal of the calls has a number that a byte holds and that is not 0, and a place of at most 12,288: so does each
--- check, and what follows a check is looked at only where it passed. Assumes nothing.
+-- Every refusal of the calls has a number that a byte holds and that is not 0, and a place of at most 12,288: so does
+-- each check, and what follows a check is looked at only where it passed. Assumes nothing.
 use Prim.Native.Nat.{ℕ, zero, suc, _+_, _≤_, _<_}
 use mathlib.Core.Path.{_≡_, refl, sym, subst₂}
 use mathlib.Core.Bool.{Bool, true, false, _&&_, and-eq-true-iff}
@@ -23,7 +23,8 @@ use Rattle.automaton.specs.Limits.{maxTransitions}
 use Rattle.automaton.specs.Tables.{Counts, Outcome, tableCheck}
 use Rattle.translation.specs.Translate.{stored, unless, translated}
 use Rattle.image.specs.Memory.{Small}
-use Rattle.image.specs.Reader.{countsAt, countsFit, contentsCheck, stateCheck, transitionRecordCheck, initialCheck, recordsCheck, readTables, readImage}
+use Rattle.image.specs.Reader.{countsAt, countsFit, contentsCheck, stateCheck, transitionRecordCheck, initialCheck}
+use Rattle.image.specs.Reader.{recordsCheck, readTables, readImage}
 use Rattle.image.specs.Calls.{bufferCheck, written, writes, loaded, readInto}
 use Rattle.image.proofs.Tests.{counts-small}
 use Rattle.image.proofs.Contents.{contents-fine}
@@ -63,7 +64,8 @@ refuses {number = number} {place = place} h = record {
       subst₂ Refusal same-number same-place h;
 }
 
-then-proper : {A B : Type 0} (r : Result A) (next : A → Result B) → Proper r → ((a : A) → r ≡ accepted a → Proper (next a)) → Proper (andThen r next)
+then-proper : {A B : Type 0} (r : Result A) (next : A → Result B) → Proper r
+    → ((a : A) → r ≡ accepted a → Proper (next a)) → Proper (andThen r next)
 then-proper (accepted a) next p q = q a refl
 then-proper (refused number place) next p q = refuses (p .refusal number place refl)
 
@@ -71,7 +73,8 @@ require-proper : (test : Bool) (number place : ℕ) → Refusal number place →
 require-proper true number place h = accepts
 require-proper false number place h = refuses h
 
-either-proper : {A : Type 0} (test : Bool) (r s : Result A) → Proper r → Proper s → Proper {A = A} (elim test [ true ↦ r | false ↦ s ])
+either-proper : {A : Type 0} (test : Bool) (r s : Result A) → Proper r → Proper s
+    → Proper {A = A} (elim test [ true ↦ r | false ↦ s ])
 either-proper true r s p q = p
 either-proper false r s p q = q
 
@@ -79,24 +82,30 @@ lowest-proper : (check : ℕ → Check) (n : ℕ) → ((k : ℕ) → k < n → P
 unfolding lowest
 lowest-proper check zero each = accepts
 lowest-proper check (suc n) each =
-    then-proper (lowest check n) (λ _. check n) (lowest-proper check n (λ k lt. each k (omega arith))) (λ _ _. each n (omega arith))
+    then-proper (lowest check n) (λ _. check n) (lowest-proper check n (λ k lt. each k (omega arith)))
+    (λ _ _. each n (omega arith))
 
 -- a walk, which takes at most its fuel of states
-module _ {A : Type 0} (same : A → A → Bool) (limit full : ℕ) (over : (place : ℕ) → place ≤ maxTransitions → Refusal full place) where
+module _ {A : Type 0} (same : A → A → Bool) (limit full : ℕ)
+    (over : (place : ℕ) → place ≤ maxTransitions → Refusal full place) where
   meet-proper : (place : ℕ) (x : A) (xs : List A) → place ≤ maxTransitions → Proper (meet same limit full place x xs)
   unfolding meet
   meet-proper place x xs le =
       either-proper (ltb (find same x xs) (length xs)) (accepted xs) _ accepts (either-proper (ltb (length xs) limit) (accepted (xs ++ (x ∷ []))) (refused full place) accepts (refuses (over place le)))
 
-  module _ (each : (place count : ℕ) → Check) (each-is : (place count : ℕ) → place ≤ maxTransitions → Proper (each place count)) where
-    meetAll-proper : (place : ℕ) (targets : List A) (count : ℕ) (xs : List A) → place ≤ maxTransitions → Proper (meetAll same limit full each place targets count xs)
+  module _ (each : (place count : ℕ) → Check)
+      (each-is : (place count : ℕ) → place ≤ maxTransitions → Proper (each place count)) where
+    meetAll-proper : (place : ℕ) (targets : List A) (count : ℕ) (xs : List A) → place ≤ maxTransitions
+        → Proper (meetAll same limit full each place targets count xs)
     unfolding meetAll
     meetAll-proper place [] count xs le = accepts
     meetAll-proper place (y ∷ ys) count xs le =
         then-proper (each place count) _ (each-is place count le) (λ _ _. then-proper (meet same limit full place y xs) _ (meet-proper place y xs le) (λ more _. meetAll-proper place ys (suc count) more le))
 
-    module _ (none : A) (targets : A → List A) (before : ℕ → A → Check) (before-is : (place : ℕ) (x : A) → place ≤ maxTransitions → Proper (before place x)) where
-      explore-proper : (fuel place count : ℕ) (xs : List A) → fuel + place ≤ maxTransitions → Proper (explore same limit full each none targets before fuel place count xs)
+    module _ (none : A) (targets : A → List A) (before : ℕ → A → Check)
+        (before-is : (place : ℕ) (x : A) → place ≤ maxTransitions → Proper (before place x)) where
+      explore-proper : (fuel place count : ℕ) (xs : List A) → fuel + place ≤ maxTransitions
+          → Proper (explore same limit full each none targets before fuel place count xs)
       unfolding explore
       explore-proper zero place count xs le = accepts
       explore-proper (suc fuel) place count xs le =
@@ -182,9 +191,11 @@ tables-proper s t i = search proper
 pub translated-proper : (rule s t i : List ℕ) → Proper (translated rule s t i .answer)
 unfolding translated stored
 translated-proper rule s t i =
-    first (andThen (tableCheck s t i) (λ _. Rule.checked rule)) (stored (translation rule) s t i) (search (proper, tables-proper, rule-proper)) (second (translation rule) (translation-proper rule))
+    first (andThen (tableCheck s t i) (λ _. Rule.checked rule)) (stored (translation rule) s t i)
+    (search (proper, tables-proper, rule-proper)) (second (translation rule) (translation-proper rule))
   where
-    first : (check : Check) (rest : Outcome) → Proper check → Proper (rest .answer) → Proper (unless check rest s t i .answer)
+    first : (check : Check) (rest : Outcome) → Proper check → Proper (rest .answer)
+        → Proper (unless check rest s t i .answer)
     first (accepted u) rest p q = q
     first (refused number place) rest p q = refuses (p .refusal number place refl)
 
@@ -224,12 +235,15 @@ contents-proper image = search proper
 -- 10 to 13
 image-proper : (image : List ℕ) → Proper (readImage image)
 unfolding readImage
-image-proper image = then-proper (contentsCheck image) _ (contents-proper image) (λ u e. records-proper (countsAt image) _ _ _ (contents-fine image e .small))
+image-proper image =
+    then-proper (contentsCheck image) _ (contents-proper image)
+    (λ u e. records-proper (countsAt image) _ _ _ (contents-fine image e .small))
 
 -- 25 and 10 to 13
 pub reads-proper : (image s t i : List ℕ) → Proper (readInto image s t i .answer)
 unfolding readInto
-reads-proper image s t i = go (andThen (tableCheck s t i) (λ _. readImage image)) (search (proper, tables-proper, image-proper))
+reads-proper image s t i =
+    go (andThen (tableCheck s t i) (λ _. readImage image)) (search (proper, tables-proper, image-proper))
   where
     go : (r : Result Automaton) → Proper r → Proper (loaded r s t i .answer)
     go (accepted a) p = accepts
@@ -237,7 +251,9 @@ reads-proper image s t i = go (andThen (tableCheck s t i) (λ _. readImage image
 
 -- 10 of counts alone, and 11 to 13
 counted-proper : (c : Counts) (s t i : List ℕ) → Proper (andThen (require (countsFit c) 10 0) (λ _. readTables c s t i))
-counted-proper c s t i = then-proper (require (countsFit c) 10 0) _ (search proper) (λ u e. records-proper c s t i (counts-small c (require-fine (countsFit c) 10 0 e)))
+counted-proper c s t i =
+    then-proper (require (countsFit c) 10 0) _ (search proper)
+    (λ u e. records-proper c s t i (counts-small c (require-fine (countsFit c) 10 0 e)))
 
 -- 25 and 10 to 13
 pub writes-proper : (c : Counts) (s t i image : List ℕ) → Proper (writes c s t i image .answer)
@@ -257,22 +273,26 @@ lasso-proper stem cycle = search proper
 -- 25, 10 to 13, 8 and 9
 pub judged-proper : (image stem cycle work : List ℕ) → Proper (judged image stem cycle work .answer)
 unfolding judged judgeable
-judged-proper image stem cycle work = go (judgeable image stem cycle work) (search (proper, image-proper, lasso-proper) depth 7)
+judged-proper image stem cycle work =
+    go (judgeable image stem cycle work) (search (proper, image-proper, lasso-proper) depth 7)
   where
     go : (r : Result Automaton) → Proper r → Proper (judgedBy r stem cycle work .answer)
     go (accepted a) p = accepts
     go (refused number place) p = refuses (p .refusal number place refl)
 
 -- 25, 1 to 9 and 20 to 24
-pub decided-proper : (rule stem cycle s t i image work : List ℕ) → Proper (decided rule stem cycle s t i image work .answer)
+pub decided-proper : (rule stem cycle s t i image work : List ℕ)
+    → Proper (decided rule stem cycle s t i image work .answer)
 unfolding decided inputCheck roomCheck
 decided-proper rule stem cycle s t i image work =
-    first (inputCheck rule stem cycle s t i image work) (concluded (translation rule) stem cycle s t i image work) (search (proper, rule-proper, lasso-proper) depth 7) (second (translation rule) (translation-proper rule))
+    first (inputCheck rule stem cycle s t i image work) (concluded (translation rule) stem cycle s t i image work)
+    (search (proper, rule-proper, lasso-proper) depth 7) (second (translation rule) (translation-proper rule))
   where
     second : (r : Result Automaton) → Proper r → Proper (concluded r stem cycle s t i image work .answer)
     second (accepted a) p = accepts
     second (refused number place) p = refuses (p .refusal number place refl)
 
-    first : (check : Check) (rest : Decision) → Proper check → Proper (rest .answer) → Proper (decidedBy check rest s t i image work .answer)
+    first : (check : Check) (rest : Decision) → Proper check → Proper (rest .answer)
+        → Proper (decidedBy check rest s t i image work .answer)
     first (accepted u) rest p q = q
     first (refused number place) rest p q = refuses (p .refusal number place refl)

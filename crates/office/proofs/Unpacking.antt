@@ -27,7 +27,8 @@ use Rattle.judge.specs.Judge.{Verdict, kept, broken, judged}
 use Rattle.demands.specs.Demand.{decided}
 use Rattle.automaton.proofs.WellFormed.{few-together}
 use Rattle.correctness.proofs.WellFormed.{translation-well-formed}
-use Rattle.office.proofs.Refusals.{Refusal, Proper, translated-proper, reads-proper, writes-proper, judged-proper, decided-proper}
+use Rattle.office.proofs.Refusals.{Refusal, Proper, translated-proper, reads-proper, writes-proper}
+use Rattle.office.proofs.Refusals.{judged-proper, decided-proper}
 use Rattle.office.specs.Packing.{packRefusal, packThree, packCounts, packLength, packVerdict}
 
 -- ---- the parts of an answer, as the header reads them
@@ -84,7 +85,8 @@ pub reads-small : (image s t i : List ℕ) (c : Counts) → readInto image s t i
 unfolding readInto checks
 reads-small image s t i c e = first (tableCheck s t i) e
   where
-    second : (r : Result Automaton) → loaded r s t i .answer ≡ accepted c → accepted c ≡ andThen r (λ a. accepted (counts a))
+    second : (r : Result Automaton) → loaded r s t i .answer ≡ accepted c
+        → accepted c ≡ andThen r (λ a. accepted (counts a))
     second (accepted a) e = sym e
     second (refused number place) e = never-both e
 
@@ -93,18 +95,27 @@ reads-small image s t i c e = first (tableCheck s t i) e
     first (refused number place) e = never-both e
 
 -- of an accepted write, ZIMBORALO_IMAGE_BYTES
-pub writes-small : (c : Counts) (s t i image : List ℕ) (n : ℕ) → writes c s t i image .answer ≡ accepted n → n ≤ largestImage
+pub writes-small : (c : Counts) (s t i image : List ℕ) (n : ℕ) → writes c s t i image .answer ≡ accepted n
+    → n ≤ largestImage
 unfolding writes readTables
 writes-small c s t i image n e =
-    let whole = andThen (tableCheck s t i) (λ _. andThen (bufferCheck image) (λ _. andThen (require (countsFit c) 10 0) (λ _. readTables c s t i))) in
-    let done = writes-of whole n image (writes c s t i image .image) (ap (λ (r : Result ℕ). buffer r (writes c s t i image .image)) e) in
+    let whole =
+    andThen (tableCheck s t i)
+    (λ _. andThen (bufferCheck image) (λ _. andThen (require (countsFit c) 10 0) (λ _. readTables c s t i))) in
+    let done =
+    writes-of whole n image (writes c s t i image .image)
+    (ap (λ (r : Result ℕ). buffer r (writes c s t i image .image)) e) in
     let a = done .automaton in
     let tables = follows (tableCheck s t i) _ a (done .answer) in
     let room = follows (bufferCheck image) _ a (tables .answer) in
     let counted = follows (require (countsFit c) 10 0) _ a (room .answer) in
     let small = counts-small c (require-fine (countsFit c) 10 0 (counted .passed)) in
     let answer = passes (recordsCheck c s t i) a (automatonFrom c s t i) (sym (counted .answer)) in
-    let size : n ≡ imageLength c = done .size ∙ image-size a ∙ ap (λ (a : Automaton). imageLength (counts a)) (answer .same) ∙ ap imageLength (counts-back c s t i (answer .passed)) in
+    let size : n ≡ imageLength c =
+    done .size
+    ∙ image-size a
+    ∙ ap (λ (a : Automaton). imageLength (counts a)) (answer .same)
+    ∙ ap imageLength (counts-back c s t i (answer .passed)) in
     omega (arith, size, small .states, small .transitions, small .initial)
 
 -- ---- what C reads off
@@ -146,9 +157,14 @@ refusal-unpacks : (number place : ℕ) → Refusal number place → RefusalRead 
 refusal-unpacks number place h =
     let read : packRefusal number place % 256 ≡ number = omega (arith, h .byte) in
     let whole : place % 2 ^ 32 ≡ place = omega (arith, h .near) in
-    record { number-read = read; not-zero = omega (arith, h .some); place-read = rw (above-byte number (place % 2 ^ 32) (h .byte), whole, whole) }
+    record {
+      number-read = read;
+      not-zero = omega (arith, h .some);
+      place-read = rw (above-byte number (place % 2 ^ 32) (h .byte), whole, whole);
+    }
 
-unpacks-accepted : {A : Type 0} {Read : ℕ → A → Type 0} (packed : ℕ) (a : A) → numberOf packed ≡ 0 → Read packed a → Unpacks Read packed (accepted a)
+unpacks-accepted : {A : Type 0} {Read : ℕ → A → Type 0} (packed : ℕ) (a : A) → numberOf packed ≡ 0 → Read packed a
+    → Unpacks Read packed (accepted a)
 unpacks-accepted {A} {Read} packed a z read = record {
   zero-accepted = λ _. (a, refl);
   accepted-zero = λ _ _. z;
@@ -156,7 +172,8 @@ unpacks-accepted {A} {Read} packed a z read = record {
   refusal-read = λ number place e. never-both (sym e);
 }
 
-unpacks-refused : {A : Type 0} {Read : ℕ → A → Type 0} (number place : ℕ) → Refusal number place → Unpacks Read (packRefusal number place) (refused number place)
+unpacks-refused : {A : Type 0} {Read : ℕ → A → Type 0} (number place : ℕ) → Refusal number place
+    → Unpacks Read (packRefusal number place) (refused number place)
 unpacks-refused number place h = record {
   zero-accepted = λ z. absurd (omega (arith, refusal-unpacks number place h .not-zero));
   accepted-zero = λ a e. never-both e;
@@ -174,15 +191,18 @@ three-read c small =
     let i : c .initial % 256 ≡ c .initial = omega (arith, small .initial) in
     rw (s, t, i) (three (c .states) (c .transitions) (c .initial) (small .states) (small .transitions) (small .initial))
   where
-    three : (s t i : ℕ) → s ≤ maxStates → t ≤ maxTransitions → i ≤ maxInitial → CountsRead (256 * s + 65536 * t + 2 ^ 32 * i) (countsOf s t i)
+    three : (s t i : ℕ) → s ≤ maxStates → t ≤ maxTransitions → i ≤ maxInitial
+        → CountsRead (256 * s + 65536 * t + 2 ^ 32 * i) (countsOf s t i)
     three s t i a b d = record { states = omega arith; transitions = omega arith; initial = omega arith }
 
-counts-unpack : (r : Result Counts) → Proper r → ((c : Counts) → r ≡ accepted c → Small c) → Unpacks CountsRead (packCounts r) r
+counts-unpack : (r : Result Counts) → Proper r → ((c : Counts) → r ≡ accepted c → Small c)
+    → Unpacks CountsRead (packCounts r) r
 unfolding packCounts
 counts-unpack (accepted c) p fits = unpacks-accepted _ c (omega arith) (three-read c (fits c refl))
 counts-unpack (refused number place) p fits = unpacks-refused number place (p .refusal number place refl)
 
-length-unpacks : (r : Result ℕ) → Proper r → ((n : ℕ) → r ≡ accepted n → n ≤ largestImage) → Unpacks LengthRead (packLength r) r
+length-unpacks : (r : Result ℕ) → Proper r → ((n : ℕ) → r ≡ accepted n → n ≤ largestImage)
+    → Unpacks LengthRead (packLength r) r
 unfolding packLength
 length-unpacks (accepted n) p fits = unpacks-accepted _ n (omega arith) (omega (arith, fits n refl))
 length-unpacks (refused number place) p fits = unpacks-refused number place (p .refusal number place refl)
@@ -196,22 +216,31 @@ verdict-unpacks (refused number place) p = unpacks-refused number place (p .refu
 -- ---- the calls
 
 -- zimboralo_translate
-pub translate-unpacks : (rule s t i : List ℕ) → Unpacks CountsRead (packCounts (translated rule s t i .answer)) (translated rule s t i .answer)
-translate-unpacks rule s t i = counts-unpack (translated rule s t i .answer) (translated-proper rule s t i) (translated-small rule s t i)
+pub translate-unpacks : (rule s t i : List ℕ)
+    → Unpacks CountsRead (packCounts (translated rule s t i .answer)) (translated rule s t i .answer)
+translate-unpacks rule s t i =
+    counts-unpack (translated rule s t i .answer) (translated-proper rule s t i) (translated-small rule s t i)
 
 -- zimboralo_read
-pub read-unpacks : (image s t i : List ℕ) → Unpacks CountsRead (packCounts (readInto image s t i .answer)) (readInto image s t i .answer)
-read-unpacks image s t i = counts-unpack (readInto image s t i .answer) (reads-proper image s t i) (reads-small image s t i)
+pub read-unpacks : (image s t i : List ℕ)
+    → Unpacks CountsRead (packCounts (readInto image s t i .answer)) (readInto image s t i .answer)
+read-unpacks image s t i =
+    counts-unpack (readInto image s t i .answer) (reads-proper image s t i) (reads-small image s t i)
 
 -- zimboralo_write
-pub write-unpacks : (c : Counts) (s t i image : List ℕ) → Unpacks LengthRead (packLength (writes c s t i image .answer)) (writes c s t i image .answer)
-write-unpacks c s t i image = length-unpacks (writes c s t i image .answer) (writes-proper c s t i image) (writes-small c s t i image)
+pub write-unpacks : (c : Counts) (s t i image : List ℕ)
+    → Unpacks LengthRead (packLength (writes c s t i image .answer)) (writes c s t i image .answer)
+write-unpacks c s t i image =
+    length-unpacks (writes c s t i image .answer) (writes-proper c s t i image) (writes-small c s t i image)
 
 -- zimboralo_judge
-pub judge-unpacks : (image stem cycle work : List ℕ) → Unpacks VerdictRead (packVerdict (judged image stem cycle work .answer)) (judged image stem cycle work .answer)
-judge-unpacks image stem cycle work = verdict-unpacks (judged image stem cycle work .answer) (judged-proper image stem cycle work)
+pub judge-unpacks : (image stem cycle work : List ℕ)
+    → Unpacks VerdictRead (packVerdict (judged image stem cycle work .answer)) (judged image stem cycle work .answer)
+judge-unpacks image stem cycle work =
+    verdict-unpacks (judged image stem cycle work .answer) (judged-proper image stem cycle work)
 
 -- zimboralo_decide
 pub decide-unpacks : (rule stem cycle s t i image work : List ℕ)
     → Unpacks VerdictRead (packVerdict (decided rule stem cycle s t i image work .answer)) (decided rule stem cycle s t i image work .answer)
-decide-unpacks rule stem cycle s t i image work = verdict-unpacks (decided rule stem cycle s t i image work .answer) (decided-proper rule stem cycle s t i image work)
+decide-unpacks rule stem cycle s t i image work =
+    verdict-unpacks (decided rule stem cycle s t i image work .answer) (decided-proper rule stem cycle s t i image work)

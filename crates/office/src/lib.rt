@@ -14,7 +14,9 @@ ghost use Rattle.image.specs.Calls.{readAnswer, readInto, writeAnswer, writes};
 ghost use Rattle.automaton.specs.Tables.{countsOf};
 ghost use Rattle.judge.specs.Judge.{judgeAnswer, judged};
 ghost use Rattle.demands.specs.Demand.{decided};
-ghost use Rattle.office.specs.Packing.{packRefusal, packCounts, packLength, packVerdict, packThree, packSize, packedTables, packOutcome, packedSlice, packBuffer, packJudgement, packedDecision, packDecision};
+ghost use Rattle.office.specs.Packing.{packRefusal, packThree, packSize, packCounts, packLength, packVerdict};
+ghost use Rattle.office.specs.Packing.{packedTables, packOutcome, packedSlice, packBuffer, packJudgement};
+ghost use Rattle.office.specs.Packing.{packedDecision, packDecision};
 
 // A refusal's number and place.
 fn pack_refusal(number: u8, place: usize) -> u64
@@ -90,7 +92,9 @@ pub extern "C" fn zimboralo_translate(
     transitions: &mut [u8],
     initial: &mut [u8],
 ) -> u64
-    ensures { λ r. ⌜ packedTables r (now (states .exit)) (now (transitions .exit)) (now (initial .exit)) ≡ packOutcome (translated (now (rule .entry)) (now (states .entry)) (now (transitions .entry)) (now (initial .entry))) ⌝ }
+    ensures { λ r. ⌜ packedTables r (now (states .exit)) (now (transitions .exit)) (now (initial .exit))
+        ≡ packOutcome (translated (now (rule .entry))
+        (now (states .entry)) (now (transitions .entry)) (now (initial .entry))) ⌝ }
 {
     pack_translated(translate(rule, states, transitions, initial))
 }
@@ -106,7 +110,9 @@ pub extern "C" fn zimboralo_write(
     initial_count: usize,
     image: &mut [u8],
 ) -> u64
-    ensures { λ r. ⌜ packedSlice r (now (image .exit)) ≡ packBuffer (writes (countsOf «state_count» «transition_count» «initial_count») (now (states .entry)) (now (transitions .entry)) (now (initial .entry)) (now (image .entry))) ⌝ }
+    ensures { λ r. ⌜ packedSlice r (now (image .exit))
+        ≡ packBuffer (writes (countsOf «state_count» «transition_count» «initial_count»)
+        (now (states .entry)) (now (transitions .entry)) (now (initial .entry)) (now (image .entry))) ⌝ }
 {
     pack_written(write(
         states,
@@ -127,7 +133,9 @@ pub extern "C" fn zimboralo_read(
     transitions: &mut [u8],
     initial: &mut [u8],
 ) -> u64
-    ensures { λ r. ⌜ packedTables r (now (states .exit)) (now (transitions .exit)) (now (initial .exit)) ≡ packOutcome (readInto (now (image .entry)) (now (states .entry)) (now (transitions .entry)) (now (initial .entry))) ⌝ }
+    ensures { λ r. ⌜ packedTables r (now (states .exit)) (now (transitions .exit)) (now (initial .exit))
+        ≡ packOutcome (readInto (now (image .entry))
+        (now (states .entry)) (now (transitions .entry)) (now (initial .entry))) ⌝ }
 {
     pack_loaded(read(image, states, transitions, initial))
 }
@@ -135,7 +143,8 @@ pub extern "C" fn zimboralo_read(
 // A lasso, stem and cycle, against an image. The verdict, or a refusal.
 #[no_mangle]
 pub extern "C" fn zimboralo_judge(image: &[u8], stem: &[u8], cycle: &[u8], work: &mut [u8]) -> u64
-    ensures { λ r. ⌜ packedSlice r (now (work .exit)) ≡ packJudgement (judged (now (image .entry)) (now (stem .entry)) (now (cycle .entry)) (now (work .entry))) ⌝ }
+    ensures { λ r. ⌜ packedSlice r (now (work .exit))
+        ≡ packJudgement (judged (now (image .entry)) (now (stem .entry)) (now (cycle .entry)) (now (work .entry))) ⌝ }
 {
     pack_judged(judge(image, stem, cycle, work))
 }
@@ -152,7 +161,11 @@ pub extern "C" fn zimboralo_decide(
     image: &mut [u8],
     work: &mut [u8],
 ) -> u64
-    ensures { λ r. ⌜ packedDecision r (now (states .exit)) (now (transitions .exit)) (now (initial .exit)) (now (image .exit)) (now (work .exit)) ≡ packDecision (decided (now (rule .entry)) (now (stem .entry)) (now (cycle .entry)) (now (states .entry)) (now (transitions .entry)) (now (initial .entry)) (now (image .entry)) (now (work .entry))) ⌝ }
+    ensures { λ r. ⌜ packedDecision r (now (states .exit)) (now (transitions .exit)) (now (initial .exit))
+        (now (image .exit)) (now (work .exit))
+        ≡ packDecision (decided (now (rule .entry)) (now (stem .entry)) (now (cycle .entry))
+        (now (states .entry)) (now (transitions .entry)) (now (initial .entry))
+        (now (image .entry)) (now (work .entry))) ⌝ }
 {
     pack_judged(decide(rule, stem, cycle, states, transitions, initial, image, work))
 }

@@ -5,7 +5,8 @@ use mathlib.Core.Path.{_≡_, refl, sym, _∙_, ap, subst}
 use mathlib.Core.Logic.{_⊎_, inl, inr}
 use mathlib.Core.Bool.{true, false}
 use native.Mathlib.Omega.{arith}
-use native.Mathlib.Nat.{mod-lt, div-eq-of-lt, div-self, mul-mod-left, mul-div-cancel, pow-suc, pow-succ', div-div-eq-div-mul, div-one}
+use native.Mathlib.Nat.{mod-lt, div-eq-of-lt, div-self, mul-mod-left, mul-div-cancel, pow-suc, pow-succ'}
+use native.Mathlib.Nat.{div-div-eq-div-mul, div-one}
 use native.Mathlib.Decide.{ℕ-discrete, decLt}
 use lib.Arith.{bin-ind}
 use lib.Bits.{bitAnd, bitOr, or-shr, and-shr, or-step, and-step, or-zero-l}

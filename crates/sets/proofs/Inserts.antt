@@ -20,19 +20,22 @@ module _ {A : Type 0} (less : A → A → Bool) where
   unfolding from
   from-zero t xs = refl
 
-  pub from-more : (i : ℕ) (t d : A) (xs : List A) → i < length xs → less t (getD xs i d) ≡ false → less (getD xs i d) t ≡ true → from (suc i) t xs ≡ from i t xs
+  pub from-more : (i : ℕ) (t d : A) (xs : List A) → i < length xs → less t (getD xs i d) ≡ false
+      → less (getD xs i d) t ≡ true → from (suc i) t xs ≡ from i t xs
   unfolding from insert
   from-more i t d [] lt e f = absurd (not-suc-le-zero lt)
   from-more zero t d (x ∷ xs) lt e f = rw (e, f)
   from-more (suc i) t d (x ∷ xs) lt e f = ap {B = List A} (λ r. x ∷ r) (from-more i t d xs (le-of-suc-le-suc lt) e f)
 
-  pub from-less : (i : ℕ) (t d : A) (xs : List A) → i < length xs → less t (getD xs i d) ≡ true → from i t xs ≡ insertAt i t xs
+  pub from-less : (i : ℕ) (t d : A) (xs : List A) → i < length xs → less t (getD xs i d) ≡ true
+      → from i t xs ≡ insertAt i t xs
   unfolding from insert insertAt
   from-less i t d [] lt e = absurd (not-suc-le-zero lt)
   from-less zero t d (x ∷ xs) lt e = rw e
   from-less (suc i) t d (x ∷ xs) lt e = ap {B = List A} (λ r. x ∷ r) (from-less i t d xs (le-of-suc-le-suc lt) e)
 
-  pub from-same : (i : ℕ) (t d : A) (xs : List A) → i < length xs → less t (getD xs i d) ≡ false → less (getD xs i d) t ≡ false → from i t xs ≡ xs
+  pub from-same : (i : ℕ) (t d : A) (xs : List A) → i < length xs → less t (getD xs i d) ≡ false
+      → less (getD xs i d) t ≡ false → from i t xs ≡ xs
   unfolding from insert
   from-same i t d [] lt e f = absurd (not-suc-le-zero lt)
   from-same zero t d (x ∷ xs) lt e f = rw (e, f)
@@ -51,7 +54,8 @@ module _ {A : Type 0} (less : A → A → Bool) where
   insert-longer t [] = omega arith
   insert-longer t (x ∷ xs) = go (less t x) (less x t) (insert-longer t xs)
     where
-      go : (b c : Bool) → length xs ≤ length (insert less t xs) → suc (length xs) ≤ length (cond b (t ∷ (x ∷ xs)) (cond c (x ∷ insert less t xs) (x ∷ xs)))
+      go : (b c : Bool) → length xs ≤ length (insert less t xs)
+          → suc (length xs) ≤ length (cond b (t ∷ (x ∷ xs)) (cond c (x ∷ insert less t xs) (x ∷ xs)))
       go true c le = omega arith
       go false true le = omega arith
       go false false le = omega arith
@@ -62,7 +66,8 @@ module _ {A : Type 0} (less : A → A → Bool) where
   insert-shorter t [] = omega arith
   insert-shorter t (x ∷ xs) = go (less t x) (less x t) (insert-shorter t xs)
     where
-      go : (b c : Bool) → length (insert less t xs) ≤ suc (length xs) → length (cond b (t ∷ (x ∷ xs)) (cond c (x ∷ insert less t xs) (x ∷ xs))) ≤ suc (suc (length xs))
+      go : (b c : Bool) → length (insert less t xs) ≤ suc (length xs)
+          → length (cond b (t ∷ (x ∷ xs)) (cond c (x ∷ insert less t xs) (x ∷ xs))) ≤ suc (suc (length xs))
       go true c le = omega arith
       go false true le = omega arith
       go false false le = omega arith
@@ -81,12 +86,15 @@ module _ {A : Type 0} (less : A → A → Bool) where
         go true = insert-shorter (joined x y) ws
         go false = omega arith
 
-    joins-shorter : (x : A) (ys ws : List A) → length (insertJoins less joined consistent x ys ws) ≤ length ys + length ws
+    joins-shorter : (x : A) (ys ws : List A)
+        → length (insertJoins less joined consistent x ys ws) ≤ length ys + length ws
     unfolding insertJoins
     joins-shorter x [] ws = omega arith
-    joins-shorter x (y ∷ ys) ws = omega (arith, join-shorter x y (insertJoins less joined consistent x ys ws), joins-shorter x ys ws)
+    joins-shorter x (y ∷ ys) ws =
+        omega (arith, join-shorter x y (insertJoins less joined consistent x ys ws), joins-shorter x ys ws)
 
-    pub product-shorter : (xs ys ws : List A) → length (insertProduct less joined consistent xs ys ws) ≤ length xs * length ys + length ws
+    pub product-shorter : (xs ys ws : List A)
+        → length (insertProduct less joined consistent xs ys ws) ≤ length xs * length ys + length ws
     unfolding insertProduct
     product-shorter [] ys ws = omega arith
     product-shorter (x ∷ xs) ys ws =

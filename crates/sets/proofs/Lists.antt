@@ -8,13 +8,15 @@ use Rattle.sets.specs.Sets.{insertAt}
 
 module _ {A : Type 0} where
   -- h goes in at j, and what stood there goes on
-  pub put-step : (xs : List A) (j : ℕ) (h d : A) → j < length xs → insertAt (suc j) (getD xs j d) (set xs j h) ≡ insertAt j h xs
+  pub put-step : (xs : List A) (j : ℕ) (h d : A) → j < length xs
+      → insertAt (suc j) (getD xs j d) (set xs j h) ≡ insertAt j h xs
   unfolding insertAt
   put-step [] j h d lt = absurd (not-suc-le-zero lt)
   put-step (x ∷ xs) zero h d lt = refl
   put-step (x ∷ xs) (suc j) h d lt = ap {B = List A} (λ r. x ∷ r) (put-step xs j h d (le-of-suc-le-suc lt))
 
-  pub put-last : (xs : List A) (n : ℕ) (h : A) → n < length xs → take (suc n) (set xs n h) ≡ take (suc n) (insertAt n h xs)
+  pub put-last : (xs : List A) (n : ℕ) (h : A) → n < length xs
+      → take (suc n) (set xs n h) ≡ take (suc n) (insertAt n h xs)
   unfolding insertAt
   put-last [] n h lt = absurd (not-suc-le-zero lt)
   put-last (x ∷ xs) zero h lt = refl

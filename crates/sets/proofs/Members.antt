@@ -52,7 +52,8 @@ in-map f x [] h = absurd h
 in-map f x (y ∷ ys) (inl e) = inl (ap f e)
 in-map f x (y ∷ ys) (inr h) = inr (in-map f x ys h)
 
-pub map-at : {A B : Type 0} (f : A → B) (d : A) (e : B) (xs : List A) (i : ℕ) → i < length xs → getD (map f xs) i e ≡ f (getD xs i d)
+pub map-at : {A B : Type 0} (f : A → B) (d : A) (e : B) (xs : List A) (i : ℕ) → i < length xs
+    → getD (map f xs) i e ≡ f (getD xs i d)
 map-at f d e [] i l = absurd (omega arith)
 map-at f d e (x ∷ xs) zero l = refl
 map-at f d e (x ∷ xs) (suc i) l = map-at f d e xs i (omega arith)

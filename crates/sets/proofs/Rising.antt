@@ -8,7 +8,8 @@ use native.Mathlib.Omega.{arith}
 use lib.Dec.{ltb}
 use lib.Bits.{bitOr}
 use borrow.Author.Tests.{lt-ltb, ltb-true}
-use Rattle.sets.specs.Sets.{insert, union, insertJoin, insertJoins, insertProduct, consistentN, insertN, unionN, insertJoinN, insertJoinsN, insertProductN}
+use Rattle.sets.specs.Sets.{insert, union, insertJoin, insertJoins, insertProduct, consistentN, insertN, unionN}
+use Rattle.sets.specs.Sets.{insertJoinN, insertJoinsN, insertProductN}
 
 -- numbers from low on, each above the one before it, and P holds of each
 abbrev pub Rising : (P : ℕ → Type 0) (low : ℕ) → List ℕ → Type 0
@@ -25,7 +26,8 @@ module _ (P : ℕ → Type 0) where
   insert-rises t low [] le p r = (le, p, tt)
   insert-rises t low (x ∷ xs) le p r = go (ltb t x) (ltb x t) refl refl (λ lt. insert-rises t (suc x) xs lt p (r .2))
     where
-      go : (b c : Bool) → ltb t x ≡ b → ltb x t ≡ c → (suc x ≤ t → Rising P (suc x) (insertN t xs)) → Rising P low (cond b (t ∷ (x ∷ xs)) (cond c (x ∷ insertN t xs) (x ∷ xs)))
+      go : (b c : Bool) → ltb t x ≡ b → ltb x t ≡ c → (suc x ≤ t → Rising P (suc x) (insertN t xs))
+          → Rising P low (cond b (t ∷ (x ∷ xs)) (cond c (x ∷ insertN t xs) (x ∷ xs)))
       go true c e f ih = (le, p, (ltb-true t x e, r .1, r .2))
       go false true e f ih = (r .0, r .1, ih (ltb-true x t f))
       go false false e f ih = r
@@ -34,7 +36,8 @@ module _ (P : ℕ → Type 0) where
   unfolding union
   union-rises low [] ys r s = s
   union-rises low (x ∷ xs) ys r s =
-      insert-rises x low (unionN xs ys) (r .0) (r .1) (union-rises low xs ys (rising-from low (suc x) xs (omega arith) (r .2)) s)
+      insert-rises x low (unionN xs ys) (r .0) (r .1)
+      (union-rises low xs ys (rising-from low (suc x) xs (omega arith) (r .2)) s)
 
   -- joins that are kept have P too
   module _ (joins : (x y : ℕ) → P x → P y → consistentN (bitOr x y) ≡ true → P (bitOr x y)) where
@@ -46,15 +49,19 @@ module _ (P : ℕ → Type 0) where
         go true e = insert-rises (bitOr x y) 0 ws (omega arith) (joins x y p q e) s
         go false e = s
 
-    joins-rise : (x low : ℕ) (ys ws : List ℕ) → P x → Rising P low ys → Rising P 0 ws → Rising P 0 (insertJoinsN x ys ws)
+    joins-rise : (x low : ℕ) (ys ws : List ℕ) → P x → Rising P low ys → Rising P 0 ws
+        → Rising P 0 (insertJoinsN x ys ws)
     unfolding insertJoins
     joins-rise x low [] ws p r s = s
-    joins-rise x low (y ∷ ys) ws p r s = join-rises x y (insertJoinsN x ys ws) p (r .1) (joins-rise x (suc y) ys ws p (r .2) s)
+    joins-rise x low (y ∷ ys) ws p r s =
+        join-rises x y (insertJoinsN x ys ws) p (r .1) (joins-rise x (suc y) ys ws p (r .2) s)
 
-    pub product-rises : (low high : ℕ) (xs ys ws : List ℕ) → Rising P low xs → Rising P high ys → Rising P 0 ws → Rising P 0 (insertProductN xs ys ws)
+    pub product-rises : (low high : ℕ) (xs ys ws : List ℕ) → Rising P low xs → Rising P high ys → Rising P 0 ws
+        → Rising P 0 (insertProductN xs ys ws)
     unfolding insertProduct
     product-rises low high [] ys ws r s t = t
-    product-rises low high (x ∷ xs) ys ws r s t = joins-rise x high ys (insertProductN xs ys ws) (r .1) s (product-rises (suc x) high xs ys ws (r .2) s t)
+    product-rises low high (x ∷ xs) ys ws r s t =
+        joins-rise x high ys (insertProductN xs ys ws) (r .1) s (product-rises (suc x) high xs ys ws (r .2) s t)
 
   -- the lowest goes first
   pub insert-first : (t : ℕ) (xs : List ℕ) → Rising P (suc t) xs → insertN t xs ≡ t ∷ xs

@@ -20,12 +20,15 @@ full xs n i t r e q =
     record { count = omega arith; items = λ le. absurd (omega arith) }
 
 -- the last one in
-pub shifted : (xs ys : List ℕ) (n i t h : ℕ) → i ≤ n → n < length xs → length ys ≡ length xs → insertAt n h ys ≡ insertAt i t xs
-    → Stores (set ys n h) (n + 1) (insertAt i t (take n xs))
+pub shifted : (xs ys : List ℕ) (n i t h : ℕ) → i ≤ n → n < length xs → length ys ≡ length xs
+    → insertAt n h ys ≡ insertAt i t xs → Stores (set ys n h) (n + 1) (insertAt i t (take n xs))
 shifted xs ys n i t h le lt l e =
     let k : length (insertAt i t (take n xs)) ≡ n + 1 = simp (length-put, length-take) (omega arith) in
     let m : length (set ys n h) ≡ length xs = simp length-set l in
-    record { count = omega arith; items = λ _. rw add-one (put-last ys n h (omega arith) ∙ ap (take (suc n)) e ∙ take-put i n t xs le) }
+    record {
+      count = omega arith;
+      items = λ _. rw add-one (put-last ys n h (omega arith) ∙ ap (take (suc n)) e ∙ take-put i n t xs le);
+    }
 
 -- a search that stands at i: every number before i is below t
 pub record Searching (xs : List ℕ) (n t : ℕ) (ys : List ℕ) (i : ℕ) : Type 0 where
@@ -35,7 +38,8 @@ pub record Searching (xs : List ℕ) (n t : ℕ) (ys : List ℕ) (i : ℕ) : Typ
   pub place : from ltb i t (take n ys) ≡ insertN t (take n ys)
 
 -- one step of the search for the place of t among the first n of xs
-module _ (xs : List ℕ) (n t i : ℕ) (lt : i < n) (le : n ≤ length xs) (inv : from ltb i t (take n xs) ≡ insertN t (take n xs)) where
+module _ (xs : List ℕ) (n t i : ℕ) (lt : i < n) (le : n ≤ length xs)
+    (inv : from ltb i t (take n xs) ≡ insertN t (take n xs)) where
   inside : i < length (take n xs)
   inside = rw (length-take-le n xs le) lt
 
@@ -46,7 +50,10 @@ module _ (xs : List ℕ) (n t i : ℕ) (lt : i < n) (le : n ≤ length xs) (inv 
   less-in q = sym inv ∙ from-less ltb i t 0 (take n xs) inside (rw at (lt-ltb _ _ q))
 
   pub same-in : t ≡ getD xs i 0 → insertN t (take n xs) ≡ take n xs
-  same-in q = sym inv ∙ from-same ltb i t 0 (take n xs) inside (rw at (le-ltb t (getD xs i 0) (omega arith))) (rw at (le-ltb (getD xs i 0) t (omega arith)))
+  same-in q =
+      sym inv
+      ∙ from-same ltb i t 0 (take n xs) inside (rw at (le-ltb t (getD xs i 0) (omega arith)))
+      (rw at (le-ltb (getD xs i 0) t (omega arith)))
 
   pub more-in : getD xs i 0 < t → from ltb (i + 1) t (take n xs) ≡ insertN t (take n xs)
   more-in q = rw add-one (from-more ltb i t 0 (take n xs) inside (rw at (le-ltb t (getD xs i 0) (omega arith))) (rw at (lt-ltb _ _ q)) ∙ inv)
@@ -60,7 +67,8 @@ pub over-in : (xs : List ℕ) (n t : ℕ) → length xs < n → Updates xs n xs 
 over-in xs n t lt = record { updates = λ ws i. record { count = omega (arith, insert-longer ltb t ws, i .count); items = λ le. absurd (omega (arith, insert-longer ltb t ws, i .count)) } }
 
 -- what is right of the list held is right of each list that xs is
-pub lift-in : (xs ys vs : List ℕ) (n r t : ℕ) → n ≤ length xs → insertN t (take n xs) ≡ vs → Stores ys r vs → Updates xs n ys r (insertN t)
+pub lift-in : (xs ys vs : List ℕ) (n r t : ℕ) → n ≤ length xs → insertN t (take n xs) ≡ vs → Stores ys r vs
+    → Updates xs n ys r (insertN t)
 lift-in xs ys vs n r t le e p = record {
   updates = λ ws i.
       let w : take n xs ≡ ws = i .items (omega (arith, i .count)) in

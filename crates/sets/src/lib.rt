@@ -5,7 +5,8 @@ ghost use mathlib.Core.Path.{_≡_};
 ghost use Prim.Native.Nat.{_≤_, _<_};
 ghost use lib.ListN.{length, take};
 ghost use Rattle.sets.specs.Bits.{has};
-ghost use Rattle.sets.specs.Sets.{Stores, Updates, insertAt, consistentN, insertN, unionN, insertJoinN, insertJoinsN, insertProductN};
+ghost use Rattle.sets.specs.Sets.{Stores, Updates, insertAt, consistentN};
+ghost use Rattle.sets.specs.Sets.{insertN, unionN, insertJoinN, insertJoinsN, insertProductN};
 
 // t at place i, and what stood there and after it one place on.
 fn insert_at(items: &mut [u64], n: usize, i: usize, t: u64) -> usize
@@ -70,7 +71,8 @@ fn insert_join(items: &mut [u64], count: usize, x: u64, y: u64) -> usize
 // The set with the joins of x and each of the first ny of ys.
 fn insert_joins(items: &mut [u64], count: usize, x: u64, ys: &[u64], ny: usize) -> usize
     requires { ⌜ ny ≤ length (now ys) ⌝ }
-    ensures { λ r. ⌜ Updates (now (items .entry)) count (now (items .exit)) r (insertJoinsN x (take ny (now (ys .entry)))) ⌝ }
+    ensures { λ r. ⌜ Updates (now (items .entry)) count (now (items .exit)) r
+        (insertJoinsN x (take ny (now (ys .entry)))) ⌝ }
 {
     let mut n = count;
     let mut j = ny;
@@ -91,7 +93,8 @@ pub fn product(
     ny: usize,
 ) -> usize
     requires { ⌜ (nx ≤ length (now xs)) × (ny ≤ length (now ys)) ⌝ }
-    ensures { λ r. ⌜ Updates (now (items .entry)) count (now (items .exit)) r (insertProductN (take nx (now (xs .entry))) (take ny (now (ys .entry)))) ⌝ }
+    ensures { λ r. ⌜ Updates (now (items .entry)) count (now (items .exit)) r
+        (insertProductN (take nx (now (xs .entry))) (take ny (now (ys .entry)))) ⌝ }
 {
     let mut n = count;
     let mut i = nx;

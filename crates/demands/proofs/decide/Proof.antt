@@ -23,7 +23,8 @@ returns-2 : tie.Need-returns-2
 returns-2 c =
     let checked = c .before .before .before in
     let tested = checked .before in
-    bytes-refused _ _ _ _ _ _ _ _ (tested .before .room-fits .ensures) (tested .if1 .left) (sym (ap answer (c .before .bytes .given .1)) ∙ checked .check .ensures)
+    bytes-refused _ _ _ _ _ _ _ _ (tested .before .room-fits .ensures) (tested .if1 .left)
+    (sym (ap answer (c .before .bytes .given .1)) ∙ checked .check .ensures)
 
 enum-told : tie.Need-enum-told
 enum-told c = search needs
@@ -40,7 +41,8 @@ returns-3 c =
     let checked = lasso .before .before .before in
     let tested = checked .before in
     let bytes = sym (ap answer (lasso .before .enum-told .given .1)) ∙ checked .check .ensures in
-    lasso-refused _ _ _ _ _ _ _ _ (tested .before .room-fits .ensures) (tested .if1 .left) bytes (sym (ap answer (c .before .lasso .given .1)) ∙ lasso .check-lasso .ensures)
+    lasso-refused _ _ _ _ _ _ _ _ (tested .before .room-fits .ensures) (tested .if1 .left) bytes
+    (sym (ap answer (c .before .lasso .given .1)) ∙ lasso .check-lasso .ensures)
 
 enum-told-2 : tie.Need-enum-told-2
 enum-told-2 c = search needs
@@ -52,7 +54,8 @@ decide-checked-requires c κs =
     let checked = lasso .before .before .before in
     let tested = checked .before in
     let bytes = sym (ap answer (lasso .before .enum-told .given .1)) ∙ checked .check .ensures in
-    input-fine _ _ _ _ _ _ _ _ (tested .before .room-fits .ensures) (tested .if1 .left) bytes (sym (ap answer (told .enum-told2 .given .1)) ∙ lasso .check-lasso .ensures)
+    input-fine _ _ _ _ _ _ _ _ (tested .before .room-fits .ensures) (tested .if1 .left) bytes
+    (sym (ap answer (told .enum-told2 .given .1)) ∙ lasso .check-lasso .ensures)
 
 same-length : tie.Need-same-length
 same-length c = search needs
@@ -77,7 +80,8 @@ returns-4 c =
     let checked = lasso .before .before .before in
     let tested = checked .before in
     let bytes = sym (ap answer (lasso .before .enum-told .given .1)) ∙ checked .check .ensures in
-    concludes _ _ _ _ _ _ _ _ (tested .before .room-fits .ensures) (tested .if1 .left) bytes (sym (ap answer (told .enum-told2 .given .1)) ∙ lasso .check-lasso .ensures) (done .decide-checked .ensures)
+    concludes _ _ _ _ _ _ _ _ (tested .before .room-fits .ensures) (tested .if1 .left) bytes
+    (sym (ap answer (told .enum-told2 .given .1)) ∙ lasso .check-lasso .ensures) (done .decide-checked .ensures)
 
 pub decide-spec : {M : Type 1} → statement M
 decide-spec =

@@ -1,5 +1,5 @@
--- `demands::decide_checked` meets its contract: `translate` stores the tables of the rule's automaton, `write` makes its
--- image of them, and `judge` gives the verdict on that image. Assumes nothing.
+-- `demands::decide_checked` meets its contract: `translate` stores the tables of the rule's automaton, `write` makes
+-- its image of them, and `judge` gives the verdict on that image. Assumes nothing.
 use mathlib.Core.Path.{sym, ap}
 use lib.Seq.{length-take-le}
 use Rattle.translation.specs.Translate.{translateAnswer}
@@ -32,9 +32,13 @@ slice-reshare-prefix-judge c =
     let stored = c .before .before .before .before .before in
     let matched = stored .before .before .before .before .before .before in
     let called = matched .before .before .before .before .before .before .before .before in
-    let start = called .before .before .before .before .before .before .before .before .before .before .before .before in
+    let start =
+    called .before .before .before .before .before .before .before .before .before .before .before .before in
     let a = start .args in
-    image-inside (a .rule .now) (a .stem .now) (a .cycle .now) (a .states .now) (a .transitions .now) (a .initial .now) (a .image .now) (a .work .now) (start .pre) _ _ _ (called .translate .ensures) _ (ap translateAnswer (matched .n .given .1)) _ (stored .write .ensures) _ (ap writeAnswer (c .before .length .given .1))
+    image-inside (a .rule .now) (a .stem .now) (a .cycle .now) (a .states .now) (a .transitions .now) (a .initial .now)
+    (a .image .now) (a .work .now) (start .pre) _ _ _ (called .translate .ensures) _
+    (ap translateAnswer (matched .n .given .1)) _ (stored .write .ensures) _
+    (ap writeAnswer (c .before .length .given .1))
 
 slice-aggregate-judge : tie.Need-slice-aggregate-judge
 slice-aggregate-judge c = sym (length-take-le _ _ (slice-reshare-prefix-judge (c .before)))
@@ -54,8 +58,10 @@ same-length-3 c = search needs
 returns : tie.Need-returns
 returns c =
     let called = c .before .before .before .before .before .before .before .before .before in
-    let start = called .before .before .before .before .before .before .before .before .before .before .before .before in
-    rule-refused _ _ _ _ _ _ _ _ (start .pre) _ _ _ (called .translate .ensures) (ap translateAnswer (c .before .number .given .1))
+    let start =
+    called .before .before .before .before .before .before .before .before .before .before .before .before in
+    rule-refused _ _ _ _ _ _ _ _ (start .pre) _ _ _ (called .translate .ensures)
+    (ap translateAnswer (c .before .number .given .1))
 
 same-length-4 : tie.Need-same-length-4
 same-length-4 c = search needs
@@ -74,8 +80,11 @@ returns-2 c =
     let stored = c .before .before .before .before .before in
     let matched = stored .before .before .before .before .before .before in
     let called = matched .before .before .before .before .before .before .before .before in
-    let start = called .before .before .before .before .before .before .before .before .before .before .before .before in
-    write-refused _ _ _ _ _ _ _ _ (start .pre) _ _ _ (called .translate .ensures) _ (ap translateAnswer (matched .n .given .1)) _ (stored .write .ensures) (ap writeAnswer (c .before .number2 .given .1))
+    let start =
+    called .before .before .before .before .before .before .before .before .before .before .before .before in
+    write-refused _ _ _ _ _ _ _ _ (start .pre) _ _ _ (called .translate .ensures) _
+    (ap translateAnswer (matched .n .given .1)) _ (stored .write .ensures)
+    (ap writeAnswer (c .before .number2 .given .1))
 
 same-length-8 : tie.Need-same-length-8
 same-length-8 c = search needs
@@ -97,8 +106,12 @@ returns-3 c =
     let stored = c .before .before .before .before .before .before .before .before .before .before in
     let matched = stored .before .before .before .before .before .before in
     let called = matched .before .before .before .before .before .before .before .before in
-    let start = called .before .before .before .before .before .before .before .before .before .before .before .before in
-    lasso-judged _ _ _ _ _ _ _ _ (start .pre) _ _ _ (called .translate .ensures) _ (ap translateAnswer (matched .n .given .1)) _ (stored .write .ensures) _ (ap writeAnswer (c .before .before .before .before .before .before .length .given .1)) (c .before .before .judge .ensures)
+    let start =
+    called .before .before .before .before .before .before .before .before .before .before .before .before in
+    lasso-judged _ _ _ _ _ _ _ _ (start .pre) _ _ _ (called .translate .ensures) _
+    (ap translateAnswer (matched .n .given .1)) _ (stored .write .ensures) _
+    (ap writeAnswer (c .before .before .before .before .before .before .length .given .1))
+    (c .before .before .judge .ensures)
 
 pub decide-checked-spec : {M : Type 1} → statement M
 decide-checked-spec =

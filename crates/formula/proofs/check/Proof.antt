@@ -14,7 +14,8 @@ enum-known-syntax : tie.Need-enum-known-syntax
 enum-known-syntax c = search needs
 
 returns : tie.Need-returns
-returns c = syntax-refused _ (sym (ap answer (c .before .syntax .given .1)) ∙ c .before .before .before .check-syntax .ensures)
+returns c =
+    syntax-refused _ (sym (ap answer (c .before .syntax .given .1)) ∙ c .before .before .before .check-syntax .ensures)
 
 enum-told : tie.Need-enum-told
 enum-told c = search needs

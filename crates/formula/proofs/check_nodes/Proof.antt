@@ -1,5 +1,5 @@
--- `formula::check_nodes` meets its contract: the nodes before i are fine (`Passing`), and the first refusal is the lowest.
--- Assumes nothing.
+-- `formula::check_nodes` meets its contract: the nodes before i are fine (`Passing`), and the first refusal is the
+-- lowest. Assumes nothing.
 use borrow.Author.Needs.{needs}
 use native.Mathlib.Omega.{arith}
 use Prim.Native.Nat.{_-_}
@@ -28,7 +28,8 @@ enum-known-node c = search needs
 returns : tie.Need-returns Inv-loop μ-loop
 returns c =
     let at = c .before .before .before .before .before in
-    pass-fails _ _ (at .loop .i) (omega arith) (at .loop .inv) (sym (ap answer (c .before .node .given .1)) ∙ c .before .before .before .check-node .ensures)
+    pass-fails _ _ (at .loop .i) (omega arith) (at .loop .inv)
+    (sym (ap answer (c .before .node .given .1)) ∙ c .before .before .before .check-node .ensures)
 
 enum-told : tie.Need-enum-told Inv-loop μ-loop
 enum-told c = search needs
@@ -42,7 +43,8 @@ loop-less c = search needs
 loop-again : tie.Need-loop-again Inv-loop μ-loop
 loop-again c =
     let at = c .before .before .before .before in
-    pass-steps _ _ (at .loop .i) (omega arith) (at .loop .inv) (sym (c .before .before .check-node .ensures) ∙ ap answer (c .enum-told .given .1))
+    pass-steps _ _ (at .loop .i) (omega arith) (at .loop .inv)
+    (sym (c .before .before .check-node .ensures) ∙ ap answer (c .enum-told .given .1))
 
 returns-2 : tie.Need-returns-2 Inv-loop μ-loop
 returns-2 c = pass-ends _ _ (c .before .loop .i) (omega arith) (c .before .loop .inv)

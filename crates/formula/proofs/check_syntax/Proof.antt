@@ -25,7 +25,8 @@ enum-known-nodes c = search needs
 
 returns-4 : tie.Need-returns-4
 returns-4 c =
-    node-refused _ _ (omega arith) (omega arith) (omega arith) (sym (ap answer (c .before .nodes .given .1)) ∙ c .before .before .before .check-nodes .ensures)
+    node-refused _ _ (omega arith) (omega arith) (omega arith)
+    (sym (ap answer (c .before .nodes .given .1)) ∙ c .before .before .before .check-nodes .ensures)
 
 enum-told : tie.Need-enum-told
 enum-told c = search needs
@@ -37,7 +38,8 @@ returns-5 : tie.Need-returns-5
 returns-5 c =
     let nodes = c .before in
     c .check-places .ensures
-    ∙ places-left _ _ (omega arith) (omega arith) (omega arith) (sym (nodes .before .before .check-nodes .ensures) ∙ ap answer (nodes .enum-told .given .1))
+    ∙ places-left _ _ (omega arith) (omega arith) (omega arith)
+    (sym (nodes .before .before .check-nodes .ensures) ∙ ap answer (nodes .enum-told .given .1))
 
 pub check-syntax-spec : {M : Type 1} → statement M
 check-syntax-spec =

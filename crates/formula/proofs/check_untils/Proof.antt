@@ -1,5 +1,5 @@
--- `formula::check_untils` meets its contract: the count is the number of the untils, and the test is that of `untilCheck`.
--- Assumes nothing.
+-- `formula::check_untils` meets its contract: the count is the number of the untils, and the test is that of
+-- `untilCheck`. Assumes nothing.
 use borrow.Author.Needs.{needs}
 use native.Mathlib.Omega.{arith}
 use Rattle.formula.proofs.Untils.{too-many, few-enough}

@@ -15,7 +15,8 @@ use Rattle.formula.proofs.count_child.Statement.{statement}
 use Rattle.formula.proofs.count_child.Tie as tie
 
 -- what is neither of the other two variants is no child
-no-child : (operand : Operand) (byte k : ℕ) → (tagOf the-type operand ≡ 0) ⊎ (tagOf the-type operand ≡ 1) → isChild operand byte k ≡ 0
+no-child : (operand : Operand) (byte k : ℕ) → (tagOf the-type operand ≡ 0) ⊎ (tagOf the-type operand ≡ 1)
+    → isChild operand byte k ≡ 0
 no-child Unused byte k tag = refl
 no-child Proposition byte k tag = refl
 no-child Child byte k (inl tag) = absurd (omega arith)
@@ -37,7 +38,9 @@ same-length : tie.Need-same-length
 same-length c = search needs
 
 returns : tie.Need-returns
-returns c = one-more _ (c .before .enum-told .given .1) _ (c .before .before .before .args .counts .now) (c .before .before .before .pre .0)
+returns c =
+    one-more _ (c .before .enum-told .given .1) _ (c .before .before .before .args .counts .now)
+    (c .before .before .before .pre .0)
 
 returns-2 : tie.Need-returns-2
 returns-2 c = λ k. rw (no-child (c .before .args .operand) _ k (c .match .keys2)) (omega arith)

@@ -1,5 +1,5 @@
--- `formula::count_places` meets its contract: the counts are the places of the nodes passed (`Counting`), and those are too few to overflow.
--- Assumes nothing.
+-- `formula::count_places` meets its contract: the counts are the places of the nodes passed (`Counting`), and those are
+-- too few to overflow. Assumes nothing.
 use borrow.Author.Needs.{needs}
 use native.Mathlib.Omega.{arith}
 use Prim.Native.Nat.{_-_}
@@ -33,7 +33,8 @@ count-child-requires c κs =
     let turn = c .before .before .before .before in
     let at = turn .before in
     let s = at .before .before in
-    left-fits _ _ (s .pre .1) (s .pre .2) _ (turn .loop-test .taken) (at .loop .inv) (c .before .before .before .kind-of .ensures) (c .before .left-operand .ensures) (c .left-of .ensures)
+    left-fits _ _ (s .pre .1) (s .pre .2) _ (turn .loop-test .taken) (at .loop .inv)
+    (c .before .before .before .kind-of .ensures) (c .before .left-operand .ensures) (c .left-of .ensures)
 
 slice-aggregate-count-child-2 : tie.Need-slice-aggregate-count-child-2 Inv-loop μ-loop
 slice-aggregate-count-child-2 c = search needs
@@ -54,7 +55,8 @@ count-child-requires-2 c κs =
     let left = first .before .before .left-operand .ensures in
     let l = first .before .left-of .ensures in
     right-fits _ _ (s .pre .1) (s .pre .2) _ (turn .loop-test .taken) (at .loop .inv) kind left l
-    (first .count-child .last .0) (first .count-child .kept .0) (first .count-child .ensures) (c .before .right-operand .ensures) (c .right-of .ensures)
+    (first .count-child .last .0) (first .count-child .kept .0) (first .count-child .ensures)
+    (c .before .right-operand .ensures) (c .right-of .ensures)
 
 add-i : tie.Need-add-i Inv-loop μ-loop
 add-i c = search needs
@@ -74,7 +76,8 @@ loop-again c =
     let l = first .before .left-of .ensures in
     let right = second .before .before .right-operand .ensures in
     let r = second .before .right-of .ensures in
-    count-steps _ _ (s .pre .1) (s .pre .2) _ (turn .loop-test .taken) (at .loop .inv) kind left l (first .count-child .last .0) (first .count-child .kept .0) (first .count-child .ensures) right r
+    count-steps _ _ (s .pre .1) (s .pre .2) _ (turn .loop-test .taken) (at .loop .inv) kind left l
+    (first .count-child .last .0) (first .count-child .kept .0) (first .count-child .ensures) right r
     (second .count-child2 .last .0) (second .count-child2 .kept .0) (second .count-child2 .ensures)
 
 returns : tie.Need-returns Inv-loop μ-loop

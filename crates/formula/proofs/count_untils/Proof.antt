@@ -4,7 +4,7 @@ use borrow.Author.Needs.{needs}
 use native.Mathlib.Omega.{arith}
 use Prim.Native.Nat.{_-_}
 use lib.Dec.{eqb}
-use Rattle.formula.proofs.Untils.{CountingUntils, optional-most, untils-begin, untils-step, untils-end}
+use Rattle.formula.proofs.Untils.{CountingUntils, one-at-most, untils-begin, untils-step, untils-end}
 use Rattle.formula.proofs.count_untils.Statement.{statement}
 use Rattle.formula.proofs.count_untils.Tie as tie
 
@@ -24,7 +24,7 @@ until-count-requires : tie.Need-until-count-requires Inv-loop μ-loop
 until-count-requires c κs = search needs
 
 add-count : tie.Need-add-count Inv-loop μ-loop
-add-count c = omega (arith, optional-most (eqb (c .before .kind-of .result) 7) (c .before .kind-of .result))
+add-count c = omega (arith, one-at-most (eqb (c .before .kind-of .result) 7))
 
 add-i : tie.Need-add-i Inv-loop μ-loop
 add-i c = search needs
@@ -35,7 +35,8 @@ loop-less c = search needs
 loop-again : tie.Need-loop-again Inv-loop μ-loop
 loop-again c =
     let at = c .before .before .before in
-    untils-step _ _ _ (at .loop .i) _ _ (omega arith) (at .loop .inv) (c .before .kind-of .ensures) (c .until-count .ensures)
+    untils-step _ _ _ (at .loop .i) _ _ (omega arith) (at .loop .inv) (c .before .kind-of .ensures)
+    (c .until-count .ensures)
 
 returns : tie.Need-returns Inv-loop μ-loop
 returns c = untils-end _ _ _ (c .before .loop .i) (omega arith) (c .before .loop .inv)

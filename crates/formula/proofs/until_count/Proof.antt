@@ -1,4 +1,4 @@
--- `formula::until_count` meets its contract: each way through the code gives the test that the list's length goes by.
+-- `formula::until_count` meets its contract: each way through the code gives the test.
 -- Assumes nothing.
 use borrow.Author.Tests.{eq-eqb, ne-eqb}
 use Rattle.formula.proofs.until_count.Statement.{statement}

@@ -1,5 +1,5 @@
--- `office::pack_judged` meets its contract: each arm returns what `packVerdict` gives of the variant that the match found.
--- Assumes nothing.
+-- `office::pack_judged` meets its contract: each arm returns what `packVerdict` gives of the variant that the match
+-- found. Assumes nothing.
 use mathlib.Core.Path.{sym, ap, _∙_}
 use Rattle.judge.specs.declared.Judged.{Judged}
 use Rattle.judge.specs.Judge.{judgeAnswer}
@@ -30,7 +30,9 @@ returns-2 c = sym (ap (λ (j : Judged). packVerdict (judgeAnswer j)) (c .enum-to
 
 returns-3 : tie.Need-returns-3
 unfolding packVerdict
-returns-3 c = c .pack-refusal .ensures ∙ sym (ap (λ (j : Judged). packVerdict (judgeAnswer j)) (c .before .before .judged .given .1))
+returns-3 c =
+    c .pack-refusal .ensures
+    ∙ sym (ap (λ (j : Judged). packVerdict (judgeAnswer j)) (c .before .before .judged .given .1))
 
 pub pack-judged-spec : {M : Type 1} → statement M
 pack-judged-spec =

@@ -1,5 +1,5 @@
--- `office::pack_loaded` meets its contract: each arm returns what `packCounts` gives of the variant that the match found.
--- Assumes nothing.
+-- `office::pack_loaded` meets its contract: each arm returns what `packCounts` gives of the variant that the match
+-- found. Assumes nothing.
 use mathlib.Core.Path.{sym, ap, _∙_}
 use Rattle.image.specs.Calls.{readAnswer}
 use Rattle.office.specs.Packing.{packCounts}

@@ -1,5 +1,5 @@
--- `office::pack_translated` meets its contract: each arm returns what `packCounts` gives of the variant that the match found.
--- Assumes nothing.
+-- `office::pack_translated` meets its contract: each arm returns what `packCounts` gives of the variant that the match
+-- found. Assumes nothing.
 use mathlib.Core.Path.{sym, ap, _∙_}
 use Rattle.translation.specs.Translate.{translateAnswer}
 use Rattle.office.specs.Packing.{packCounts}

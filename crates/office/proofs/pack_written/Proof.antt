@@ -1,5 +1,5 @@
--- `office::pack_written` meets its contract: each arm returns what `packLength` gives of the variant that the match found.
--- Assumes nothing.
+-- `office::pack_written` meets its contract: each arm returns what `packLength` gives of the variant that the match
+-- found. Assumes nothing.
 use mathlib.Core.Path.{sym, ap, _∙_}
 use Rattle.image.specs.Calls.{writeAnswer}
 use Rattle.office.specs.Packing.{packLength}

@@ -27,7 +27,9 @@ same-length-5 : tie.Need-same-length-5
 same-length-5 c = search needs
 
 returns : tie.Need-returns
-returns c = packed-decision _ _ _ _ _ _ _ _ (c .pack-judged .ensures) (c .before .before .before .before .before .before .before .before .before .before .before .decide .ensures)
+returns c =
+    packed-decision _ _ _ _ _ _ _ _ (c .pack-judged .ensures)
+    (c .before .before .before .before .before .before .before .before .before .before .before .decide .ensures)
 
 pub zimboralo-decide-spec : {M : Type 1} → statement M
 zimboralo-decide-spec =

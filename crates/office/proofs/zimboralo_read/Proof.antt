@@ -21,7 +21,9 @@ same-length-3 : tie.Need-same-length-3
 same-length-3 c = search needs
 
 returns : tie.Need-returns
-returns c = packed-tables _ _ _ _ _ _ (c .pack-loaded .ensures) (c .before .before .before .before .before .before .before .read .ensures)
+returns c =
+    packed-tables _ _ _ _ _ _ (c .pack-loaded .ensures)
+    (c .before .before .before .before .before .before .before .read .ensures)
 
 pub zimboralo-read-spec : {M : Type 1} → statement M
 zimboralo-read-spec =

@@ -21,7 +21,9 @@ same-length-3 : tie.Need-same-length-3
 same-length-3 c = search needs
 
 returns : tie.Need-returns
-returns c = packed-tables _ _ _ _ _ _ (c .pack-translated .ensures) (c .before .before .before .before .before .before .before .translate .ensures)
+returns c =
+    packed-tables _ _ _ _ _ _ (c .pack-translated .ensures)
+    (c .before .before .before .before .before .before .before .translate .ensures)
 
 pub zimboralo-translate-spec : {M : Type 1} → statement M
 zimboralo-translate-spec =

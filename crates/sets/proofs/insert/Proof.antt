@@ -59,7 +59,12 @@ loop-again : tie.Need-loop-again Inv-loop μ-loop
 loop-again c =
     let at = c .before .before .before .before in
     let inv = at .loop .inv in
-    record { same = inv .same; within = omega arith; fits = inv .fits; place = more-in _ _ _ (at .loop .i) (omega arith) (inv .fits) (inv .place) (omega arith) }
+    record {
+      same = inv .same;
+      within = omega arith;
+      fits = inv .fits;
+      place = more-in _ _ _ (at .loop .i) (omega arith) (inv .fits) (inv .place) (omega arith);
+    }
 
 insert-at-requires-2 : tie.Need-insert-at-requires-2 Inv-loop μ-loop
 insert-at-requires-2 c κs = search needs

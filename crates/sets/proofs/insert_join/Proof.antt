@@ -15,7 +15,9 @@ same-length : tie.Need-same-length
 same-length c = search needs
 
 returns : tie.Need-returns
-returns c = join-kept _ _ (c .before .before .before .before .before .is-consistent .ensures) (c .before .before .before .before .if1 .taken) (c .before .before .insert .ensures)
+returns c =
+    join-kept _ _ (c .before .before .before .before .before .is-consistent .ensures)
+    (c .before .before .before .before .if1 .taken) (c .before .before .insert .ensures)
 
 returns-2 : tie.Need-returns-2
 returns-2 c = join-dropped _ _ _ _ (c .before .is-consistent .ensures) (c .if1 .left)

@@ -8,7 +8,8 @@ use Rattle.sets.proofs.product.Statement.{statement}
 use Rattle.sets.proofs.product.Tie as tie
 
 abbrev Inv-loop : tie.InvT-loop
-Inv-loop items₀ count xs nx ys ny n₀ i₀ items n i = Folding (λ ts. insertProductN ts (take ny ys)) xs nx items₀ count items n i
+Inv-loop items₀ count xs nx ys ny n₀ i₀ items n i =
+    Folding (λ ts. insertProductN ts (take ny ys)) xs nx items₀ count items n i
 
 abbrev μ-loop : tie.MeasureT-loop
 μ-loop items₀ count xs nx ys ny n₀ i₀ items n i = i
@@ -37,7 +38,8 @@ loop-again : tie.Need-loop-again Inv-loop μ-loop
 loop-again c =
     let at = c .before .before .before .before .before .before in
     let s = at .before .before .before .before in
-    fold-steps (fold-product _) (s .args .xs .now) (s .args .nx) (s .pre .0) (at .loop .i) (omega arith) (at .loop .inv) (search needs) (c .before .before .insert-joins .ensures)
+    fold-steps (fold-product _) (s .args .xs .now) (s .args .nx) (s .pre .0) (at .loop .i) (omega arith) (at .loop .inv)
+    (search needs) (c .before .before .insert-joins .ensures)
 
 same-length : tie.Need-same-length Inv-loop μ-loop
 same-length c = c .before .loop .inv .size
@@ -45,7 +47,8 @@ same-length c = c .before .loop .inv .size
 returns : tie.Need-returns Inv-loop μ-loop
 returns c =
     let s = c .before .before .before .before .before in
-    fold-ends (fold-product _) (s .args .xs .now) (s .args .nx) (s .pre .0) (c .before .loop .i) (omega arith) (c .before .loop .inv)
+    fold-ends (fold-product _) (s .args .xs .now) (s .args .nx) (s .pre .0) (c .before .loop .i) (omega arith)
+    (c .before .loop .inv)
 
 pub product-spec : {M : Type 1} → statement M
 product-spec =

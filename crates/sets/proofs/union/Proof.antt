@@ -36,7 +36,8 @@ loop-again : tie.Need-loop-again Inv-loop μ-loop
 loop-again c =
     let at = c .before .before .before .before .before .before in
     let s = at .before .before .before in
-    fold-steps fold-union (s .args .xs .now) (s .args .nx) (s .pre) (at .loop .i) (omega arith) (at .loop .inv) (search needs) (c .before .before .insert .ensures)
+    fold-steps fold-union (s .args .xs .now) (s .args .nx) (s .pre) (at .loop .i) (omega arith) (at .loop .inv)
+    (search needs) (c .before .before .insert .ensures)
 
 same-length : tie.Need-same-length Inv-loop μ-loop
 same-length c = c .before .loop .inv .size
@@ -44,7 +45,8 @@ same-length c = c .before .loop .inv .size
 returns : tie.Need-returns Inv-loop μ-loop
 returns c =
     let s = c .before .before .before .before in
-    fold-ends fold-union (s .args .xs .now) (s .args .nx) (s .pre) (c .before .loop .i) (omega arith) (c .before .loop .inv)
+    fold-ends fold-union (s .args .xs .now) (s .args .nx) (s .pre) (c .before .loop .i) (omega arith)
+    (c .before .loop .inv)
 
 pub union-spec : {M : Type 1} → statement M
 union-spec =

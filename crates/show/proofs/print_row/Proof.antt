@@ -21,7 +21,8 @@ module _ (states : List ℕ) (i from : ℕ) where
   unfolding rowEnd
   behind le none = rw (le-ltb maxTransitions from le, le-leb (length states / 4) i none)
 
-  counted : {count : ℕ} → from ≤ maxTransitions → i < length states / 4 → count ≡ numberAt states (i * 4) → from + count ≡ rowEnd states i from
+  counted : {count : ℕ} → from ≤ maxTransitions → i < length states / 4 → count ≡ numberAt states (i * 4)
+      → from + count ≡ rowEnd states i from
   unfolding rowEnd
   counted le there e = rw (le-ltb maxTransitions from le, lt-leb (length states / 4) i there, e)
 
