@@ -8,13 +8,12 @@ ghost use lib.ListN.{length, take, set};
 ghost use lib.Dec.{eqb};
 ghost use Rattle.answer.specs.Result.{fine};
 ghost use Rattle.formula.specs.Limits.{maxNodes};
-ghost use Rattle.formula.specs.Rule.{nodeCount};
 ghost use Rattle.formula.specs.Formula.{formula};
 ghost use Rattle.sets.specs.Sets.{Stores, insertProductN};
-ghost use Rattle.term.specs.Limits.{maxTerms, tablePlaces};
+ghost use Rattle.term.specs.Limits.{maxTerms};
 ghost use Rattle.term.specs.Term.{cover};
 ghost use Rattle.term.specs.Size.{sizesChecked};
-ghost use Rattle.term.specs.Memory.{unpack, rowOf, TermRows};
+ghost use Rattle.term.specs.Memory.{unpack, rowOf, TermTable};
 ghost use Rattle.acceptance.specs.Acceptance.{fulfilment};
 ghost use Rattle.acceptance.specs.Memory.{Known};
 ghost use Rattle.generalized.specs.Limits.{maxProduct, maxGeneralizedStates, maxGeneralizedTransitions};
@@ -157,7 +156,8 @@ fn state_terms(
     product: &mut [u64],
     next: &mut [u64],
 ) -> usize
-    requires { ⌜ (sizesChecked (now rule) ≡ fine) × (length (now table) ≡ tablePlaces) × TermRows (now rule) (now table) (nodeCount (now rule)) × (length (now product) ≡ maxProduct) × (length (now next) ≡ maxProduct) ⌝ }
+    requires { ⌜ (sizesChecked (now rule) ≡ fine) × TermTable (now rule) (now table)
+        × (length (now product) ≡ maxProduct) × (length (now next) ≡ maxProduct) ⌝ }
     ensures { λ r. ⌜ Product (now (rule .entry)) obligations (now (product .exit)) r ⌝ }
 {
     let n = rule.len() / 3;
@@ -270,7 +270,9 @@ pub fn walk(
     transitions: &mut [u64],
     ends: &mut [usize],
 ) -> Walked
-    requires { ⌜ (sizesChecked (now rule) ≡ fine) × (length (now table) ≡ tablePlaces) × TermRows (now rule) (now table) (nodeCount (now rule)) × (length (now states) ≡ maxGeneralizedStates) × (length (now transitions) ≡ maxGeneralizedTransitions) × (length (now ends) ≡ maxGeneralizedStates) ⌝ }
+    requires { ⌜ (sizesChecked (now rule) ≡ fine) × TermTable (now rule) (now table)
+        × (length (now states) ≡ maxGeneralizedStates)
+        × (length (now transitions) ≡ maxGeneralizedTransitions) × (length (now ends) ≡ maxGeneralizedStates) ⌝ }
     ensures { λ r. ⌜ Walks (now (rule .entry)) r (now (states .exit)) (now (transitions .exit)) (now (ends .exit)) ⌝ }
 {
     let untils = acceptance::untils_of(rule);

@@ -12,13 +12,13 @@ use lib.Seq.{getD-take, getD-drop, getD-set-same, getD-set-other, ext-getD}
 use borrow.Author.Count.{below-more}
 use Rattle.answer.specs.Result.{fine, lowest}
 use Rattle.answer.proofs.Lowest.{lowest-below}
-use Rattle.formula.specs.Rule.{kindAt, leftAt, rightAt}
+use Rattle.formula.specs.Rule.{nodeCount, kindAt, leftAt, rightAt}
 use Rattle.formula.specs.Formula.{tree}
 use Rattle.term.specs.declared.Terms.{Terms}
 use Rattle.term.specs.Limits.{maxTerms, rowPlaces}
 use Rattle.term.specs.Term
 use Rattle.term.specs.Size.{sizeCheck}
-use Rattle.term.specs.Memory.{pack, TermRow, TermRows, Reaches, FoundTerms, Kept, StoresRow, Keeps}
+use Rattle.term.specs.Memory.{pack, TermRow, TableRoom, TermTable, Reaches, FoundTerms, Kept, StoresRow, Keeps}
 use Rattle.term.proofs.Carries.{carried}
 use Rattle.term.proofs.Reached.{below-leaf, below-next, below-pair}
 
@@ -182,10 +182,14 @@ module _ (rule : List ℕ) (n : ℕ) {r : Terms} (found : FoundTerms rule n r) {
         pick k (inl reaches) = second .stay k (first .reached k reaches)
         pick k (inr reaches) = second .reached k reaches
 
--- the rows of n nodes, none of which is a 20
-pub rows-fine : (rule table : List ℕ) (n : ℕ) → ((k : ℕ) → k < n → Kept rule table k) → lowest (sizeCheck rule) n ≡ fine → TermRows rule table n
-rows-fine rule table n kept e k lt = pick (decLt maxTerms (getD table (k * rowPlaces) 0))
+-- the rows of all nodes, none of which is a 20
+pub table-fine : (rule table : List ℕ) → TableRoom rule table → ((k : ℕ) → k < nodeCount rule → Kept rule table k)
+    → lowest (sizeCheck rule) (nodeCount rule) ≡ fine → TermTable rule table
+table-fine rule table room kept e = record {
+  room = room;
+  rows = λ k lt. pick k lt (decLt maxTerms (getD table (k * rowPlaces) 0));
+}
   where
-    pick : Dec (maxTerms < getD table (k * rowPlaces) 0) → TermRow rule table k
-    pick (yes over) = absurd (kept k lt .over over (lowest-below (sizeCheck rule) n e (suc k) (omega arith)))
-    pick (no few) = kept k lt .within (omega arith)
+    pick : (k : ℕ) → k < nodeCount rule → Dec (maxTerms < getD table (k * rowPlaces) 0) → TermRow rule table k
+    pick k lt (yes over) = absurd (kept k lt .over over (lowest-below (sizeCheck rule) _ e (suc k) (omega arith)))
+    pick k lt (no few) = kept k lt .within (omega arith)

@@ -6,8 +6,8 @@ use mathlib.Core.Logic.{_⊎_}
 use mathlib.Core.Path.{_≡_}
 use lib.ListN.{take, length, getD, drop}
 use Rattle.answer.specs.Result.{fine, lowest}
-use Rattle.formula.specs.Formula.{tree, Formula, bottom, top, proposition, negatedProposition, conjunction, disjunction, next, until, release}
-use Rattle.formula.specs.Rule.{kindAt, leftAt, rightAt}
+use Rattle.formula.specs.Formula.{tree, build, InRange, Formula, bottom, top, proposition, negatedProposition, conjunction, disjunction, next, until, release}
+use Rattle.formula.specs.Rule.{nodeCount, kindAt, leftAt, rightAt}
 use Rattle.term.specs.Limits.{maxTerms, rowPlaces}
 use Rattle.term.specs.Size.{sizeCheck}
 use Rattle.term.specs.Term.{Term, term, cover, terms}
@@ -47,6 +47,17 @@ IsTerms r ts = IsPacked r (map pack ts)
 abbrev pub IsCover : Terms → List ℕ → Type 0
 IsCover r cs = IsPacked r (map packSet cs)
 
+-- r is the cover of an and, an or, if a and b are the covers of its two sides
+abbrev pub CoverOfPair : (kind : ℕ) (a b r : Terms) → Type 0
+CoverOfPair kind a b r =
+    (n p : ℕ) (f g : Formula) → IsCover a (cover f) → IsCover b (cover g) → IsCover r (cover (build kind n p f g))
+
+-- r has the terms of node n of that kind, if a and b have those of its two sides
+abbrev pub TermsOfPair : (kind n : ℕ) (a b r : Terms) → Type 0
+TermsOfPair kind n a b r =
+    (p : ℕ) (f g : Formula) → InRange f → InRange g → IsTerms a (terms f) → IsTerms b (terms g)
+    → IsTerms r (terms (build kind n p f g))
+
 -- ---- the terms of all nodes in one table, a row for each node, which begins with how many there are
 
 -- the numbers in row k, as many as the row begins with
@@ -62,6 +73,15 @@ pub record TermRow (rule table : List ℕ) (k : ℕ) : Type 0 where
 -- the rows of the first n nodes
 abbrev pub TermRows : (rule table : List ℕ) (n : ℕ) → Type 0
 TermRows rule table n = (k : ℕ) → k < n → TermRow rule table k
+
+-- the table has places for a row of each node; it may have more
+abbrev pub TableRoom : (rule table : List ℕ) → Type 0
+TableRoom rule table = nodeCount rule * rowPlaces ≤ length table
+
+-- a table with a row for each node, and in it the terms of all nodes
+pub record TermTable (rule table : List ℕ) : Type 0 where
+  pub room : TableRoom rule table
+  pub rows : TermRows rule table (nodeCount rule)
 
 -- ---- what a descent from a node to its children finds, and what it leaves in the table
 

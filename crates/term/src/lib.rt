@@ -12,10 +12,12 @@ ghost use Rattle.formula.specs.Rule.{nodeCount};
 ghost use Rattle.formula.specs.Rule;
 ghost use Rattle.formula.specs.Limits.{maxNodes, propositions};
 ghost use Rattle.formula.specs.Formula.{Formula, build, tree, formula, InRange};
-ghost use Rattle.term.specs.Limits.{maxTerms, tablePlaces};
+ghost use Rattle.term.specs.Limits.{maxTerms, rowPlaces};
 ghost use Rattle.term.specs.Term.{cover, terms};
 ghost use Rattle.term.specs.Size.{sizeCheck, sizesChecked, Ready};
-ghost use Rattle.term.specs.Memory.{IsPacked, IsTerms, IsCover, TermRows, Kept, FoundCover, StoresRow, Keeps, coverBound, BoundedBelow};
+ghost use Rattle.term.specs.Memory.{IsPacked, IsTerms, IsCover, CoverOfPair, TermsOfPair};
+ghost use Rattle.term.specs.Memory.{TableRoom, TermTable, Kept, FoundCover, StoresRow, Keeps};
+ghost use Rattle.term.specs.Memory.{coverBound, BoundedBelow};
 
 // The number of document 01 by which a rule with too many terms or cover sets is refused.
 pub const TOO_MANY_TERMS: u8 = 20;
@@ -26,7 +28,7 @@ pub const MAX_TERMS: usize = 64;
 // A node's row in the table: how many terms it has, then these.
 pub const ROW_PLACES: usize = MAX_TERMS + 1;
 
-// A row for each node.
+// A row for each node of the largest rule.
 pub const TABLE_PLACES: usize = formula::MAX_NODES * ROW_PLACES;
 
 // A packed term: obligations * 65536 + must * 256 + must_not.
@@ -96,7 +98,8 @@ fn union(a: Terms, b: Terms) -> Terms
 // b together with the joins of own and each of a.
 fn until(a: Terms, b: Terms, own: Term) -> Terms
     requires { ⌜ (a .count ≤ maxTerms) × (b .count ≤ maxTerms) ⌝ }
-    ensures { λ r. ⌜ ((us vs : List ℕ) → IsPacked a us → IsPacked b vs → IsPacked r (unionN vs (insertProductN us (own ∷ []) []))) ⌝ }
+    ensures { λ r. ⌜ ((us vs : List ℕ) → IsPacked a us → IsPacked b vs
+        → IsPacked r (unionN vs (insertProductN us (own ∷ []) []))) ⌝ }
 {
     let na = a.count;
     let nb = b.count;
@@ -113,7 +116,8 @@ fn until(a: Terms, b: Terms, own: Term) -> Terms
 // The joins of each of b and each of a together with own: that list may have one member more than MAX_TERMS.
 fn release(a: Terms, b: Terms, own: Term) -> Terms
     requires { ⌜ (a .count ≤ maxTerms) × (b .count ≤ maxTerms) ⌝ }
-    ensures { λ r. ⌜ ((us vs : List ℕ) → IsPacked a us → IsPacked b vs → IsPacked r (insertProductN vs (unionN us (own ∷ [])) [])) ⌝ }
+    ensures { λ r. ⌜ ((us vs : List ℕ) → IsPacked a us → IsPacked b vs
+        → IsPacked r (insertProductN vs (unionN us (own ∷ [])) [])) ⌝ }
 {
     let na = a.count;
     let nb = b.count;
@@ -156,7 +160,7 @@ fn cover_leaf(kind: u8, n: usize) -> Terms
 fn cover_pair(kind: u8, a: Terms, b: Terms) -> Terms
     requires { ⌜ (3 < kind) × (kind < 6) ⌝ }
     ensures { λ r. ⌜ (r .count ≤ maxTerms → (a .count ≤ maxTerms) × (b .count ≤ maxTerms)) ⌝ }
-    ensures { λ r. ⌜ (a .count ≤ maxTerms → b .count ≤ maxTerms → (n p : ℕ) (f g : Formula) → IsCover a (cover f) → IsCover b (cover g) → IsCover r (cover (build kind n p f g))) ⌝ }
+    ensures { λ r. ⌜ (a .count ≤ maxTerms → b .count ≤ maxTerms → CoverOfPair kind a b r) ⌝ }
 {
     let na = a.count;
     if MAX_TERMS < na {
@@ -207,12 +211,12 @@ fn terms_leaf(kind: u8, p: usize) -> Terms
     one(bit(p))
 }
 
-// The terms of an and, an or, an until, a release by those of its children; a count above MAX_TERMS is handed on. A kind that
-// there is not has none.
+// The terms of an and, an or, an until, a release by those of its children; a count above MAX_TERMS is handed on. A
+// kind that there is not has none.
 fn terms_pair(kind: u8, n: usize, a: Terms, b: Terms) -> Terms
     requires { ⌜ (n < maxNodes) × (3 < kind) × ((kind ≡ 6) → ⊥) ⌝ }
     ensures { λ r. ⌜ (r .count ≤ maxTerms → (a .count ≤ maxTerms) × (b .count ≤ maxTerms)) ⌝ }
-    ensures { λ r. ⌜ (a .count ≤ maxTerms → b .count ≤ maxTerms → (p : ℕ) (f g : Formula) → InRange f → InRange g → IsTerms a (terms f) → IsTerms b (terms g) → IsTerms r (terms (build kind n p f g))) ⌝ }
+    ensures { λ r. ⌜ (a .count ≤ maxTerms → b .count ≤ maxTerms → TermsOfPair kind n a b r) ⌝ }
 {
     let na = a.count;
     if MAX_TERMS < na {
@@ -240,7 +244,7 @@ fn terms_pair(kind: u8, n: usize, a: Terms, b: Terms) -> Terms
 
 // The row of node n: the count of its terms, and these where they fit.
 fn store_row(table: &mut [u64], n: usize, ts: Terms)
-    requires { ⌜ (n < maxNodes) × (length (now table) ≡ tablePlaces) ⌝ }
+    requires { ⌜ (n < maxNodes) × (suc n * rowPlaces ≤ length (now table)) ⌝ }
     ensures { λ _. ⌜ StoresRow (now (table .entry)) n ts (now (table .exit)) ⌝ }
 {
     let at = n * ROW_PLACES;
@@ -258,7 +262,7 @@ fn store_row(table: &mut [u64], n: usize, ts: Terms)
 
 // The terms of node n, and in the table the rows of n and of all nodes below it.
 fn keep_terms(rule: &[u8], n: usize, table: &mut [u64]) -> Terms
-    requires { ⌜ Ready (now rule) n × (length (now table) ≡ tablePlaces) ⌝ }
+    requires { ⌜ Ready (now rule) n × TableRoom (now rule) (now table) ⌝ }
     ensures { λ r. ⌜ Keeps (now (rule .entry)) n (now (table .entry)) r (now (table .exit)) ⌝ }
 {
     let kind = formula::kind_of(rule, n);
@@ -290,7 +294,8 @@ fn clip(x: usize) -> usize
 // The bound of the cover of a node above kind 3, of an and, an or by those of its children.
 fn bound_pair(kind: u8, a: usize, b: usize) -> usize
     requires { ⌜ (a ≤ suc maxTerms) × (b ≤ suc maxTerms) ⌝ }
-    ensures { λ r. ⌜ ((n p : ℕ) (f g : Formula) → a ≡ coverBound f → b ≡ coverBound g → r ≡ coverBound (build kind n p f g)) ⌝ }
+    ensures { λ r. ⌜ ((n p : ℕ) (f g : Formula) → a ≡ coverBound f → b ≡ coverBound g
+        → r ≡ coverBound (build kind n p f g)) ⌝ }
 {
     if kind == formula::AND {
         return clip(a * b);
@@ -331,7 +336,8 @@ fn cover_bounds(rule: &[u8], n: usize) -> [usize; formula::MAX_NODES]
 
 // 20 for node n, the nodes below which are no 20. Its cover is worked out only where the bound does not settle it.
 fn check_size(rule: &[u8], n: usize, table: &[u64], bound: usize) -> Checked
-    requires { ⌜ Ready (now rule) n × (lowest (sizeCheck (now rule)) n ≡ fine) × (length (now table) ≡ tablePlaces) × Kept (now rule) (now table) n × (bound ≡ coverBound (tree (now rule) n)) ⌝ }
+    requires { ⌜ Ready (now rule) n × (lowest (sizeCheck (now rule)) n ≡ fine) × TableRoom (now rule) (now table)
+        × Kept (now rule) (now table) n × (bound ≡ coverBound (tree (now rule) n)) ⌝ }
     ensures { λ r. ⌜ answer r ≡ sizeCheck (now (rule .entry)) n ⌝ }
 {
     let terms = table[n * ROW_PLACES] as usize;
@@ -351,7 +357,8 @@ fn check_size(rule: &[u8], n: usize, table: &[u64], bound: usize) -> Checked
 
 // 20 for all n nodes.
 fn check_sizes(rule: &[u8], n: usize, table: &[u64]) -> Checked
-    requires { ⌜ (n ≡ nodeCount (now rule)) × (Rule.checked (now rule) ≡ fine) × (length (now table) ≡ tablePlaces) × ((k : ℕ) → k < n → Kept (now rule) (now table) k) ⌝ }
+    requires { ⌜ (n ≡ nodeCount (now rule)) × (Rule.checked (now rule) ≡ fine) × TableRoom (now rule) (now table)
+        × ((k : ℕ) → k < n → Kept (now rule) (now table) k) ⌝ }
     ensures { λ r. ⌜ answer r ≡ lowest (sizeCheck (now (rule .entry))) n ⌝ }
 {
     let bounds = cover_bounds(rule, n);
@@ -368,9 +375,9 @@ fn check_sizes(rule: &[u8], n: usize, table: &[u64]) -> Checked
 
 // The terms of all nodes in the table, or 20 at the lowest node that has too many.
 pub fn tabulate(rule: &[u8], table: &mut [u64]) -> Checked
-    requires { ⌜ (Rule.checked (now rule) ≡ fine) × (length (now table) ≡ tablePlaces) ⌝ }
+    requires { ⌜ (Rule.checked (now rule) ≡ fine) × TableRoom (now rule) (now table) ⌝ }
     ensures { λ r. ⌜ answer r ≡ lowest (sizeCheck (now (rule .entry))) (nodeCount (now (rule .entry))) ⌝ }
-    ensures { λ r. ⌜ (answer r ≡ fine → TermRows (now (rule .entry)) (now (table .exit)) (nodeCount (now (rule .entry)))) ⌝ }
+    ensures { λ r. ⌜ (answer r ≡ fine → TermTable (now (rule .entry)) (now (table .exit))) ⌝ }
 {
     let n = rule.len() / 3;
     keep_terms(rule, n - 1, table);

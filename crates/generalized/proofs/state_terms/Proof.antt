@@ -22,7 +22,7 @@ slice-write-product c = search needs
 loop-holds : tie.Need-loop-holds Inv-loop μ-loop
 loop-holds c =
     let s = c .before .before .before .before in
-    multiply-begins _ _ _ (s .args .product .now) _ (omega (arith, most-nodes _ (s .pre .0))) (s .pre .3) (s .pre .4)
+    multiply-begins _ _ _ (s .args .product .now) _ (omega (arith, most-nodes _ (s .pre .0))) (s .pre .2) (s .pre .3)
 
 has-requires : tie.Need-has-requires Inv-loop μ-loop
 has-requires c κs = search needs
@@ -42,7 +42,7 @@ times-requires : tie.Need-times-requires Inv-loop μ-loop
 times-requires c κs =
     let at = c .before .before .before .before .before in
     let s = at .before .before .before .before .before in
-    (omega arith, at .loop .inv .fits, at .loop .inv .room, at .loop .inv .beside, factor-of _ _ (at .loop .k) (s .pre .0) (s .pre .1) (omega arith) (s .pre .2 _ (omega arith)))
+    (omega arith, at .loop .inv .fits, at .loop .inv .room, at .loop .inv .beside, factor-of _ _ (at .loop .k) (s .pre .0) (s .pre .1) (omega arith))
 
 same-length : tie.Need-same-length Inv-loop μ-loop
 same-length c = search needs
@@ -56,7 +56,7 @@ returns c =
     let test = call .before .before .before in
     let at = test .before .before .before in
     let s = at .before .before .before .before .before in
-    multiply-over _ _ _ _ _ _ (at .loop .k) (omega arith) (at .loop .inv) (λ j lt. in-range _ (s .pre .0) j (omega arith)) _ (s .pre .2 _ (omega arith)) (sym (test .before .has .ensures) ∙ not-false _ (test .if1 .left)) _ _ (call .times .kept .1 .1 .0) (call .times .ensures) refl (c .if2 .taken)
+    multiply-over _ _ _ _ _ _ (at .loop .k) (omega arith) (at .loop .inv) (λ j lt. in-range _ (s .pre .0) j (omega arith)) _ (s .pre .1 .rows _ (omega arith)) (sym (test .before .has .ensures) ∙ not-false _ (test .if1 .left)) _ _ (call .times .kept .1 .1 .0) (call .times .ensures) refl (c .if2 .taken)
 
 add-k-2 : tie.Need-add-k-2 Inv-loop μ-loop
 add-k-2 c = search needs
@@ -70,7 +70,7 @@ loop-again-2 c =
     let test = call .before .before .before in
     let at = test .before .before .before in
     let s = at .before .before .before .before .before in
-    multiply-steps _ _ _ _ _ _ (at .loop .k) (omega arith) (at .loop .inv) (λ j lt. in-range _ (s .pre .0) j (omega arith)) _ (s .pre .2 _ (omega arith)) (sym (test .before .has .ensures) ∙ not-false _ (test .if1 .left)) _ _ (call .times .kept .1 .1 .0) (call .times .ensures) (call .times .kept .1 .1 .1 .1 .0) (c .if2 .left)
+    multiply-steps _ _ _ _ _ _ (at .loop .k) (omega arith) (at .loop .inv) (λ j lt. in-range _ (s .pre .0) j (omega arith)) _ (s .pre .1 .rows _ (omega arith)) (sym (test .before .has .ensures) ∙ not-false _ (test .if1 .left)) _ _ (call .times .kept .1 .1 .0) (call .times .ensures) (call .times .kept .1 .1 .1 .1 .0) (c .if2 .left)
 
 same-length-3 : tie.Need-same-length-3 Inv-loop μ-loop
 same-length-3 c = search needs

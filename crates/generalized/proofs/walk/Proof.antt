@@ -22,20 +22,20 @@ untils-of-requires c κs = bytes-fine _ (c .before .before .before .before .befo
 start-requires : tie.Need-start-requires Inv-loop μ-loop
 start-requires c κs =
     let s = c .before .before .before .before .before .before .before in
-    (s .pre .0, s .pre .3)
+    (s .pre .0, s .pre .2)
 
 loop-holds : tie.Need-loop-holds Inv-loop μ-loop
 loop-holds c =
     let begun = c .before .before .start in
     let s = c .before .before .before .before .before .before .before .before .before .before in
-    walk-begins _ _ _ _ _ (begun .ensures .0) (begun .ensures .1) (begun .kept .1 .0 ∙ s .pre .3) (s .pre .4) (s .pre .5)
+    walk-begins _ _ _ _ _ (begun .ensures .0) (begun .ensures .1) (begun .kept .1 .0 ∙ s .pre .2) (s .pre .3) (s .pre .4)
 
 walk-state-requires : tie.Need-walk-state-requires Inv-loop μ-loop
 walk-state-requires c κs =
     let at = c .before .before .before .before .before in
     let untils = at .before .before .before .before .before in
     let s = untils .before .before .before .before .before .before in
-    (s .pre .0, record { accepted = bytes-fine _ (s .pre .0); places = s .pre .1; rows = s .pre .2; untils = untils .untils-of .ensures }, c .before .before .if1 .taken, at .loop .inv .room)
+    (s .pre .0, record { accepted = bytes-fine _ (s .pre .0); terms = s .pre .1; untils = untils .untils-of .ensures }, c .before .before .if1 .taken, at .loop .inv .room)
 
 enum-known-step : tie.Need-enum-known-step Inv-loop μ-loop
 enum-known-step c = search needs

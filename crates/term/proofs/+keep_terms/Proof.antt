@@ -56,7 +56,7 @@ keep-terms-terms-leaf-requires t c κs =
 keep-terms-store-row-requires : (t : ℕ) → keep-terms-lts.Need-store-row-requires (claims t) (keep-terms-at t) keep-terms.Post
 keep-terms-store-row-requires t c κs =
     let s = c .before .before .before .before .before .before .before in
-    (ready-small _ _ (s .pre .1 .0), search needs)
+    (ready-small _ _ (s .pre .1 .0), omega (arith, s .pre .1 .0 .inside))
 
 keep-terms-same-length : (t : ℕ) → keep-terms-lts.Need-same-length (claims t) (keep-terms-at t) keep-terms.Post
 keep-terms-same-length t c = search needs
@@ -90,7 +90,7 @@ keep-terms-cover-of-requires t c κs =
 keep-terms-store-row-requires-2 : (t : ℕ) → keep-terms-lts.Need-store-row-requires-2 (claims t) (keep-terms-at t) keep-terms.Post
 keep-terms-store-row-requires-2 t c κs =
     let s = c .before .before .before .before .before .before .before .before .before .before .before .before in
-    (ready-small _ _ (s .pre .1 .0), search needs)
+    (ready-small _ _ (s .pre .1 .0), omega (arith, s .pre .1 .0 .inside))
 
 keep-terms-same-length-2 : (t : ℕ) → keep-terms-lts.Need-same-length-2 (claims t) (keep-terms-at t) keep-terms.Post
 keep-terms-same-length-2 t c = search needs
@@ -131,7 +131,7 @@ keep-terms-terms-pair-requires t c κs =
 keep-terms-store-row-requires-3 : (t : ℕ) → keep-terms-lts.Need-store-row-requires-3 (claims t) (keep-terms-at t) keep-terms.Post
 keep-terms-store-row-requires-3 t c κs =
     let s = c .before .before .before .before .before .before .before .before .before .before .before .before .before .before .before .before .before in
-    (ready-small _ _ (s .pre .1 .0), search needs)
+    (ready-small _ _ (s .pre .1 .0), omega (arith, s .pre .1 .0 .inside))
 
 keep-terms-same-length-3 : (t : ℕ) → keep-terms-lts.Need-same-length-3 (claims t) (keep-terms-at t) keep-terms.Post
 keep-terms-same-length-3 t c = search needs

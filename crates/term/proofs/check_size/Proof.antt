@@ -18,7 +18,7 @@ mul-terms-2 : tie.Need-mul-terms-2
 mul-terms-2 c = record { fits = omega (arith, ready-small _ _ (c .before .before .pre .0)) }
 
 shared-slice-read-terms : tie.Need-shared-slice-read-terms
-shared-slice-read-terms c = omega (arith, ready-small _ _ (c .before .before .before .pre .0))
+shared-slice-read-terms c = omega (arith, c .before .before .before .pre .0 .inside)
 
 returns : tie.Need-returns
 returns c =
