@@ -17,50 +17,6 @@ above n p f g k lt =
     rw e
 
 module _ (n p : ℕ) (f g : Formula) (k : ℕ) where
-  pub cover-above : 8 < k → map packSet (cover (build k n p f g)) ≡ []
-  unfolding cover
-  cover-above lt = rw (above n p f g k lt)
-
-  pub of-above : 8 < k → map pack (terms (build k n p f g)) ≡ []
-  unfolding terms
-  of-above lt = rw (above n p f g k lt)
-
-  pub cover-false : k ≡ 0 → map packSet (cover (build k n p f g)) ≡ []
-  unfolding cover
-  cover-false e = rw e
-
-  pub cover-true : k ≡ 1 → map packSet (cover (build k n p f g)) ≡ 0 ∷ []
-  unfolding cover
-  cover-true e = rw e
-
-  pub cover-and : k ≡ 4 → map packSet (cover (build k n p f g)) ≡ insertProductN (map packSet (cover f)) (map packSet (cover g)) []
-  unfolding cover
-  cover-and e = rw e (pack-unions (cover f) (cover g))
-
-  pub cover-or : k ≡ 5 → map packSet (cover (build k n p f g)) ≡ unionN (map packSet (cover f)) (map packSet (cover g))
-  unfolding cover
-  cover-or e = rw e (pack-union (cover f) (cover g))
-
-  pub of-false : k ≡ 0 → map pack (terms (build k n p f g)) ≡ []
-  unfolding terms
-  of-false e = rw e
-
-  pub of-true : k ≡ 1 → map pack (terms (build k n p f g)) ≡ 0 ∷ []
-  unfolding terms
-  of-true e = rw e
-
-  pub of-proposition : k ≡ 2 → map pack (terms (build k n p f g)) ≡ 2 ^ p * 256 ∷ []
-  unfolding terms
-  of-proposition e =
-      let q : pack (term (2 ^ p) 0 0) ≡ 2 ^ p * 256 = omega arith in
-      rw (e, q)
-
-  pub of-negated-proposition : k ≡ 3 → map pack (terms (build k n p f g)) ≡ 2 ^ p ∷ []
-  unfolding terms
-  of-negated-proposition e =
-      let q : pack (term 0 (2 ^ p) 0) ≡ 2 ^ p = omega arith in
-      rw (e, q)
-
   pub of-next : k ≡ 6 → map pack (terms (build k n p f g)) ≡ map packSet (cover f)
   unfolding terms
   of-next e = rw e (pack-owing (cover f))

@@ -253,11 +253,8 @@ fn store_row(table: &mut [u64], n: usize, ts: Terms)
     if MAX_TERMS < count {
         return;
     }
-    let mut k = 0;
-    while k < count {
-        table[at + 1 + k] = ts.items[k];
-        k += 1;
-    }
+    let from = at + 1;
+    answer::copy_words(&mut table[from..], &ts.items, count);
 }
 
 // The terms of node n, and in the table the rows of n and of all nodes below it.
