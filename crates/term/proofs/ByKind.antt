@@ -1,42 +1,23 @@
--- The packed cover and terms of a node, by its kind.
+-- The packed cover and terms of a node, by its kind, where they do not follow by computing.
 -- Assumes nothing.
 use mathlib.Core.Path.{_≡_, refl}
 use mathlib.Core.List.{[], _∷_, map}
-use Prim.Native.Nat.{ℕ, zero, suc, _-_, _*_, _^_, _<_, _≤_}
+use Prim.Native.Nat.{ℕ, zero, suc, _-_, _^_, _<_, _≤_}
 use native.Mathlib.Omega.{arith}
-use Rattle.sets.specs.Sets.{unionN, insertProductN}
-use Rattle.formula.specs.Formula.{Formula, bottom, build, InRange}
-use Rattle.term.specs.Term.{term, cover, terms}
+use Rattle.formula.specs.Formula.{Formula, bottom, build}
+use Rattle.term.specs.Term.{cover, terms}
 use Rattle.term.specs.Memory.{pack, packSet}
-use Rattle.term.proofs.Packing.{pack-unions, pack-union, pack-owing, pack-conjunction, pack-disjunction, pack-until, pack-release}
+use Rattle.term.proofs.Packing.{pack-owing}
 
 -- a kind above 8 builds bottom
-above : (n p : ℕ) (f g : Formula) (k : ℕ) → 8 < k → build k n p f g ≡ bottom
+pub above : (n p : ℕ) (f g : Formula) (k : ℕ) → 8 < k → build k n p f g ≡ bottom
 above n p f g k lt =
     let e : k ≡ suc (suc (suc (suc (suc (suc (suc (suc (suc (k - 9))))))))) = omega arith in
     rw e
 
-module _ (n p : ℕ) (f g : Formula) (k : ℕ) where
-  pub of-next : k ≡ 6 → map pack (terms (build k n p f g)) ≡ map packSet (cover f)
-  unfolding terms
-  of-next e = rw e (pack-owing (cover f))
-
-  module _ (mf : InRange f) (mg : InRange g) where
-    pub of-and : k ≡ 4 → map pack (terms (build k n p f g)) ≡ insertProductN (map pack (terms f)) (map pack (terms g)) []
-    unfolding terms
-    of-and e = rw e (pack-conjunction n f g mf mg)
-
-    pub of-or : k ≡ 5 → map pack (terms (build k n p f g)) ≡ unionN (map pack (terms f)) (map pack (terms g))
-    unfolding terms
-    of-or e = rw e (pack-disjunction n f g mf mg)
-
-    pub of-until : k ≡ 7 → map pack (terms (build k n p f g)) ≡ unionN (map pack (terms g)) (insertProductN (map pack (terms f)) (packSet (2 ^ n) ∷ []) [])
-    unfolding terms
-    of-until e = rw e (pack-until n f g mf mg)
-
-    pub of-release : k ≡ 8 → map pack (terms (build k n p f g)) ≡ insertProductN (map pack (terms g)) (unionN (map pack (terms f)) (packSet (2 ^ n) ∷ [])) []
-    unfolding terms
-    of-release e = rw e (pack-release n f g mf mg)
+pub of-next : (n p : ℕ) (f g : Formula) (k : ℕ) → k ≡ 6 → map pack (terms (build k n p f g)) ≡ map packSet (cover f)
+unfolding terms
+of-next n p f g k e = rw e (pack-owing (cover f))
 
 pub cover-own : (n p : ℕ) (f g : Formula) (k : ℕ) → (k ≡ 0 → ⊥) → (k ≡ 1 → ⊥) → (k ≡ 4 → ⊥) → (k ≡ 5 → ⊥) → k ≤ 8 → map packSet (cover (build k n p f g)) ≡ packSet (2 ^ n) ∷ []
 unfolding cover

@@ -2,7 +2,9 @@
 -- Assumes nothing.
 use borrow.Author.Needs.{needs}
 use native.Mathlib.Omega.{arith}
-use Rattle.term.proofs.ByKind.{cover-and, cover-or}
+use mathlib.Core.Path.{_≡_}
+use Rattle.term.specs.Term.{cover}
+use Rattle.term.proofs.Packing.{pack-unions, pack-union}
 use Rattle.term.proofs.cover_pair.Statement.{statement}
 use Rattle.term.proofs.cover_pair.Tie as tie
 
@@ -19,14 +21,17 @@ union-requires : tie.Need-union-requires
 union-requires c κs = search needs
 
 returns-3 : tie.Need-returns-3
+unfolding cover
 returns-3 c =
     let e = c .before .before in
-    (λ le. (e .before .if1 .left, e .if2 .left), λ p q n m f g a b. rw (cover-and n m f g _ (c .before .if3 .taken)) (c .product .ensures _ _ a b))
+    (λ le. (e .before .if1 .left, e .if2 .left), λ p q n m f g a b. rw (c .before .if3 .taken, pack-unions (cover f) (cover g)) (c .product .ensures _ _ a b))
 
 returns-4 : tie.Need-returns-4
+unfolding cover
 returns-4 c =
     let e = c .before .before in
-    (λ le. (e .before .if1 .left, e .if2 .left), λ p q n m f g a b. rw (cover-or n m f g (e .before .before .args .kind) (omega arith)) (c .union .ensures _ _ a b))
+    let is-or : e .before .before .args .kind ≡ 5 = omega arith in
+    (λ le. (e .before .if1 .left, e .if2 .left), λ p q n m f g a b. rw (is-or, pack-union (cover f) (cover g)) (c .union .ensures _ _ a b))
 
 pub cover-pair-spec : {M : Type 1} → statement M
 cover-pair-spec =

@@ -2,7 +2,9 @@
 -- on. Assumes nothing.
 use borrow.Author.Needs.{needs}
 use native.Mathlib.Omega.{arith}
-use Rattle.term.proofs.ByKind.{of-and, of-or, of-until, of-release, of-above, no-kind}
+use Rattle.term.specs.Term.{terms}
+use Rattle.term.proofs.Packing.{pack-conjunction, pack-disjunction, pack-until, pack-release}
+use Rattle.term.proofs.ByKind.{above, no-kind}
 use Rattle.term.proofs.terms_pair.Statement.{statement}
 use Rattle.term.proofs.terms_pair.Tie as tie
 
@@ -16,17 +18,19 @@ product-requires : tie.Need-product-requires
 product-requires c κs = search needs
 
 returns-3 : tie.Need-returns-3
+unfolding terms
 returns-3 c =
     let e = c .before .before in
-    (λ le. (e .before .if1 .left, e .if2 .left), λ p q m f g mf mg a b. rw (of-and _ m f g _ mf mg (c .before .if3 .taken)) (c .product .ensures _ _ a b))
+    (λ le. (e .before .if1 .left, e .if2 .left), λ p q m f g mf mg a b. rw (c .before .if3 .taken, pack-conjunction 0 f g mf mg) (c .product .ensures _ _ a b))
 
 union-requires : tie.Need-union-requires
 union-requires c κs = search needs
 
 returns-4 : tie.Need-returns-4
+unfolding terms
 returns-4 c =
     let e = c .before .before .before in
-    (λ le. (e .before .if1 .left, e .if2 .left), λ p q m f g mf mg a b. rw (of-or _ m f g _ mf mg (c .before .if4 .taken)) (c .union .ensures _ _ a b))
+    (λ le. (e .before .if1 .left, e .if2 .left), λ p q m f g mf mg a b. rw (c .before .if4 .taken, pack-disjunction 0 f g mf mg) (c .union .ensures _ _ a b))
 
 owe-requires : tie.Need-owe-requires
 owe-requires c κs = search needs
@@ -35,9 +39,10 @@ until-requires : tie.Need-until-requires
 until-requires c κs = search needs
 
 returns-5 : tie.Need-returns-5
+unfolding terms
 returns-5 c =
     let e = c .before .before .before .before .before in
-    (λ le. (e .before .if1 .left, e .if2 .left), λ p q m f g mf mg a b. rw (of-until _ m f g _ mf mg (c .before .before .if5 .taken), ← c .before .owe .ensures) (c .until .ensures _ _ a b))
+    (λ le. (e .before .if1 .left, e .if2 .left), λ p q m f g mf mg a b. rw (c .before .before .if5 .taken, pack-until _ f g mf mg, ← c .before .owe .ensures) (c .until .ensures _ _ a b))
 
 owe-requires-2 : tie.Need-owe-requires-2
 owe-requires-2 c κs = search needs
@@ -49,17 +54,19 @@ none-requires : tie.Need-none-requires
 none-requires c κs = search needs
 
 returns-6 : tie.Need-returns-6
+unfolding terms
 returns-6 c =
     let e = c .before .before .before .before .before .before in
-    (λ le. (e .before .if1 .left, e .if2 .left), λ p q m f g mf mg a b. rw (of-release _ m f g _ mf mg (c .before .before .if6 .taken), ← c .before .owe2 .ensures) (c .release .ensures _ _ a b))
+    (λ le. (e .before .if1 .left, e .if2 .left), λ p q m f g mf mg a b. rw (c .before .before .if6 .taken, pack-release _ f g mf mg, ← c .before .owe2 .ensures) (c .release .ensures _ _ a b))
 
 returns-7 : tie.Need-returns-7
+unfolding terms
 returns-7 c =
     let w = c .before .before in
     let e = w .before .before .before in
     let pre = e .before .before .pre in
     let k = no-kind (pre .1) (w .before .before .if3 .left) (w .before .if4 .left) (pre .2) (w .if5 .left) (c .before .if6 .left) in
-    (λ le. (e .before .if1 .left, e .if2 .left), λ p q m f g mf mg a b. rw (of-above _ m f g _ k) (c .none .ensures))
+    (λ le. (e .before .if1 .left, e .if2 .left), λ p q m f g mf mg a b. rw (above _ m f g _ k) (c .none .ensures))
 
 pub terms-pair-spec : {M : Type 1} → statement M
 terms-pair-spec =
