@@ -183,10 +183,7 @@ fn cover_of(rule: &[u8], n: usize) -> Terms
     ensures { λ r. ⌜ FoundCover (now (rule .entry)) n r ⌝ }
 {
     let kind = formula::kind_of(rule, n);
-    if kind < formula::AND {
-        return cover_leaf(kind, n);
-    }
-    if formula::OR < kind {
+    if kind < formula::AND || formula::OR < kind {
         return cover_leaf(kind, n);
     }
     let a = cover_of(rule, formula::left_of(rule, n));

@@ -1,9 +1,11 @@
 -- `term::cover_of` meets its contract: an and, an or by the covers of its children, whose numbers are lower; every other
 -- node by itself. Assumes nothing.
 use borrow.Author.Needs.{needs}
+use borrow.Author.Tests.{ltb-true}
 use borrow.Fn.Kinds.{In}
 use borrow.Fn.PlainCycle.{Measures, is, falls, and}
 use mathlib.Core.Path.{refl}
+use mathlib.Core.Logic.{inl, inr}
 use native.Mathlib.Omega.{arith}
 use Prim.Native.Nat.{ℕ, _<_}
 use Rattle.formula.proofs.kind_of.Reads as kind-of-reads
@@ -39,25 +41,17 @@ cover-of-kind-of-requires t c κs = search needs
 
 cover-of-cover-leaf-requires : (t : ℕ) → cover-of-lts.Need-cover-leaf-requires (claims t) (cover-of-at t) cover-of.Post
 cover-of-cover-leaf-requires t c κs =
-    let ready = c .before .before .before .pre .1 in
-    (ready-small ready, λ e. omega arith, λ e. omega arith)
+    let small = ready-small (c .before .before .before .pre .1) in
+    elim (c .if1 .came) [
+      | inl low ↦ (small, λ e. omega arith, λ e. omega arith)
+      | inr (_, high) ↦ (let lt = ltb-true _ (c .before .kind-of .result) (high .taken) in (small, λ e. omega arith, λ e. omega arith))
+    ]
 
 cover-of-returns : (t : ℕ) → cover-of-lts.Need-returns (claims t) (cover-of-at t) cover-of.Post
 cover-of-returns t c =
     let k = c .before .before in
     let ready = k .before .before .pre .1 in
     found-cover _ _ (of-leaf ready (k .kind-of .ensures) (λ f. IsCover (c .cover-leaf .result) (cover f)) refl (c .cover-leaf .ensures _))
-
-cover-of-cover-leaf-requires-2 : (t : ℕ) → cover-of-lts.Need-cover-leaf-requires-2 (claims t) (cover-of-at t) cover-of.Post
-cover-of-cover-leaf-requires-2 t c κs =
-    let ready = c .before .before .before .before .pre .1 in
-    (ready-small ready, λ e. omega arith, λ e. omega arith)
-
-cover-of-returns-2 : (t : ℕ) → cover-of-lts.Need-returns-2 (claims t) (cover-of-at t) cover-of.Post
-cover-of-returns-2 t c =
-    let k = c .before .before .before in
-    let ready = k .before .before .pre .1 in
-    found-cover _ _ (of-leaf ready (k .kind-of .ensures) (λ f. IsCover (c .cover-leaf2 .result) (cover f)) refl (c .cover-leaf2 .ensures _))
 
 cover-of-left-of-requires : (t : ℕ) → cover-of-lts.Need-left-of-requires (claims t) (cover-of-at t) cover-of.Post
 cover-of-left-of-requires t c κs = search needs
@@ -82,8 +76,8 @@ cover-of-cover-of-requires-2 t c κs =
 cover-of-cover-pair-requires : (t : ℕ) → cover-of-lts.Need-cover-pair-requires (claims t) (cover-of-at t) cover-of.Post
 cover-of-cover-pair-requires t c κs = search needs
 
-cover-of-returns-3 : (t : ℕ) → cover-of-lts.Need-returns-3 (claims t) (cover-of-at t) cover-of.Post
-cover-of-returns-3 t c =
+cover-of-returns-2 : (t : ℕ) → cover-of-lts.Need-returns-2 (claims t) (cover-of-at t) cover-of.Post
+cover-of-returns-2 t c =
     let r = c .before in
     let l = r .before .before in
     let k = l .before .before .before .before in
@@ -102,11 +96,9 @@ pub +cover-of-spec : {M : Type 1} → statement M
     (cover-of-kind-of-requires t)
     (cover-of-cover-leaf-requires t)
     (cover-of-returns t)
-    (cover-of-cover-leaf-requires-2 t)
-    (cover-of-returns-2 t)
     (cover-of-left-of-requires t)
     (cover-of-cover-of-requires t)
     (cover-of-right-of-requires t)
     (cover-of-cover-of-requires-2 t)
     (cover-of-cover-pair-requires t)
-    (cover-of-returns-3 t)
+    (cover-of-returns-2 t)
