@@ -6,13 +6,12 @@ use mathlib.Core.Bool.{true}
 use Prim.Native.Nat.{ℕ, zero, suc, _+_, _*_, _≤_, _<_, min}
 use native.Mathlib.Omega.{arith}
 use native.Mathlib.Nat.{mul-le-mul, one-le-mul, mul-le-mul-left, mul-le-mul-right}
-use lib.ListN.{length, set, length-set}
+use lib.ListN.{length, set}
 use lib.Seq.{getD-set-same, getD-set-other}
 use lib.Dec.{ltb}
 use lib.Bits.{bitOr}
 use borrow.Author.Count.{below-more}
 use Rattle.sets.proofs.Inserts.{union-shorter, product-shorter}
-use Rattle.formula.specs.Limits.{maxNodes}
 use Rattle.formula.specs.Formula.{Formula, bottom, top, proposition, negatedProposition, conjunction, disjunction, next, until, release, build, tree}
 use Rattle.term.specs.Limits.{maxTerms}
 use Rattle.term.specs.Term.{cover}
@@ -72,15 +71,8 @@ bound-leaf n p f g (suc (suc (suc (suc (suc (suc (suc zero))))))) a b = refl
 bound-leaf n p f g (suc (suc (suc (suc (suc (suc (suc (suc zero)))))))) a b = refl
 bound-leaf n p f g (suc (suc (suc (suc (suc (suc (suc (suc (suc k))))))))) a b = refl
 
--- a loop over n nodes that stands at i: the bounds of the first i nodes are there
-pub record Bounding (rule : List ℕ) (n : ℕ) (bounds : List ℕ) (i : ℕ) : Type 0 where
-  pub within : i ≤ n
-  pub size : length bounds ≡ maxNodes
-  pub done : BoundedBelow rule i bounds
-
-pub bounds-step : (rule : List ℕ) (n : ℕ) (bounds : List ℕ) (i v : ℕ) → i < n → n ≤ maxNodes → Bounding rule n bounds i → v ≡ coverBound (tree rule i) → Bounding rule n (set bounds i v) (i + 1)
-bounds-step rule n bounds i v lt small inv e = record {
-  within = omega arith;
-  size = length-set bounds i v ∙ inv .size;
-  done = below-more _ i (λ k l. getD-set-other bounds i k v 0 (λ f. omega arith) ∙ inv .done k l) (getD-set-same bounds i v 0 (omega (arith, inv .size)) ∙ e);
-}
+-- the bound of one node more
+pub bounded-more : (rule bounds : List ℕ) (i v : ℕ) → i < length bounds → BoundedBelow rule i bounds → v ≡ coverBound (tree rule i)
+    → BoundedBelow rule (i + 1) (set bounds i v)
+bounded-more rule bounds i v lt done e =
+    below-more _ i (λ k l. getD-set-other bounds i k v 0 (λ f. omega arith) ∙ done k l) (getD-set-same bounds i v 0 lt ∙ e)

@@ -314,20 +314,6 @@ fn cover_bound(rule: &[u8], n: usize, bounds: &[usize; formula::MAX_NODES]) -> u
     bound_pair(kind, a, b)
 }
 
-// The bounds of the covers of all n nodes.
-fn cover_bounds(rule: &[u8], n: usize) -> [usize; formula::MAX_NODES]
-    requires { ⌜ (n ≡ nodeCount (now rule)) × (Rule.checked (now rule) ≡ fine) ⌝ }
-    ensures { λ r. ⌜ BoundedBelow (now (rule .entry)) n r ⌝ }
-{
-    let mut bounds = [0usize; formula::MAX_NODES];
-    let mut i = 0;
-    while i < n {
-        bounds[i] = cover_bound(rule, i, &bounds);
-        i += 1;
-    }
-    bounds
-}
-
 // 20 for node n, the nodes below which are no 20. Its cover is worked out only where the bound does not settle it.
 fn check_size(rule: &[u8], n: usize, table: &[u64], bound: usize) -> Checked
     requires { ⌜ Ready (now rule) n × (lowest (sizeCheck (now rule)) n ≡ fine) × TableRoom (now rule) (now table)
@@ -349,16 +335,18 @@ fn check_size(rule: &[u8], n: usize, table: &[u64], bound: usize) -> Checked
     Checked::Accepted
 }
 
-// 20 for all n nodes.
+// 20 for all n nodes, with the bounds of their covers.
 fn check_sizes(rule: &[u8], n: usize, table: &[u64]) -> Checked
     requires { ⌜ (n ≡ nodeCount (now rule)) × (Rule.checked (now rule) ≡ fine) × TableRoom (now rule) (now table)
         × ((k : ℕ) → k < n → Kept (now rule) (now table) k) ⌝ }
     ensures { λ r. ⌜ answer r ≡ lowest (sizeCheck (now (rule .entry))) n ⌝ }
 {
-    let bounds = cover_bounds(rule, n);
+    let mut bounds = [0usize; formula::MAX_NODES];
     let mut i = 0;
     while i < n {
-        let size = check_size(rule, i, table, bounds[i]);
+        let bound = cover_bound(rule, i, &bounds);
+        bounds[i] = bound;
+        let size = check_size(rule, i, table, bound);
         if let Checked::Refused(number, place) = size {
             return Checked::Refused(number, place);
         }
