@@ -47,16 +47,14 @@ IsTerms r ts = IsPacked r (map pack ts)
 abbrev pub IsCover : Terms → List ℕ → Type 0
 IsCover r cs = IsPacked r (map packSet cs)
 
--- r is the cover of an and, an or, if a and b are the covers of its two sides
-abbrev pub CoverOfPair : (kind : ℕ) (a b r : Terms) → Type 0
-CoverOfPair kind a b r =
-    (n p : ℕ) (f g : Formula) → IsCover a (cover f) → IsCover b (cover g) → IsCover r (cover (build kind n p f g))
-
--- r has the terms of node n of that kind, if a and b have those of its two sides
-abbrev pub TermsOfPair : (kind n : ℕ) (a b r : Terms) → Type 0
-TermsOfPair kind n a b r =
-    (p : ℕ) (f g : Formula) → InRange f → InRange g → IsTerms a (terms f) → IsTerms b (terms g)
-    → IsTerms r (terms (build kind n p f g))
+-- r is made from a and b, the values of the two sides of node n of that kind: its terms from theirs, and of an and, an
+-- or its cover from theirs; if the count of a or b is above maxTerms, then so is that of r
+pub record FromChildren (kind n : ℕ) (a b r : Terms) : Type 0 where
+  pub handed-on : r .count ≤ maxTerms → (a .count ≤ maxTerms) × (b .count ≤ maxTerms)
+  pub has-terms : a .count ≤ maxTerms → b .count ≤ maxTerms → (p : ℕ) (f g : Formula) → InRange f → InRange g
+      → IsTerms a (terms f) → IsTerms b (terms g) → IsTerms r (terms (build kind n p f g))
+  pub is-cover : a .count ≤ maxTerms → b .count ≤ maxTerms → kind < 6 → (p : ℕ) (f g : Formula)
+      → IsCover a (cover f) → IsCover b (cover g) → IsCover r (cover (build kind n p f g))
 
 -- ---- the terms of all nodes in one table, a row for each node, which begins with how many there are
 

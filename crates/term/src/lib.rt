@@ -15,7 +15,7 @@ ghost use Rattle.formula.specs.Formula.{Formula, build, tree, formula, InRange}
 ghost use Rattle.term.specs.Limits.{maxTerms, rowPlaces};
 ghost use Rattle.term.specs.Term.{cover, terms};
 ghost use Rattle.term.specs.Size.{sizeCheck, sizesChecked, Ready};
-ghost use Rattle.term.specs.Memory.{IsPacked, IsTerms, IsCover, CoverOfPair, TermsOfPair};
+ghost use Rattle.term.specs.Memory.{IsPacked, IsTerms, IsCover, FromChildren};
 ghost use Rattle.term.specs.Memory.{TableRoom, TermTable, Kept, FoundCover, StoresRow, Keeps};
 ghost use Rattle.term.specs.Memory.{coverBound, BoundedBelow};
 
@@ -156,41 +156,6 @@ fn cover_leaf(kind: u8, n: usize) -> Terms
     one(owe(n))
 }
 
-// The cover of an and, an or, by those of its children; a count above MAX_TERMS is handed on.
-fn cover_pair(kind: u8, a: Terms, b: Terms) -> Terms
-    requires { ⌜ (3 < kind) × (kind < 6) ⌝ }
-    ensures { λ r. ⌜ (r .count ≤ maxTerms → (a .count ≤ maxTerms) × (b .count ≤ maxTerms)) ⌝ }
-    ensures { λ r. ⌜ (a .count ≤ maxTerms → b .count ≤ maxTerms → CoverOfPair kind a b r) ⌝ }
-{
-    let na = a.count;
-    if MAX_TERMS < na {
-        return a;
-    }
-    let nb = b.count;
-    if MAX_TERMS < nb {
-        return b;
-    }
-    if kind == formula::AND {
-        product(a, b)
-    } else {
-        union(a, b)
-    }
-}
-
-// The cover of node n, as packed terms with no propositions.
-fn cover_of(rule: &[u8], n: usize) -> Terms
-    requires { ⌜ Ready (now rule) n ⌝ }
-    ensures { λ r. ⌜ FoundCover (now (rule .entry)) n r ⌝ }
-{
-    let kind = formula::kind_of(rule, n);
-    if kind < formula::AND || formula::OR < kind {
-        return cover_leaf(kind, n);
-    }
-    let a = cover_of(rule, formula::left_of(rule, n));
-    let b = cover_of(rule, formula::right_of(rule, n));
-    cover_pair(kind, a, b)
-}
-
 // The terms of a node of kind 0 to 3 whose left byte is p.
 fn terms_leaf(kind: u8, p: usize) -> Terms
     requires { ⌜ (kind < 4) × (1 < kind → p < propositions) ⌝ }
@@ -208,12 +173,11 @@ fn terms_leaf(kind: u8, p: usize) -> Terms
     one(bit(p))
 }
 
-// The terms of an and, an or, an until, a release by those of its children; a count above MAX_TERMS is handed on. A
-// kind that there is not has none.
-fn terms_pair(kind: u8, n: usize, a: Terms, b: Terms) -> Terms
+// The terms of an and, an or, an until, a release by those of its children, and of an and, an or the cover by theirs; a
+// count above MAX_TERMS is handed on. A kind that there is not has none.
+fn from_children(kind: u8, n: usize, a: Terms, b: Terms) -> Terms
     requires { ⌜ (n < maxNodes) × (3 < kind) × ((kind ≡ 6) → ⊥) ⌝ }
-    ensures { λ r. ⌜ (r .count ≤ maxTerms → (a .count ≤ maxTerms) × (b .count ≤ maxTerms)) ⌝ }
-    ensures { λ r. ⌜ (a .count ≤ maxTerms → b .count ≤ maxTerms → TermsOfPair kind n a b r) ⌝ }
+    ensures { λ r. ⌜ FromChildren kind n a b r ⌝ }
 {
     let na = a.count;
     if MAX_TERMS < na {
@@ -237,6 +201,20 @@ fn terms_pair(kind: u8, n: usize, a: Terms, b: Terms) -> Terms
     } else {
         none()
     }
+}
+
+// The cover of node n, as packed terms with no propositions.
+fn cover_of(rule: &[u8], n: usize) -> Terms
+    requires { ⌜ Ready (now rule) n ⌝ }
+    ensures { λ r. ⌜ FoundCover (now (rule .entry)) n r ⌝ }
+{
+    let kind = formula::kind_of(rule, n);
+    if kind < formula::AND || formula::OR < kind {
+        return cover_leaf(kind, n);
+    }
+    let a = cover_of(rule, formula::left_of(rule, n));
+    let b = cover_of(rule, formula::right_of(rule, n));
+    from_children(kind, n, a, b)
 }
 
 // The row of node n: the count of its terms, and these where they fit.
@@ -273,7 +251,7 @@ fn keep_terms(rule: &[u8], n: usize, table: &mut [u64]) -> Terms
         return sets;
     }
     let b = keep_terms(rule, formula::right_of(rule, n), table);
-    let pair = terms_pair(kind, n, a, b);
+    let pair = from_children(kind, n, a, b);
     store_row(table, n, pair);
     pair
 }

@@ -1,7 +1,7 @@
 -- `term::cover_of` meets its contract: an and, an or by the covers of its children, whose numbers are lower; every other
 -- node by itself. Assumes nothing.
 use borrow.Author.Needs.{needs}
-use borrow.Author.Tests.{ltb-true}
+use borrow.Author.Tests.{ltb-true, ltb-false}
 use borrow.Fn.Kinds.{In}
 use borrow.Fn.PlainCycle.{Measures, is, falls, and}
 use mathlib.Core.Path.{refl}
@@ -19,7 +19,7 @@ use Rattle.term.proofs.cover_of.Reads as cover-of
 use Rattle.term.proofs.cover_of.Kinds as cover-of-kinds
 use Rattle.term.proofs.+cover_of.Lts-cover_of as cover-of-lts
 use Rattle.term.proofs.cover_leaf.Reads as cover-leaf-reads
-use Rattle.term.proofs.cover_pair.Reads as cover-pair-reads
+use Rattle.term.proofs.from_children.Reads as from-children-reads
 use Rattle.term.proofs.+cover_of.{statement}
 use Rattle.term.proofs.+cover_of.Tie.{close}
 
@@ -34,7 +34,7 @@ cover-of-below t =
     and 1 cover-of-kinds.ps (falls 1 cover-of-kinds.ps _<_ μ-cover-of t) cover-of.Pre
 
 abbrev claims : ℕ → cover-of-lts.Claims
-claims t = (kind-of-reads.Asked, kind-of-reads.Learnt, cover-leaf-reads.Asked, cover-leaf-reads.Learnt, left-of-reads.Asked, left-of-reads.Learnt, cover-of-below t, cover-of.Post, right-of-reads.Asked, right-of-reads.Learnt, cover-pair-reads.Asked, cover-pair-reads.Learnt)
+claims t = (kind-of-reads.Asked, kind-of-reads.Learnt, cover-leaf-reads.Asked, cover-leaf-reads.Learnt, left-of-reads.Asked, left-of-reads.Learnt, cover-of-below t, cover-of.Post, right-of-reads.Asked, right-of-reads.Learnt, from-children-reads.Asked, from-children-reads.Learnt)
 
 cover-of-kind-of-requires : (t : ℕ) → cover-of-lts.Need-kind-of-requires (claims t) (cover-of-at t) cover-of.Post
 cover-of-kind-of-requires t c κs = search needs
@@ -73,8 +73,11 @@ cover-of-cover-of-requires-2 t c κs =
     let b = right-lower ready (k .kind-of .ensures) (c .right-of .ensures) (omega arith) in
     (omega arith, ready-below ready b)
 
-cover-of-cover-pair-requires : (t : ℕ) → cover-of-lts.Need-cover-pair-requires (claims t) (cover-of-at t) cover-of.Post
-cover-of-cover-pair-requires t c κs = search needs
+cover-of-from-children-requires : (t : ℕ) → cover-of-lts.Need-from-children-requires (claims t) (cover-of-at t) cover-of.Post
+cover-of-from-children-requires t c κs =
+    let k = c .before .before .before .before .before .before in
+    let le = ltb-false _ (k .kind-of .result) (c .before .before .before .before .if2 .left) in
+    (ready-small (k .before .before .pre .1), omega arith, λ e. omega arith)
 
 cover-of-returns-2 : (t : ℕ) → cover-of-lts.Need-returns-2 (claims t) (cover-of-at t) cover-of.Post
 cover-of-returns-2 t c =
@@ -84,10 +87,10 @@ cover-of-returns-2 t c =
     let ready = k .before .before .pre .1 in
     let bl = left-lower ready (k .kind-of .ensures) (l .before .left-of .ensures) (omega arith) in
     let br = right-lower ready (k .kind-of .ensures) (r .before .right-of .ensures) (omega arith) in
-    pair-cover _ _ _ _ bl br (c .cover-pair .ensures .0) (l .cover-of .ensures) (r .cover-of2 .ensures)
+    pair-cover _ _ _ _ bl br (c .from-children .ensures .handed-on) (l .cover-of .ensures) (r .cover-of2 .ensures)
     (λ p q a b.
-    of-pair ready (k .kind-of .ensures) (λ f. IsCover (c .cover-pair .result) (cover f)) (l .before .left-of .ensures) (r .before .right-of .ensures) (omega arith)
-    (c .cover-pair .ensures .1 p q _ _ _ _ a b))
+    of-pair ready (k .kind-of .ensures) (λ f. IsCover (c .from-children .result) (cover f)) (l .before .left-of .ensures) (r .before .right-of .ensures) (omega arith)
+    (c .from-children .ensures .is-cover p q (search needs) _ _ _ a b))
 
 pub +cover-of-spec : {M : Type 1} → statement M
 +cover-of-spec = close μ-cover-of λ t. cover-of-lts.spec (claims t)
@@ -100,5 +103,5 @@ pub +cover-of-spec : {M : Type 1} → statement M
     (cover-of-cover-of-requires t)
     (cover-of-right-of-requires t)
     (cover-of-cover-of-requires-2 t)
-    (cover-of-cover-pair-requires t)
+    (cover-of-from-children-requires t)
     (cover-of-returns-2 t)

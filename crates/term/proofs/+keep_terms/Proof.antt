@@ -23,7 +23,7 @@ use Rattle.term.proofs.+keep_terms.Lts-keep_terms as keep-terms-lts
 use Rattle.term.proofs.cover_of.Reads as cover-of-reads
 use Rattle.term.proofs.store_row.Reads as store-row-reads
 use Rattle.term.proofs.terms_leaf.Reads as terms-leaf-reads
-use Rattle.term.proofs.terms_pair.Reads as terms-pair-reads
+use Rattle.term.proofs.from_children.Reads as from-children-reads
 use Rattle.term.proofs.+keep_terms.{statement}
 use Rattle.term.proofs.+keep_terms.Tie.{close}
 
@@ -38,7 +38,7 @@ keep-terms-below t =
     and 2 keep-terms-kinds.ps (falls 2 keep-terms-kinds.ps _<_ μ-keep-terms t) keep-terms.Pre
 
 abbrev claims : ℕ → keep-terms-lts.Claims
-claims t = (kind-of-reads.Asked, kind-of-reads.Learnt, left-of-reads.Asked, left-of-reads.Learnt, terms-leaf-reads.Asked, terms-leaf-reads.Learnt, store-row-reads.Asked, store-row-reads.Learnt, keep-terms-below t, keep-terms.Post, cover-of-reads.Asked, cover-of-reads.Learnt, right-of-reads.Asked, right-of-reads.Learnt, terms-pair-reads.Asked, terms-pair-reads.Learnt)
+claims t = (kind-of-reads.Asked, kind-of-reads.Learnt, left-of-reads.Asked, left-of-reads.Learnt, terms-leaf-reads.Asked, terms-leaf-reads.Learnt, store-row-reads.Asked, store-row-reads.Learnt, keep-terms-below t, keep-terms.Post, cover-of-reads.Asked, cover-of-reads.Learnt, right-of-reads.Asked, right-of-reads.Learnt, from-children-reads.Asked, from-children-reads.Learnt)
 
 keep-terms-kind-of-requires : (t : ℕ) → keep-terms-lts.Need-kind-of-requires (claims t) (keep-terms-at t) keep-terms.Post
 keep-terms-kind-of-requires t c κs = search needs
@@ -119,8 +119,8 @@ keep-terms-keep-terms-requires-2 t c κs =
     let b = right-lower ready (k .kind-of .ensures) (r .right-of .ensures) (omega arith) in
     (omega arith, (ready-below ready b, search needs))
 
-keep-terms-terms-pair-requires : (t : ℕ) → keep-terms-lts.Need-terms-pair-requires (claims t) (keep-terms-at t) keep-terms.Post
-keep-terms-terms-pair-requires t c κs =
+keep-terms-from-children-requires : (t : ℕ) → keep-terms-lts.Need-from-children-requires (claims t) (keep-terms-at t) keep-terms.Post
+keep-terms-from-children-requires t c κs =
     let e = c .before .before .before .before .before in
     let s = e .before .before .before .before .before .before .before .before .before .before in
     (ready-small (s .pre .1 .0), omega arith, e .if2 .left)
@@ -146,10 +146,10 @@ keep-terms-returns-3 t c =
     let bl = left-lower ready (k .kind-of .ensures) (l .left-of .ensures) (omega arith) in
     let br = right-lower ready (k .kind-of .ensures) (r .right-of .ensures) (omega arith) in
     keeps-pair _ _
-    (pair-terms _ _ _ _ bl br (v .terms-pair .ensures .0) (a .keep-terms .ensures .value) (b .keep-terms2 .ensures .value)
+    (pair-terms _ _ _ _ bl br (v .from-children .ensures .handed-on) (a .keep-terms .ensures .value) (b .keep-terms2 .ensures .value)
     (λ p q x y.
-    of-pair ready (k .kind-of .ensures) (λ f. IsTerms (v .terms-pair .result) (terms f)) (l .left-of .ensures) (r .right-of .ensures) (omega arith)
-    (v .terms-pair .ensures .1 p q _ _ _ (ready-in-range ready _ (omega arith)) (ready-in-range ready _ (omega arith)) x y)))
+    of-pair ready (k .kind-of .ensures) (λ f. IsTerms (v .from-children .result) (terms f)) (l .left-of .ensures) (r .right-of .ensures) (omega arith)
+    (v .from-children .ensures .has-terms p q _ _ _ (ready-in-range ready _ (omega arith)) (ready-in-range ready _ (omega arith)) x y)))
     _ (l .left-of .ensures) (a .keep-terms .ensures) _ (r .right-of .ensures) (b .keep-terms2 .ensures) (st .store-row3 .ensures)
 
 pub +keep-terms-spec : {M : Type 1} → statement M
@@ -169,7 +169,7 @@ pub +keep-terms-spec : {M : Type 1} → statement M
     (keep-terms-returns-2 t)
     (keep-terms-right-of-requires t)
     (keep-terms-keep-terms-requires-2 t)
-    (keep-terms-terms-pair-requires t)
+    (keep-terms-from-children-requires t)
     (keep-terms-store-row-requires-3 t)
     (keep-terms-same-length-3 t)
     (keep-terms-returns-3 t)
