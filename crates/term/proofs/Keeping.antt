@@ -22,14 +22,13 @@ use Rattle.term.specs.Memory.{pack, TermRow, TableRoom, TermTable, Reach
 use Rattle.term.proofs.Carries.{carried}
 use Rattle.term.proofs.Reached.{below-leaf, below-next, below-pair}
 
--- two lists that agree on m places from a and b on
-same-part : (m a b : ℕ) (xs ys : List ℕ) → length (take m (drop a xs)) ≡ length (take m (drop b ys)) → ((i : ℕ) → i < m → getD xs (a + i) 0 ≡ getD ys (b + i) 0)
-    → take m (drop a xs) ≡ take m (drop b ys)
-same-part m a b xs ys size same =
-    ext-getD 0 _ _ size
+-- two lists that agree on m places from a on
+same-part : (m a : ℕ) (xs ys : List ℕ) → length xs ≡ length ys → ((i : ℕ) → i < m → getD xs (a + i) 0 ≡ getD ys (a + i) 0) → take m (drop a xs) ≡ take m (drop a ys)
+same-part m a xs ys size same =
+    ext-getD 0 _ _ (simp (length-take, length-drop) (omega arith))
     (λ i lt.
     let l : i < m = omega (arith, length-take m (drop a xs)) in
-    getD-take m (drop a xs) i 0 l ∙ getD-drop a xs i 0 ∙ same i l ∙ sym (getD-take m (drop b ys) i 0 l ∙ getD-drop b ys i 0))
+    getD-take m (drop a xs) i 0 l ∙ getD-drop a xs i 0 ∙ same i l ∙ sym (getD-take m (drop a ys) i 0 l ∙ getD-drop a ys i 0))
 
 -- ws, which are m, in the places of xs from a on
 module _ (xs ws : List ℕ) (a m : ℕ) (l : length ws ≡ m) (fits : a + m ≤ length xs) where
@@ -125,12 +124,11 @@ module _ (rule before : List ℕ) (n : ℕ) (ts : Terms) (after : List ℕ) (sto
 
   row-stays : getD before (k * rowPlaces) 0 ≤ maxTerms → TermRow rule before k → TermRow rule after k
   row-stays few row =
-      let size = stored .size in
       let m : ℕ = length (Term.terms (tree rule k)) in
       let small : m ≤ maxTerms = omega (arith, row .count) in
       record {
         count = first ∙ row .count;
-        terms = same-part m (suc (k * rowPlaces)) (suc (k * rowPlaces)) after before (simp (length-take, length-drop) (omega arith))
+        terms = same-part m (suc (k * rowPlaces)) after before (stored .size)
             (λ i lt.
             let e : k * rowPlaces + suc i ≡ suc (k * rowPlaces) + i = omega arith in
             rw e at (outside (suc i) (omega arith)))

@@ -13,8 +13,8 @@ use Rattle.formula.proofs.left_of.Reads as left-of-reads
 use Rattle.formula.proofs.right_of.Reads as right-of-reads
 use Rattle.term.specs.Term.{cover}
 use Rattle.term.specs.Memory.{IsCover}
-use Rattle.term.proofs.Sizes.{ready-small, ready-below, left-lower, right-lower, of-leaf, of-pair}
-use Rattle.term.proofs.Descending.{found-cover, pair-cover}
+use Rattle.term.proofs.Sizes.{ready-small, ready-below, left-lower, right-lower, of-leaf}
+use Rattle.term.proofs.Descending.{found-cover, cover-pair}
 use Rattle.term.proofs.cover_of.Reads as cover-of
 use Rattle.term.proofs.cover_of.Kinds as cover-of-kinds
 use Rattle.term.proofs.+cover_of.Lts-cover_of as cover-of-lts
@@ -85,12 +85,7 @@ cover-of-returns-2 t c =
     let l = r .before .before in
     let k = l .before .before .before .before in
     let ready = k .before .before .pre .1 in
-    let bl = left-lower ready (k .kind-of .ensures) (l .before .left-of .ensures) (omega arith) in
-    let br = right-lower ready (k .kind-of .ensures) (r .before .right-of .ensures) (omega arith) in
-    pair-cover _ _ _ _ bl br (c .from-children .ensures .handed-on) (l .cover-of .ensures) (r .cover-of2 .ensures)
-    (λ p q a b.
-    of-pair ready (k .kind-of .ensures) (λ f. IsCover (c .from-children .result) (cover f)) (l .before .left-of .ensures) (r .before .right-of .ensures) (omega arith)
-    (c .from-children .ensures .is-cover p q (search needs) _ _ _ a b))
+    cover-pair ready (k .kind-of .ensures) (l .before .left-of .ensures) (r .before .right-of .ensures) (omega arith) (c .from-children .ensures) (search needs) (l .cover-of .ensures) (r .cover-of2 .ensures)
 
 pub +cover-of-spec : {M : Type 1} → statement M
 +cover-of-spec = close μ-cover-of λ t. cover-of-lts.spec (claims t)

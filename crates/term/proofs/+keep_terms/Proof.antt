@@ -3,19 +3,15 @@
 use borrow.Author.Needs.{needs}
 use borrow.Fn.Kinds.{In}
 use borrow.Fn.PlainCycle.{Measures, is, falls, and}
-use mathlib.Core.Path.{_≡_, refl}
-use mathlib.Core.List.{map}
 use native.Mathlib.Omega.{arith}
 use Prim.Native.Nat.{ℕ, _<_}
-use Rattle.formula.specs.Formula.{tree}
 use Rattle.formula.proofs.kind_of.Reads as kind-of-reads
 use Rattle.formula.proofs.left_of.Reads as left-of-reads
 use Rattle.formula.proofs.right_of.Reads as right-of-reads
-use Rattle.term.specs.Term.{cover, terms}
-use Rattle.term.specs.Memory.{pack, packSet, IsTerms}
-use Rattle.term.proofs.ByKind.{of-next}
-use Rattle.term.proofs.Sizes.{own-node, ready-small, ready-below, ready-in-range, left-lower, right-lower, of-leaf, of-pair}
-use Rattle.term.proofs.Descending.{found-terms, next-terms, pair-terms}
+use Rattle.term.specs.Term.{terms}
+use Rattle.term.specs.Memory.{IsTerms}
+use Rattle.term.proofs.Sizes.{own-node, ready-small, ready-below, left-lower, right-lower, of-leaf}
+use Rattle.term.proofs.Descending.{found-terms, terms-next, terms-pair}
 use Rattle.term.proofs.Keeping.{keeps-leaf, keeps-next, keeps-pair}
 use Rattle.term.proofs.keep_terms.Reads as keep-terms
 use Rattle.term.proofs.keep_terms.Kinds as keep-terms-kinds
@@ -100,13 +96,8 @@ keep-terms-returns-2 t c =
     let a = v .before .before .before .before in
     let l = a .before .before .before in
     let k = l .before in
-    let s = k .before .before .before in
-    let rule = s .args .rule .now in
-    let n = s .args .n in
-    let ready = s .pre .1 .0 in
-    let b = left-lower ready (k .kind-of .ensures) (l .left-of .ensures) (omega arith) in
-    let e = of-pair ready (k .kind-of .ensures) (λ f. map pack (terms f) ≡ map packSet (cover (tree rule (l .left-of .result)))) (l .left-of .ensures) refl (omega arith) (of-next n _ _ _ _ (v .before .if2 .taken)) in
-    keeps-next rule n (next-terms rule n _ b e (v .cover-of .ensures)) _ (l .left-of .ensures) (a .keep-terms .ensures) (omega (arith, k .kind-of .ensures)) (st .store-row2 .ensures)
+    let ready = k .before .before .before .pre .1 .0 in
+    keeps-next _ _ (terms-next ready (k .kind-of .ensures) (l .left-of .ensures) (v .before .if2 .taken) (v .cover-of .ensures)) _ (l .left-of .ensures) (a .keep-terms .ensures) (omega (arith, k .kind-of .ensures)) (st .store-row2 .ensures)
 
 keep-terms-right-of-requires : (t : ℕ) → keep-terms-lts.Need-right-of-requires (claims t) (keep-terms-at t) keep-terms.Post
 keep-terms-right-of-requires t c κs = search needs
@@ -143,13 +134,8 @@ keep-terms-returns-3 t c =
     let l = a .before .before .before in
     let k = l .before in
     let ready = k .before .before .before .pre .1 .0 in
-    let bl = left-lower ready (k .kind-of .ensures) (l .left-of .ensures) (omega arith) in
-    let br = right-lower ready (k .kind-of .ensures) (r .right-of .ensures) (omega arith) in
     keeps-pair _ _
-    (pair-terms _ _ _ _ bl br (v .from-children .ensures .handed-on) (a .keep-terms .ensures .value) (b .keep-terms2 .ensures .value)
-    (λ p q x y.
-    of-pair ready (k .kind-of .ensures) (λ f. IsTerms (v .from-children .result) (terms f)) (l .left-of .ensures) (r .right-of .ensures) (omega arith)
-    (v .from-children .ensures .has-terms p q _ _ _ (ready-in-range ready _ (omega arith)) (ready-in-range ready _ (omega arith)) x y)))
+    (terms-pair ready (k .kind-of .ensures) (l .left-of .ensures) (r .right-of .ensures) (omega arith) (v .from-children .ensures) (a .keep-terms .ensures .value) (b .keep-terms2 .ensures .value))
     _ (l .left-of .ensures) (a .keep-terms .ensures) _ (r .right-of .ensures) (b .keep-terms2 .ensures) (st .store-row3 .ensures)
 
 pub +keep-terms-spec : {M : Type 1} → statement M

@@ -41,16 +41,13 @@ part-copy-words-end c = search needs
 copy-words-requires : tie.Need-copy-words-requires
 copy-words-requires c κs = (simp (length-take, length-drop, length-set) (omega arith), search needs)
 
-stored : tie.Need-returns-2
-stored c =
+returns-2 : tie.Need-returns-2
+returns-2 c =
     let e = c .before .before .before .before .before .before .before in
     store-copied _ _ _ (omega arith) (e .if1 .left) (search needs) _ (add-one _) (c .before .before .copy-words .ensures)
 
 same-length-2 : tie.Need-same-length-2
-same-length-2 c = stored c .size
-
-returns-2 : tie.Need-returns-2
-returns-2 c = stored c
+same-length-2 c = returns-2 c .size
 
 pub store-row-spec : {M : Type 1} → statement M
 store-row-spec =
