@@ -1,11 +1,10 @@
 -- The rows of the table: what a store leaves of the other rows, and what a descent has kept.
 -- Assumes nothing.
-use mathlib.Core.Path.{_≡_, refl, sym, _∙_}
+use mathlib.Core.Path.{_≡_, sym, _∙_}
 use mathlib.Core.Logic.{_⊎_, inl, inr}
 use mathlib.Core.List.{List, [], _++_, append-nil}
 use Prim.Native.Nat.{ℕ, suc, _+_, _-_, _*_, _≤_, _<_}
 use native.Mathlib.Decide.{ℕ-discrete, decLt}
-use native.Mathlib.Nat.{zero-add}
 use native.Mathlib.Omega.{arith}
 use lib.ListN.{length, getD, take, drop, set, length-append, length-map, length-set, length-take, length-drop, drop-of-length-le, List·getD-append}
 use lib.Seq.{getD-take, getD-drop, getD-set-same, getD-set-other, ext-getD, take-all, take-at, drop-at, drop-drop, length-take-le}

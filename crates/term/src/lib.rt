@@ -11,7 +11,7 @@ ghost use Rattle.answer.specs.Result.{fine, lowest, answer};
 ghost use Rattle.formula.specs.Rule.{nodeCount};
 ghost use Rattle.formula.specs.Rule;
 ghost use Rattle.formula.specs.Limits.{maxNodes, propositions};
-ghost use Rattle.formula.specs.Formula.{Formula, build, tree, formula, InRange};
+ghost use Rattle.formula.specs.Formula.{Formula, build, tree, formula};
 ghost use Rattle.term.specs.Limits.{maxTerms, rowPlaces};
 ghost use Rattle.term.specs.Term.{cover, terms};
 ghost use Rattle.term.specs.Size.{sizeCheck, sizesChecked, Ready};
