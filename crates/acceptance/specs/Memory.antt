@@ -3,14 +3,13 @@ use Prim.Native.Nat.{ℕ}
 use mathlib.Core.Path.{_≡_}
 use mathlib.Core.List.{List, [], _∷_}
 use mathlib.Core.Bool.{Bool, cond, not, _&&_, _||_}
-use lib.ListN.{length, take}
+use lib.ListN.{take}
 use lib.Dec.{eqb}
 use Rattle.sets.specs.Sets.{any}
 use Rattle.sets.specs.Bits.{has}
 use Rattle.answer.specs.Result.{fine}
 use Rattle.formula.specs.Rule.{nodeCount, checked, untils}
-use Rattle.term.specs.Limits.{tablePlaces}
-use Rattle.term.specs.Memory.{obligationsN, TermRows}
+use Rattle.term.specs.Memory.{obligationsN, TermTable}
 use Rattle.acceptance.specs.Acceptance.{within, untilCount}
 
 -- node i of that kind, if it is an until
@@ -25,8 +24,7 @@ pub record IsUntils (rule nodes : List ℕ) (count : ℕ) : Type 0 where
 -- what the tests are worked out from: a rule that 1 to 7 let pass, with its table of terms and its untils
 pub record Known (rule table nodes : List ℕ) (count : ℕ) : Type 0 where
   pub accepted : checked rule ≡ fine
-  pub places : length table ≡ tablePlaces
-  pub rows : TermRows rule table (nodeCount rule)
+  pub terms : TermTable rule table
   pub untils : IsUntils rule nodes count
 
 -- packed, u shows that t fulfils f: u is within t, part by part, and f is not among its obligations

@@ -121,8 +121,10 @@ fn fulfilment(rule: &[u8], table: &[u64], nodes: &[usize], count: usize, t: u64)
 
 // Which untils each of the first n of ts fulfils, a byte each.
 pub fn fulfil(rule: &[u8], table: &[u64], untils: Untils, ts: &[u64], n: usize, bytes: &mut [u8])
-    requires { ⌜ (n ≤ length (now ts)) × (n ≤ length (now bytes)) × Known (now rule) (now table) (untils .nodes) (untils .count) ⌝ }
-    ensures { λ _. ⌜ take n (now (bytes .exit)) ≡ map (fulfilment (now (rule .entry))) (map unpack (take n (now (ts .entry)))) ⌝ }
+    requires { ⌜ (n ≤ length (now ts)) × (n ≤ length (now bytes))
+        × Known (now rule) (now table) (untils .nodes) (untils .count) ⌝ }
+    ensures { λ _. ⌜ take n (now (bytes .exit))
+        ≡ map (fulfilment (now (rule .entry))) (map unpack (take n (now (ts .entry)))) ⌝ }
 {
     let count = untils.count;
     let nodes = untils.nodes;

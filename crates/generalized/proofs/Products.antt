@@ -18,10 +18,9 @@ use Rattle.formula.specs.Formula.{tree, InRange}
 use Rattle.sets.specs.Bits.{has}
 use Rattle.sets.specs.Sets.{Stores, insertProductN}
 use Rattle.sets.proofs.Stores.{items-are}
-use Rattle.term.specs.Limits.{tablePlaces}
 use Rattle.term.specs.Term.{Term, terms}
 use Rattle.term.specs.Size.{sizesChecked}
-use Rattle.term.specs.Memory.{pack, rowOf, TermRow}
+use Rattle.term.specs.Memory.{pack, rowOf, TermRow, TermTable}
 use Rattle.term.proofs.Packing.{Numbers, of-terms, numbers-are, canonical}
 use Rattle.term.proofs.Packing.{product-numbers, owing-numbers, terms-numbers}
 use Rattle.term.proofs.Rising.{product-one}
@@ -29,7 +28,7 @@ use Rattle.term.proofs.Rows.{row-is, row-fits}
 use Rattle.generalized.specs.Limits.{maxProduct}
 use Rattle.generalized.specs.Generalized.{times, partialProduct, transitions, productCheck}
 use Rattle.generalized.specs.Memory.{Factor, ProductRoom, Product}
-use Rattle.generalized.proofs.Passed.{most-nodes, few, in-range}
+use Rattle.generalized.proofs.Passed.{few, in-range}
 
 -- ts are terms whose must and mustNot are bytes
 abbrev pub Packed : List Term → Type 0
@@ -48,12 +47,12 @@ partial-packed rule state (suc n) ranges =
     (terms-numbers (tree rule n) (ranges n (omega arith)))
 
 -- a node's row can be multiplied with
-pub factor-of : (rule table : List ℕ) (k : ℕ) → sizesChecked rule ≡ fine → length table ≡ tablePlaces
-    → k < nodeCount rule → TermRow rule table k → Factor table k
-factor-of rule table k passed size lt row = record {
-  inside = omega (arith, row-fits row size (omega (arith, most-nodes rule passed)));
-  few = omega (arith, row .count, few rule passed k lt .terms);
-  alone = rw (row-is row) (product-one (tree rule k) (in-range rule passed k lt));
+pub factor-of : (rule table : List ℕ) (k : ℕ) → sizesChecked rule ≡ fine → TermTable rule table → k < nodeCount rule
+    → Factor table k
+factor-of rule table k passed is lt = record {
+  inside = omega (arith, row-fits is k lt);
+  few = omega (arith, is .rows k lt .count, few rule passed k lt .terms);
+  alone = rw (row-is (is .rows k lt)) (product-one (tree rule k) (in-range rule passed k lt));
 }
 
 -- 21 for the product over the obligations up to n

@@ -8,13 +8,12 @@ ghost use lib.ListN.{length, take, set};
 ghost use lib.Dec.{eqb};
 ghost use Rattle.answer.specs.Result.{fine};
 ghost use Rattle.formula.specs.Limits.{maxNodes};
-ghost use Rattle.formula.specs.Rule.{nodeCount};
 ghost use Rattle.formula.specs.Formula.{formula};
 ghost use Rattle.sets.specs.Sets.{Stores, insertProductN};
-ghost use Rattle.term.specs.Limits.{maxTerms, tablePlaces};
+ghost use Rattle.term.specs.Limits.{maxTerms};
 ghost use Rattle.term.specs.Term.{cover};
 ghost use Rattle.term.specs.Size.{sizesChecked};
-ghost use Rattle.term.specs.Memory.{unpack, rowOf, TermRows};
+ghost use Rattle.term.specs.Memory.{unpack, rowOf, TermTable};
 ghost use Rattle.acceptance.specs.Memory.{Known};
 ghost use Rattle.generalized.specs.Limits.{maxProduct, maxGeneralizedStates};
 ghost use Rattle.generalized.specs.Explore.{find};
@@ -164,8 +163,7 @@ fn state_terms(
     next: &mut [u64],
 ) -> usize
     requires { ⌜ (sizesChecked (now rule) ≡ fine)
-        × (length (now table) ≡ tablePlaces) × TermRows (now rule) (now table) (nodeCount (now rule))
-        × ProductRoom (now product) (now next) ⌝ }
+        × TermTable (now rule) (now table) × ProductRoom (now product) (now next) ⌝ }
     ensures { λ r. ⌜ Product (now (rule .entry)) obligations (now (product .exit)) r ⌝ }
 {
     let n = rule.len() / 3;
@@ -286,8 +284,7 @@ pub fn walk(
     ends: &mut [usize],
 ) -> Walked
     requires { ⌜ (sizesChecked (now rule) ≡ fine)
-        × (length (now table) ≡ tablePlaces) × TermRows (now rule) (now table) (nodeCount (now rule))
-        × WalkPlaces (now states) (now transitions) (now ends) ⌝ }
+        × TermTable (now rule) (now table) × WalkPlaces (now states) (now transitions) (now ends) ⌝ }
     ensures { λ r. ⌜ Walks (now (rule .entry)) r (now (states .exit)) (now (transitions .exit)) (now (ends .exit)) ⌝ }
 {
     let untils = acceptance::untils_of(rule);

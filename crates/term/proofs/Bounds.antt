@@ -6,41 +6,28 @@ use mathlib.Core.Bool.{true}
 use Prim.Native.Nat.{ℕ, zero, suc, _+_, _*_, _≤_, _<_, min}
 use native.Mathlib.Omega.{arith}
 use native.Mathlib.Nat.{mul-le-mul, one-le-mul, mul-le-mul-left, mul-le-mul-right}
-use lib.ListN.{length, set, length-set}
+use lib.ListN.{length, set}
 use lib.Seq.{getD-set-same, getD-set-other}
 use lib.Dec.{ltb}
 use lib.Bits.{bitOr}
 use borrow.Author.Count.{below-more}
 use Rattle.sets.proofs.Inserts.{union-shorter, product-shorter}
-use Rattle.formula.specs.Limits.{maxNodes}
 use Rattle.formula.specs.Formula.{Formula, bottom, top, proposition, negatedProposition, conjunction, disjunction, next, until, release, build, tree}
 use Rattle.term.specs.Limits.{maxTerms}
 use Rattle.term.specs.Term.{cover}
 use Rattle.term.specs.Memory.{coverBound, BoundedBelow}
 
-pub bound-most : (f : Formula) → coverBound f ≤ suc maxTerms
+pub bounds : (f : Formula) → (1 ≤ coverBound f) × (coverBound f ≤ suc maxTerms)
 unfolding coverBound
-bound-most bottom = omega arith
-bound-most top = omega arith
-bound-most (proposition n p) = omega arith
-bound-most (negatedProposition n p) = omega arith
-bound-most (conjunction a b) = omega arith
-bound-most (disjunction a b) = omega arith
-bound-most (next n a) = omega arith
-bound-most (until n a b) = omega arith
-bound-most (release n a b) = omega arith
-
-bound-least : (f : Formula) → 1 ≤ coverBound f
-unfolding coverBound
-bound-least bottom = omega arith
-bound-least top = omega arith
-bound-least (proposition n p) = omega arith
-bound-least (negatedProposition n p) = omega arith
-bound-least (conjunction a b) = omega (arith, one-le-mul (bound-least a) (bound-least b))
-bound-least (disjunction a b) = omega (arith, bound-least a)
-bound-least (next n a) = omega arith
-bound-least (until n a b) = omega arith
-bound-least (release n a b) = omega arith
+bounds bottom = omega arith
+bounds top = omega arith
+bounds (proposition n p) = omega arith
+bounds (negatedProposition n p) = omega arith
+bounds (conjunction a b) = omega (arith, one-le-mul (bounds a .0) (bounds b .0))
+bounds (disjunction a b) = omega (arith, bounds a)
+bounds (next n a) = omega arith
+bounds (until n a b) = omega arith
+bounds (release n a b) = omega arith
 
 -- a product of numbers from 1 on is no smaller than either
 factors-few : (a b : ℕ) → 1 ≤ a → 1 ≤ b → a * b ≤ maxTerms → (a ≤ maxTerms) × (b ≤ maxTerms)
@@ -53,10 +40,10 @@ cover-bounded top le = omega arith
 cover-bounded (proposition n p) le = omega arith
 cover-bounded (negatedProposition n p) le = omega arith
 cover-bounded (conjunction a b) le =
-    let few = factors-few (coverBound a) (coverBound b) (bound-least a) (bound-least b) (omega arith) in
+    let few = factors-few (coverBound a) (coverBound b) (bounds a .0) (bounds b .0) (omega arith) in
     omega (arith, product-shorter ltb bitOr (λ _. true) (cover a) (cover b) [], mul-le-mul (cover-bounded a (few .0)) (cover-bounded b (few .1)))
 cover-bounded (disjunction a b) le =
-    omega (arith, union-shorter ltb (cover a) (cover b), cover-bounded a (omega (arith, bound-least b)), cover-bounded b (omega (arith, bound-least a)))
+    omega (arith, union-shorter ltb (cover a) (cover b), cover-bounded a (omega (arith, bounds b)), cover-bounded b (omega (arith, bounds a)))
 cover-bounded (next n a) le = omega arith
 cover-bounded (until n a b) le = omega arith
 cover-bounded (release n a b) le = omega arith
@@ -84,15 +71,8 @@ bound-leaf n p f g (suc (suc (suc (suc (suc (suc (suc zero))))))) a b = refl
 bound-leaf n p f g (suc (suc (suc (suc (suc (suc (suc (suc zero)))))))) a b = refl
 bound-leaf n p f g (suc (suc (suc (suc (suc (suc (suc (suc (suc k))))))))) a b = refl
 
--- a loop over n nodes that stands at i: the bounds of the first i nodes are there
-pub record Bounding (rule : List ℕ) (n : ℕ) (bounds : List ℕ) (i : ℕ) : Type 0 where
-  pub within : i ≤ n
-  pub size : length bounds ≡ maxNodes
-  pub done : BoundedBelow rule i bounds
-
-pub bounds-step : (rule : List ℕ) (n : ℕ) (bounds : List ℕ) (i v : ℕ) → i < n → n ≤ maxNodes → Bounding rule n bounds i → v ≡ coverBound (tree rule i) → Bounding rule n (set bounds i v) (i + 1)
-bounds-step rule n bounds i v lt small inv e = record {
-  within = omega arith;
-  size = length-set bounds i v ∙ inv .size;
-  done = below-more _ i (λ k l. getD-set-other bounds i k v 0 (λ f. omega arith) ∙ inv .done k l) (getD-set-same bounds i v 0 (omega (arith, inv .size)) ∙ e);
-}
+-- the bound of one node more
+pub bounded-more : (rule bounds : List ℕ) (i v : ℕ) → i < length bounds → BoundedBelow rule i bounds → v ≡ coverBound (tree rule i)
+    → BoundedBelow rule (i + 1) (set bounds i v)
+bounded-more rule bounds i v lt done e =
+    below-more _ i (λ k l. getD-set-other bounds i k v 0 (λ f. omega arith) ∙ done k l) (getD-set-same bounds i v 0 lt ∙ e)

@@ -1,86 +1,23 @@
--- The packed cover and terms of a node, by its kind.
+-- The packed cover and terms of a node, by its kind, where they do not follow by computing.
 -- Assumes nothing.
 use mathlib.Core.Path.{_≡_, refl}
 use mathlib.Core.List.{[], _∷_, map}
-use Prim.Native.Nat.{ℕ, zero, suc, _-_, _*_, _^_, _<_, _≤_}
+use Prim.Native.Nat.{ℕ, zero, suc, _-_, _^_, _<_, _≤_}
 use native.Mathlib.Omega.{arith}
-use Rattle.sets.specs.Sets.{unionN, insertProductN}
-use Rattle.formula.specs.Formula.{Formula, bottom, build, InRange}
-use Rattle.term.specs.Term.{term, cover, terms}
+use Rattle.formula.specs.Formula.{Formula, bottom, build}
+use Rattle.term.specs.Term.{cover, terms}
 use Rattle.term.specs.Memory.{pack, packSet}
-use Rattle.term.proofs.Packing.{pack-unions, pack-union, pack-owing, pack-conjunction, pack-disjunction, pack-until, pack-release}
+use Rattle.term.proofs.Packing.{pack-owing}
 
 -- a kind above 8 builds bottom
-above : (n p : ℕ) (f g : Formula) (k : ℕ) → 8 < k → build k n p f g ≡ bottom
+pub above : (n p : ℕ) (f g : Formula) (k : ℕ) → 8 < k → build k n p f g ≡ bottom
 above n p f g k lt =
     let e : k ≡ suc (suc (suc (suc (suc (suc (suc (suc (suc (k - 9))))))))) = omega arith in
     rw e
 
-module _ (n p : ℕ) (f g : Formula) (k : ℕ) where
-  pub cover-above : 8 < k → map packSet (cover (build k n p f g)) ≡ []
-  unfolding cover
-  cover-above lt = rw (above n p f g k lt)
-
-  pub of-above : 8 < k → map pack (terms (build k n p f g)) ≡ []
-  unfolding terms
-  of-above lt = rw (above n p f g k lt)
-
-  pub cover-false : k ≡ 0 → map packSet (cover (build k n p f g)) ≡ []
-  unfolding cover
-  cover-false e = rw e
-
-  pub cover-true : k ≡ 1 → map packSet (cover (build k n p f g)) ≡ 0 ∷ []
-  unfolding cover
-  cover-true e = rw e
-
-  pub cover-and : k ≡ 4 → map packSet (cover (build k n p f g)) ≡ insertProductN (map packSet (cover f)) (map packSet (cover g)) []
-  unfolding cover
-  cover-and e = rw e (pack-unions (cover f) (cover g))
-
-  pub cover-or : k ≡ 5 → map packSet (cover (build k n p f g)) ≡ unionN (map packSet (cover f)) (map packSet (cover g))
-  unfolding cover
-  cover-or e = rw e (pack-union (cover f) (cover g))
-
-  pub of-false : k ≡ 0 → map pack (terms (build k n p f g)) ≡ []
-  unfolding terms
-  of-false e = rw e
-
-  pub of-true : k ≡ 1 → map pack (terms (build k n p f g)) ≡ 0 ∷ []
-  unfolding terms
-  of-true e = rw e
-
-  pub of-proposition : k ≡ 2 → map pack (terms (build k n p f g)) ≡ 2 ^ p * 256 ∷ []
-  unfolding terms
-  of-proposition e =
-      let q : pack (term (2 ^ p) 0 0) ≡ 2 ^ p * 256 = omega arith in
-      rw (e, q)
-
-  pub of-negated-proposition : k ≡ 3 → map pack (terms (build k n p f g)) ≡ 2 ^ p ∷ []
-  unfolding terms
-  of-negated-proposition e =
-      let q : pack (term 0 (2 ^ p) 0) ≡ 2 ^ p = omega arith in
-      rw (e, q)
-
-  pub of-next : k ≡ 6 → map pack (terms (build k n p f g)) ≡ map packSet (cover f)
-  unfolding terms
-  of-next e = rw e (pack-owing (cover f))
-
-  module _ (mf : InRange f) (mg : InRange g) where
-    pub of-and : k ≡ 4 → map pack (terms (build k n p f g)) ≡ insertProductN (map pack (terms f)) (map pack (terms g)) []
-    unfolding terms
-    of-and e = rw e (pack-conjunction n f g mf mg)
-
-    pub of-or : k ≡ 5 → map pack (terms (build k n p f g)) ≡ unionN (map pack (terms f)) (map pack (terms g))
-    unfolding terms
-    of-or e = rw e (pack-disjunction n f g mf mg)
-
-    pub of-until : k ≡ 7 → map pack (terms (build k n p f g)) ≡ unionN (map pack (terms g)) (insertProductN (map pack (terms f)) (packSet (2 ^ n) ∷ []) [])
-    unfolding terms
-    of-until e = rw e (pack-until n f g mf mg)
-
-    pub of-release : k ≡ 8 → map pack (terms (build k n p f g)) ≡ insertProductN (map pack (terms g)) (unionN (map pack (terms f)) (packSet (2 ^ n) ∷ [])) []
-    unfolding terms
-    of-release e = rw e (pack-release n f g mf mg)
+pub of-next : (n p : ℕ) (f g : Formula) (k : ℕ) → k ≡ 6 → map pack (terms (build k n p f g)) ≡ map packSet (cover f)
+unfolding terms
+of-next n p f g k e = rw e (pack-owing (cover f))
 
 pub cover-own : (n p : ℕ) (f g : Formula) (k : ℕ) → (k ≡ 0 → ⊥) → (k ≡ 1 → ⊥) → (k ≡ 4 → ⊥) → (k ≡ 5 → ⊥) → k ≤ 8 → map packSet (cover (build k n p f g)) ≡ packSet (2 ^ n) ∷ []
 unfolding cover

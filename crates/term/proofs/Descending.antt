@@ -1,22 +1,23 @@
 -- What a descent finds of a node, from what it finds of the children: a count above maxTerms is handed on.
 -- Assumes nothing.
-use mathlib.Core.Path.{_≡_}
+use mathlib.Core.Path.{_≡_, refl}
 use mathlib.Core.List.{List, map}
 use Prim.Native.Nat.{ℕ, suc, _≤_, _<_}
 use native.Mathlib.Decide.{decLt}
 use native.Mathlib.Omega.{arith}
 use lib.ListN.{length, length-map}
 use Rattle.answer.specs.Result.{fine, lowest}
-use Rattle.formula.specs.Rule.{nodeCount, root}
+use Rattle.formula.specs.Rule.{nodeCount, root, kindAt, leftAt, rightAt}
 use Rattle.formula.specs.Formula.{tree, formula}
 use Rattle.answer.proofs.Lowest.{lowest-below}
 use Rattle.formula.proofs.Accepted.{accepted-fine}
 use Rattle.term.specs.declared.Terms.{Terms}
 use Rattle.term.specs.Limits.{maxTerms}
 use Rattle.term.specs.Term.{terms, cover}
-use Rattle.term.specs.Size.{sizeCheck, sizesChecked}
-use Rattle.term.specs.Memory.{IsPacked, IsTerms, IsCover, pack, packSet, Over, Found, FoundTerms, FoundCover}
-use Rattle.term.proofs.Sizes.{bytes-fine, sizes-fine, over-above, over-many}
+use Rattle.term.specs.Size.{sizeCheck, sizesChecked, Ready}
+use Rattle.term.specs.Memory.{IsPacked, IsTerms, IsCover, pack, packSet, FromChildren, Over, Found, FoundTerms, FoundCover}
+use Rattle.term.proofs.ByKind.{of-next}
+use Rattle.term.proofs.Sizes.{ready-in-range, left-lower, right-lower, of-pair, bytes-fine, sizes-fine, over-above, over-many}
 
 module _ (rule : List ℕ) (n : ℕ) where
   many-terms : maxTerms < length (map pack (terms (tree rule n))) → Over rule n
@@ -49,18 +50,35 @@ module _ (rule : List ℕ) (n : ℕ) where
     pub found-cover : IsCover r (cover (tree rule n)) → FoundCover rule n r
     found-cover is = found many-sets is
 
-    pub next-terms : (k : ℕ) → k < n → map pack (terms (tree rule n)) ≡ map packSet (cover (tree rule k)) → FoundCover rule k r → FoundTerms rule n r
-    next-terms k below e f = record { within = λ le. rw e (f .within le); over = λ lt. over-above rule n k (omega arith) (f .over lt) }
+-- an inner node n by its children l and m
+module _ {rule : List ℕ} {n kind l : ℕ} (ready : Ready rule n) (ek : kind ≡ kindAt rule n) (el : l ≡ leftAt rule n) {r : Terms} where
+  pub terms-next : kind ≡ 6 → FoundCover rule l r → FoundTerms rule n r
+  terms-next e f =
+      let same : map pack (terms (tree rule n)) ≡ map packSet (cover (tree rule l)) =
+      of-pair ready ek (λ g. map pack (terms g) ≡ map packSet (cover (tree rule l))) el refl (omega arith) (of-next n _ _ _ kind e) in
+      record {
+        within = λ le. rw same (f .within le);
+        over = λ lt. over-above rule n l (omega (arith, left-lower ready ek el (omega arith))) (f .over lt);
+      }
 
-    -- the values a and b of two nodes below n; a count above maxTerms is handed on
-    module _ (k l : ℕ) (below-k : k < n) (below-l : l < n) {a b : Terms} (both : r .count ≤ maxTerms → (a .count ≤ maxTerms) × (b .count ≤ maxTerms)) where
-      pub pair-terms : FoundTerms rule k a → FoundTerms rule l b
-          → (a .count ≤ maxTerms → b .count ≤ maxTerms → IsTerms a (terms (tree rule k)) → IsTerms b (terms (tree rule l)) → IsTerms r (terms (tree rule n))) → FoundTerms rule n r
-      pair-terms fa fb made = found-pair many-terms k l below-k below-l fa fb both made
+  module _ {m : ℕ} (em : m ≡ rightAt rule n) (inner : 3 < kind) {a b : Terms} (made : FromChildren kind n a b r) where
+    below-l : l < n
+    below-l = left-lower ready ek el inner
 
-      pub pair-cover : FoundCover rule k a → FoundCover rule l b
-          → (a .count ≤ maxTerms → b .count ≤ maxTerms → IsCover a (cover (tree rule k)) → IsCover b (cover (tree rule l)) → IsCover r (cover (tree rule n))) → FoundCover rule n r
-      pair-cover fa fb made = found-pair many-sets k l below-k below-l fa fb both made
+    below-m : m < n
+    below-m = right-lower ready ek em inner
+
+    pub terms-pair : FoundTerms rule l a → FoundTerms rule m b → FoundTerms rule n r
+    terms-pair fa fb =
+        found-pair rule n (many-terms rule n) l m below-l below-m fa fb (made .handed-on)
+        (λ p q x y.
+        of-pair ready ek (λ f. IsTerms r (terms f)) el em inner
+        (made .has-terms p q l _ _ (ready-in-range ready l (omega (arith, below-l))) (ready-in-range ready m (omega (arith, below-m))) x y))
+
+    pub cover-pair : kind < 6 → FoundCover rule l a → FoundCover rule m b → FoundCover rule n r
+    cover-pair low fa fb =
+        found-pair rule n (many-sets rule n) l m below-l below-m fa fb (made .handed-on)
+        (λ p q x y. of-pair ready ek (λ f. IsCover r (cover f)) el em inner (made .is-cover p q low l _ _ x y))
 
 -- no node up to n is a 20
 pub found-fine : (rule : List ℕ) (n : ℕ) {r : Terms} {ws : List ℕ} → lowest (sizeCheck rule) (suc n) ≡ fine → Found rule n r ws → IsPacked r ws

@@ -1,107 +1,111 @@
 -- The rows of the table: what a store leaves of the other rows, and what a descent has kept.
 -- Assumes nothing.
-use mathlib.Core.Path.{_≡_, refl, sym, _∙_}
+use mathlib.Core.Path.{_≡_, sym, _∙_}
 use mathlib.Core.Logic.{_⊎_, inl, inr}
-use mathlib.Core.List.{List}
-use Prim.Native.Nat.{ℕ, suc, _+_, _*_, _≤_, _<_}
+use mathlib.Core.List.{List, [], _++_, append-nil}
+use Prim.Native.Nat.{ℕ, suc, _+_, _-_, _*_, _≤_, _<_}
 use native.Mathlib.Decide.{ℕ-discrete, decLt}
-use native.Mathlib.Nat.{zero-add}
 use native.Mathlib.Omega.{arith}
-use lib.ListN.{length, getD, take, drop, set, length-map, length-set, length-take, length-drop}
-use lib.Seq.{getD-take, getD-drop, getD-set-same, getD-set-other, ext-getD}
-use borrow.Author.Count.{below-more}
+use lib.ListN.{length, getD, take, drop, set, length-append, length-map, length-set, length-take, length-drop, drop-of-length-le, List·getD-append}
+use lib.Seq.{getD-take, getD-drop, getD-set-same, getD-set-other, ext-getD, take-all, take-at, drop-at, drop-drop, length-take-le}
+use borrow.Rule.Slice.PartMut.{midOf, putMid}
 use Rattle.answer.specs.Result.{fine, lowest}
 use Rattle.answer.proofs.Lowest.{lowest-below}
-use Rattle.formula.specs.Rule.{kindAt, leftAt, rightAt}
+use Rattle.formula.specs.Rule.{nodeCount, kindAt, leftAt, rightAt}
 use Rattle.formula.specs.Formula.{tree}
 use Rattle.term.specs.declared.Terms.{Terms}
 use Rattle.term.specs.Limits.{maxTerms, rowPlaces}
 use Rattle.term.specs.Term
 use Rattle.term.specs.Size.{sizeCheck}
-use Rattle.term.specs.Memory.{pack, TermRow, TermRows, Reaches, FoundTerms, Kept, StoresRow, Keeps}
+use Rattle.term.specs.Memory.{pack, TermRow, TableRoom, TermTable, Reaches, FoundTerms, Kept, StoresRow, Keeps}
 use Rattle.term.proofs.Carries.{carried}
 use Rattle.term.proofs.Reached.{below-leaf, below-next, below-pair}
 
--- two lists that agree on m places from a and b on
-same-part : (m a b : ℕ) (xs ys : List ℕ) → length (take m (drop a xs)) ≡ length (take m (drop b ys)) → ((i : ℕ) → i < m → getD xs (a + i) 0 ≡ getD ys (b + i) 0)
-    → take m (drop a xs) ≡ take m (drop b ys)
-same-part m a b xs ys size same =
-    ext-getD 0 _ _ size
+-- two lists that agree on m places from a on
+same-part : (m a : ℕ) (xs ys : List ℕ) → length xs ≡ length ys → ((i : ℕ) → i < m → getD xs (a + i) 0 ≡ getD ys (a + i) 0) → take m (drop a xs) ≡ take m (drop a ys)
+same-part m a xs ys size same =
+    ext-getD 0 _ _ (simp (length-take, length-drop) (omega arith))
     (λ i lt.
     let l : i < m = omega (arith, length-take m (drop a xs)) in
-    getD-take m (drop a xs) i 0 l ∙ getD-drop a xs i 0 ∙ same i l ∙ sym (getD-take m (drop b ys) i 0 l ∙ getD-drop b ys i 0))
+    getD-take m (drop a xs) i 0 l ∙ getD-drop a xs i 0 ∙ same i l ∙ sym (getD-take m (drop a ys) i 0 l ∙ getD-drop a ys i 0))
 
--- a loop that stores the terms of node n behind their count in start and stands at k
-pub record Storing (start : List ℕ) (n : ℕ) (ts : Terms) (after : List ℕ) (k : ℕ) : Type 0 where
-  pub room : suc n * rowPlaces ≤ length start
-  pub few : ts .count ≤ maxTerms
-  pub within : k ≤ ts .count
-  pub size : length after ≡ length start
-  pub items : (i : ℕ) → i < k → getD after (suc (n * rowPlaces) + i) 0 ≡ getD (ts .items) i 0
-  pub others : (i : ℕ) → (i < suc (n * rowPlaces)) ⊎ (suc n * rowPlaces ≤ i) → getD after i 0 ≡ getD start i 0
+-- ws, which are m, in the places of xs from a on
+module _ (xs ws : List ℕ) (a m : ℕ) (l : length ws ≡ m) (fits : a + m ≤ length xs) where
+  abbrev written : List ℕ
+  written = take a xs ++ (ws ++ drop (a + m) xs)
 
--- a store at a place between low and high leaves what is outside
-set-others : (xs : List ℕ) (low high j v : ℕ) → low ≤ j → j < high → (i : ℕ) → (i < low) ⊎ (high ≤ i) → getD (set xs j v) i 0 ≡ getD xs i 0
-set-others xs low high j v le lt i (inl below) = getD-set-other xs j i v 0 (λ e. omega arith)
-set-others xs low high j v le lt i (inr above) = getD-set-other xs j i v 0 (λ e. omega arith)
+  front : length (take a xs) ≡ a
+  front = length-take-le a xs (omega arith)
 
-pub store-steps : (start : List ℕ) (n : ℕ) (ts : Terms) (after : List ℕ) (k : ℕ) → Storing start n ts after k → k < ts .count → Storing start n ts (set after (n * rowPlaces + 1 + k) (getD (ts .items) k 0)) (k + 1)
-store-steps start n ts after k inv lt =
-    let at : ℕ = n * rowPlaces + 1 + k in
-    let v : ℕ = getD (ts .items) k 0 in
-    let room = inv .room in
-    let few = inv .few in
-    let same : suc (n * rowPlaces) + k ≡ n * rowPlaces + 1 + k = omega arith in
-    let there : n * rowPlaces + 1 + k < length after = omega (arith, inv .size) in
-    record {
-      room = room;
-      few = few;
-      within = omega arith;
-      size = length-set after at v ∙ inv .size;
-      items = below-more _ k (λ i l. getD-set-other after at (suc (n * rowPlaces) + i) v 0 (λ e. omega arith) ∙ inv .items i l) (rw same (getD-set-same after at v 0 there));
-      others = λ i o. set-others after (suc (n * rowPlaces)) (suc n * rowPlaces) at v (omega arith) (omega arith) i o ∙ inv .others i o;
-    }
+  written-size : length written ≡ length xs
+  written-size = simp (length-append, length-drop) (omega (arith, front))
 
--- the count goes in first
+  written-there : take m (drop a written) ≡ ws
+  written-there = rw (drop-at (take a xs) _ a front) (take-at ws _ m l)
+
+  written-behind : drop (a + m) written ≡ drop (a + m) xs
+  written-behind = rw (← drop-drop m a written, drop-at (take a xs) _ a front) (drop-at ws _ m l)
+
+  written-others : (i : ℕ) → (i < a) ⊎ (a + m ≤ i) → getD written i 0 ≡ getD xs i 0
+  written-others i (inl lt) = List·getD-append (take a xs) _ 0 i (omega (arith, front)) ∙ getD-take a xs i 0 lt
+  written-others i (inr ge) =
+      let j : ℕ = i - (a + m) in
+      let e : a + m + j ≡ i = omega arith in
+      let same : getD written (a + m + j) 0 ≡ getD xs (a + m + j) 0 =
+      rw (← getD-drop (a + m) written j 0, written-behind) (getD-drop (a + m) xs j 0) in
+      rw e at same
+
+  -- they came back at the start of the part from a on
+  written-lent : {ys : List ℕ} → ys ≡ ws ++ drop m (midOf a (length xs - a) xs) → putMid a (length xs - a) xs ys ≡ written
+  written-lent e =
+      let k : ℕ = length xs - a in
+      let part : midOf a k xs ≡ drop a xs = take-all k (drop a xs) (omega (arith, length-drop a xs)) in
+      let none : drop k (drop a xs) ≡ [] = drop-of-length-le (drop a xs) {i = k} (omega (arith, length-drop a xs)) in
+      rw (e, part, none, append-nil, drop-drop m a xs)
+
+-- table with the count of ts in the row of node n
+abbrev counted : (table : List ℕ) (n : ℕ) → Terms → List ℕ
+counted table n ts = set table (n * rowPlaces) (ts .count)
+
+-- the count goes in first, then the terms in the part behind it
 module _ (before : List ℕ) (n : ℕ) (ts : Terms) (room : suc n * rowPlaces ≤ length before) where
-  pub store-begins : ts .count ≤ maxTerms → Storing (set before (n * rowPlaces) (ts .count)) n ts (set before (n * rowPlaces) (ts .count)) 0
-  store-begins few = record {
-    room = omega (arith, length-set before (n * rowPlaces) (ts .count));
-    few = few;
-    within = omega arith;
-    size = refl;
-    items = λ i lt. absurd (omega arith);
-    others = λ i o. refl;
-  }
-
-  first-stored : getD (set before (n * rowPlaces) (ts .count)) (n * rowPlaces) 0 ≡ ts .count
+  first-stored : getD (counted before n ts) (n * rowPlaces) 0 ≡ ts .count
   first-stored = getD-set-same before (n * rowPlaces) (ts .count) 0 (omega arith)
 
-  others-kept : (i : ℕ) → (i < n * rowPlaces) ⊎ (suc n * rowPlaces ≤ i) → getD (set before (n * rowPlaces) (ts .count)) i 0 ≡ getD before i 0
-  others-kept = set-others before (n * rowPlaces) (suc n * rowPlaces) (n * rowPlaces) (ts .count) (omega arith) (omega arith)
+  others-kept : (i : ℕ) → (i < n * rowPlaces) ⊎ (suc n * rowPlaces ≤ i) → getD (counted before n ts) i 0 ≡ getD before i 0
+  others-kept i (inl below) = getD-set-other before (n * rowPlaces) i (ts .count) 0 (λ e. omega arith)
+  others-kept i (inr above) = getD-set-other before (n * rowPlaces) i (ts .count) 0 (λ e. omega arith)
 
-  pub store-over : maxTerms < ts .count → StoresRow before n ts (set before (n * rowPlaces) (ts .count))
+  counted-size : length (counted before n ts) ≡ length before
+  counted-size = length-set before (n * rowPlaces) (ts .count)
+
+  pub store-over : maxTerms < ts .count → StoresRow before n ts (counted before n ts)
   store-over lt = record {
-    size = length-set before (n * rowPlaces) (ts .count);
+    size = counted-size;
     count = first-stored;
     items = λ le. absurd (omega arith);
     others = others-kept;
   }
 
-  pub store-ends : (after : List ℕ) (k : ℕ) → Storing (set before (n * rowPlaces) (ts .count)) n ts after k → ts .count ≤ k → length (ts .items) ≡ maxTerms → StoresRow before n ts after
-  store-ends after k inv le l =
-      let few = inv .few in
-      let size : length after ≡ length before = inv .size ∙ length-set before (n * rowPlaces) (ts .count) in
-      record {
-        size = size;
-        count = inv .others (n * rowPlaces) (inl (omega arith)) ∙ first-stored;
-        items = λ _. same-part (ts .count) (suc (n * rowPlaces)) 0 after (ts .items) (simp (length-take, length-drop) (omega arith)) (λ i lt. simp zero-add (inv .items i (omega arith)));
-        others = λ i o. inv .others i (wider i o) ∙ others-kept i o;
-      }
-    where
-      wider : (i : ℕ) → (i < n * rowPlaces) ⊎ (suc n * rowPlaces ≤ i) → (i < suc (n * rowPlaces)) ⊎ (suc n * rowPlaces ≤ i)
-      wider i (inl lt) = inl (omega arith)
-      wider i (inr ge) = inr ge
+  module _ (few : ts .count ≤ maxTerms) (full : length (ts .items) ≡ maxTerms) (from : ℕ) (is : from ≡ suc (n * rowPlaces)) where
+    wider : (i : ℕ) → (i < n * rowPlaces) ⊎ (suc n * rowPlaces ≤ i) → (i < from) ⊎ (from + ts .count ≤ i)
+    wider i (inl lt) = inl (omega arith)
+    wider i (inr ge) = inr (omega arith)
+
+    pub store-copied : {ys : List ℕ} → ys ≡ take (ts .count) (ts .items) ++ drop (ts .count) (midOf from (length (counted before n ts) - from) (counted before n ts))
+        → StoresRow before n ts (putMid from (length (counted before n ts) - from) (counted before n ts) ys)
+    store-copied e =
+        let xs : List ℕ = counted before n ts in
+        let ws : List ℕ = take (ts .count) (ts .items) in
+        let l : length ws ≡ ts .count = length-take-le (ts .count) (ts .items) (omega arith) in
+        let fits : from + ts .count ≤ length xs = omega (arith, counted-size) in
+        rw (written-lent xs ws from (ts .count) l fits e)
+        (record {
+          size = written-size xs ws from (ts .count) l fits ∙ counted-size;
+          count = written-others xs ws from (ts .count) l fits (n * rowPlaces) (inl (omega arith)) ∙ first-stored;
+          items = λ _. rw (← is) (written-there xs ws from (ts .count) l fits);
+          others = λ i o. written-others xs ws from (ts .count) l fits i (wider i o) ∙ others-kept i o;
+        })
 
 -- another row stays
 module _ (rule before : List ℕ) (n : ℕ) (ts : Terms) (after : List ℕ) (stored : StoresRow before n ts after) (k : ℕ) (other : k ≡ n → ⊥) where
@@ -119,12 +123,11 @@ module _ (rule before : List ℕ) (n : ℕ) (ts : Terms) (after : List ℕ) (sto
 
   row-stays : getD before (k * rowPlaces) 0 ≤ maxTerms → TermRow rule before k → TermRow rule after k
   row-stays few row =
-      let size = stored .size in
       let m : ℕ = length (Term.terms (tree rule k)) in
       let small : m ≤ maxTerms = omega (arith, row .count) in
       record {
         count = first ∙ row .count;
-        terms = same-part m (suc (k * rowPlaces)) (suc (k * rowPlaces)) after before (simp (length-take, length-drop) (omega arith))
+        terms = same-part m (suc (k * rowPlaces)) after before (stored .size)
             (λ i lt.
             let e : k * rowPlaces + suc i ≡ suc (k * rowPlaces) + i = omega arith in
             rw e at (outside (suc i) (omega arith)))
@@ -182,10 +185,14 @@ module _ (rule : List ℕ) (n : ℕ) {r : Terms} (found : FoundTerms rule n r) {
         pick k (inl reaches) = second .stay k (first .reached k reaches)
         pick k (inr reaches) = second .reached k reaches
 
--- the rows of n nodes, none of which is a 20
-pub rows-fine : (rule table : List ℕ) (n : ℕ) → ((k : ℕ) → k < n → Kept rule table k) → lowest (sizeCheck rule) n ≡ fine → TermRows rule table n
-rows-fine rule table n kept e k lt = pick (decLt maxTerms (getD table (k * rowPlaces) 0))
+-- the rows of all nodes, none of which is a 20
+pub table-fine : (rule table : List ℕ) → TableRoom rule table → ((k : ℕ) → k < nodeCount rule → Kept rule table k)
+    → lowest (sizeCheck rule) (nodeCount rule) ≡ fine → TermTable rule table
+table-fine rule table room kept e = record {
+  room = room;
+  rows = λ k lt. pick k lt (decLt maxTerms (getD table (k * rowPlaces) 0));
+}
   where
-    pick : Dec (maxTerms < getD table (k * rowPlaces) 0) → TermRow rule table k
-    pick (yes over) = absurd (kept k lt .over over (lowest-below (sizeCheck rule) n e (suc k) (omega arith)))
-    pick (no few) = kept k lt .within (omega arith)
+    pick : (k : ℕ) → k < nodeCount rule → Dec (maxTerms < getD table (k * rowPlaces) 0) → TermRow rule table k
+    pick k lt (yes over) = absurd (kept k lt .over over (lowest-below (sizeCheck rule) _ e (suc k) (omega arith)))
+    pick k lt (no few) = kept k lt .within (omega arith)

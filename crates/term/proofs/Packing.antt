@@ -151,6 +151,12 @@ pub pack-union : (cs ds : List ℕ) → map packSet (union ltb cs ds) ≡ unionN
 pack-union cs ds = sym (numbers-are of-sets (union-numbers of-sets (all-sets cs) (all-sets ds)))
 
 -- ---- the terms of a formula
+pub pack-must : (m : ℕ) → pack (term m 0 0) ≡ m * 256
+pack-must m = omega arith
+
+pub pack-must-not : (m : ℕ) → pack (term 0 m 0) ≡ m
+pack-must-not m = omega arith
+
 pub pack-owing : (cs : List ℕ) → map pack (map (term 0 0) cs) ≡ map packSet cs
 pack-owing [] = refl
 pack-owing (c ∷ cs) =

@@ -10,9 +10,9 @@ use Rattle.sets.specs.Sets.{insertProductN}
 use Rattle.sets.proofs.Rising.{Rising, Consistent, union-rises, product-rises, product-zero}
 use Rattle.formula.specs.Limits.{propositions}
 use Rattle.formula.specs.Formula.{Formula, bottom, top, proposition, negatedProposition, conjunction, disjunction, next, until, release, InRange}
-use Rattle.term.specs.Term.{term, cover, terms}
+use Rattle.term.specs.Term.{cover, terms}
 use Rattle.term.specs.Memory.{pack, packSet}
-use Rattle.term.proofs.Packing.{set-drops, pack-unions, pack-union, pack-owing, pack-conjunction, pack-disjunction, pack-until, pack-release}
+use Rattle.term.proofs.Packing.{set-drops, pack-must, pack-must-not, pack-unions, pack-union, pack-owing, pack-conjunction, pack-disjunction, pack-until, pack-release}
 
 -- a join that is kept is consistent
 kept : (x y : ℕ) → Consistent x → Consistent y → Consistent (bitOr x y) → Consistent (bitOr x y)
@@ -48,12 +48,9 @@ pub terms-rise : (f : Formula) → InRange f → Rising Consistent 0 (map pack (
 unfolding terms InRange
 terms-rise bottom m = tt
 terms-rise top m = one-rises _ (set-drops 0)
-terms-rise (proposition n p) m =
-    let q : pack (term (2 ^ p) 0 0) ≡ 2 ^ p * 256 = omega arith in
-    rw q (one-rises _ (asking (2 ^ p)))
+terms-rise (proposition n p) m = rw (pack-must (2 ^ p)) (one-rises _ (asking (2 ^ p)))
 terms-rise (negatedProposition n p) m =
-    let q : pack (term 0 (2 ^ p) 0) ≡ 2 ^ p = omega arith in
-    rw q (one-rises _ (forbidding (2 ^ p) (pow-lt {j = propositions} m)))
+    rw (pack-must-not (2 ^ p)) (one-rises _ (forbidding (2 ^ p) (pow-lt {j = propositions} m)))
 terms-rise (conjunction a b) m =
     rw (pack-conjunction 0 a b (m .0) (m .1)) (product-rises Consistent kept 0 0 _ _ _ (terms-rise a (m .0)) (terms-rise b (m .1)) tt)
 terms-rise (disjunction a b) m =

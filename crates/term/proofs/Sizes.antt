@@ -10,12 +10,12 @@ use lib.Dec.{leb}
 use borrow.Author.Tests.{leb-true, le-leb}
 use Rattle.answer.specs.Result.{fine, refused, require, lowest}
 use Rattle.formula.specs.Limits.{maxNodes}
-use Rattle.formula.specs.Rule.{nodeCount, root}
+use Rattle.formula.specs.Rule.{nodeCount, root, kindAt, leftAt, rightAt}
 use Rattle.formula.specs.Rule
-use Rattle.formula.specs.Formula.{tree, InRange}
+use Rattle.formula.specs.Formula.{Formula, build, tree, InRange}
 use Rattle.answer.proofs.Lowest.{not-fine, fine-first, fine-second, lowest-each, lowest-below}
 use Rattle.formula.proofs.Accepted.{Node, accepted-fine}
-use Rattle.formula.proofs.Trees.{tree-in-range}
+use Rattle.formula.proofs.Trees.{left-below, right-below, leaf-in, pair-in, tree-in-range}
 use Rattle.term.specs.Limits.{maxTerms}
 use Rattle.term.specs.Term.{terms, cover}
 use Rattle.term.specs.Size.{sizeCheck, sizesChecked, Ready}
@@ -45,7 +45,7 @@ pub fine-few : (rule : List ℕ) (k : ℕ) → Few rule k → fine ≡ sizeCheck
 unfolding sizeCheck
 fine-few rule k few = rw (le-leb (length (terms (tree rule k))) maxTerms (few .terms), le-leb (length (cover (tree rule k))) maxTerms (few .cover))
 
-module _ (rule : List ℕ) (n : ℕ) (ready : Ready rule n) where
+module _ {rule : List ℕ} {n : ℕ} (ready : Ready rule n) where
   ready-node : (k : ℕ) → k ≤ n → Node rule k
   ready-node k le = accepted-fine rule (ready .accepted) .nodes k (omega (arith, ready .inside))
 
@@ -55,11 +55,26 @@ module _ (rule : List ℕ) (n : ℕ) (ready : Ready rule n) where
   pub ready-small : n < maxNodes
   ready-small = omega (arith, ready .inside, accepted-fine rule (ready .accepted) .most)
 
-  pub ready-below : (k : ℕ) → k < n → Ready rule k
-  ready-below k lt = record { accepted = ready .accepted; inside = omega (arith, ready .inside) }
+  pub ready-below : {k : ℕ} → k < n → Ready rule k
+  ready-below lt = record { accepted = ready .accepted; inside = omega (arith, ready .inside) }
 
   pub ready-in-range : (k : ℕ) → k ≤ n → InRange (tree rule k)
   ready-in-range k le = tree-in-range rule k (omega (arith, ready .inside)) (λ j l. ready-node j (omega arith))
+
+  -- its children stand below it, and its tree is made of theirs
+  module _ {k : ℕ} (ek : k ≡ kindAt rule n) where
+    pub left-lower : {l : ℕ} → l ≡ leftAt rule n → 3 < k → l < n
+    left-lower el inner = left-below rule n (ready .inside) own-node k ek inner _ el
+
+    pub right-lower : {r : ℕ} → r ≡ rightAt rule n → 3 < k → r < n
+    right-lower er inner = right-below rule n (ready .inside) own-node k ek inner _ er
+
+    pub of-leaf : (P : Formula → Type 0) {l : ℕ} → l ≡ leftAt rule n → ((f g : Formula) → P (build k n l f g)) → P (tree rule n)
+    of-leaf P el = leaf-in rule n (ready .inside) own-node P k ek _ el
+
+    pub of-pair : (P : Formula → Type 0) {l r : ℕ} → l ≡ leftAt rule n → r ≡ rightAt rule n → 3 < k
+        → P (build k n l (tree rule l) (tree rule r)) → P (tree rule n)
+    of-pair P el er = pair-in rule n (ready .inside) own-node P k ek _ _ el er
 
 -- a rule that 1 to 7 and 20 let pass
 module _ (rule : List ℕ) (passed : sizesChecked rule ≡ fine) where

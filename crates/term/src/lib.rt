@@ -11,11 +11,13 @@ ghost use Rattle.answer.specs.Result.{fine, lowest, answer};
 ghost use Rattle.formula.specs.Rule.{nodeCount};
 ghost use Rattle.formula.specs.Rule;
 ghost use Rattle.formula.specs.Limits.{maxNodes, propositions};
-ghost use Rattle.formula.specs.Formula.{Formula, build, tree, formula, InRange};
-ghost use Rattle.term.specs.Limits.{maxTerms, tablePlaces};
+ghost use Rattle.formula.specs.Formula.{Formula, build, tree, formula};
+ghost use Rattle.term.specs.Limits.{maxTerms, rowPlaces};
 ghost use Rattle.term.specs.Term.{cover, terms};
 ghost use Rattle.term.specs.Size.{sizeCheck, sizesChecked, Ready};
-ghost use Rattle.term.specs.Memory.{IsPacked, IsTerms, IsCover, TermRows, Kept, FoundCover, StoresRow, Keeps, coverBound, BoundedBelow};
+ghost use Rattle.term.specs.Memory.{IsPacked, IsTerms, IsCover, FromChildren};
+ghost use Rattle.term.specs.Memory.{TableRoom, TermTable, Kept, FoundCover, StoresRow, Keeps};
+ghost use Rattle.term.specs.Memory.{coverBound, BoundedBelow};
 
 // The number of document 01 by which a rule with too many terms or cover sets is refused.
 pub const TOO_MANY_TERMS: u8 = 20;
@@ -26,7 +28,7 @@ pub const MAX_TERMS: usize = 64;
 // A node's row in the table: how many terms it has, then these.
 pub const ROW_PLACES: usize = MAX_TERMS + 1;
 
-// A row for each node.
+// A row for each node of the largest rule.
 pub const TABLE_PLACES: usize = formula::MAX_NODES * ROW_PLACES;
 
 // A packed term: obligations * 65536 + must * 256 + must_not.
@@ -96,7 +98,8 @@ fn union(a: Terms, b: Terms) -> Terms
 // b together with the joins of own and each of a.
 fn until(a: Terms, b: Terms, own: Term) -> Terms
     requires { ⌜ (a .count ≤ maxTerms) × (b .count ≤ maxTerms) ⌝ }
-    ensures { λ r. ⌜ ((us vs : List ℕ) → IsPacked a us → IsPacked b vs → IsPacked r (unionN vs (insertProductN us (own ∷ []) []))) ⌝ }
+    ensures { λ r. ⌜ ((us vs : List ℕ) → IsPacked a us → IsPacked b vs
+        → IsPacked r (unionN vs (insertProductN us (own ∷ []) []))) ⌝ }
 {
     let na = a.count;
     let nb = b.count;
@@ -113,7 +116,8 @@ fn until(a: Terms, b: Terms, own: Term) -> Terms
 // The joins of each of b and each of a together with own: that list may have one member more than MAX_TERMS.
 fn release(a: Terms, b: Terms, own: Term) -> Terms
     requires { ⌜ (a .count ≤ maxTerms) × (b .count ≤ maxTerms) ⌝ }
-    ensures { λ r. ⌜ ((us vs : List ℕ) → IsPacked a us → IsPacked b vs → IsPacked r (insertProductN vs (unionN us (own ∷ [])) [])) ⌝ }
+    ensures { λ r. ⌜ ((us vs : List ℕ) → IsPacked a us → IsPacked b vs
+        → IsPacked r (insertProductN vs (unionN us (own ∷ [])) [])) ⌝ }
 {
     let na = a.count;
     let nb = b.count;
@@ -152,44 +156,6 @@ fn cover_leaf(kind: u8, n: usize) -> Terms
     one(owe(n))
 }
 
-// The cover of an and, an or, by those of its children; a count above MAX_TERMS is handed on.
-fn cover_pair(kind: u8, a: Terms, b: Terms) -> Terms
-    requires { ⌜ (3 < kind) × (kind < 6) ⌝ }
-    ensures { λ r. ⌜ (r .count ≤ maxTerms → (a .count ≤ maxTerms) × (b .count ≤ maxTerms)) ⌝ }
-    ensures { λ r. ⌜ (a .count ≤ maxTerms → b .count ≤ maxTerms → (n p : ℕ) (f g : Formula) → IsCover a (cover f) → IsCover b (cover g) → IsCover r (cover (build kind n p f g))) ⌝ }
-{
-    let na = a.count;
-    if MAX_TERMS < na {
-        return a;
-    }
-    let nb = b.count;
-    if MAX_TERMS < nb {
-        return b;
-    }
-    if kind == formula::AND {
-        product(a, b)
-    } else {
-        union(a, b)
-    }
-}
-
-// The cover of node n, as packed terms with no propositions.
-fn cover_of(rule: &[u8], n: usize) -> Terms
-    requires { ⌜ Ready (now rule) n ⌝ }
-    ensures { λ r. ⌜ FoundCover (now (rule .entry)) n r ⌝ }
-{
-    let kind = formula::kind_of(rule, n);
-    if kind < formula::AND {
-        return cover_leaf(kind, n);
-    }
-    if formula::OR < kind {
-        return cover_leaf(kind, n);
-    }
-    let a = cover_of(rule, formula::left_of(rule, n));
-    let b = cover_of(rule, formula::right_of(rule, n));
-    cover_pair(kind, a, b)
-}
-
 // The terms of a node of kind 0 to 3 whose left byte is p.
 fn terms_leaf(kind: u8, p: usize) -> Terms
     requires { ⌜ (kind < 4) × (1 < kind → p < propositions) ⌝ }
@@ -207,12 +173,11 @@ fn terms_leaf(kind: u8, p: usize) -> Terms
     one(bit(p))
 }
 
-// The terms of an and, an or, an until, a release by those of its children; a count above MAX_TERMS is handed on. A kind that
-// there is not has none.
-fn terms_pair(kind: u8, n: usize, a: Terms, b: Terms) -> Terms
+// The terms of an and, an or, an until, a release by those of its children, and of an and, an or the cover by theirs; a
+// count above MAX_TERMS is handed on. A kind that there is not has none.
+fn from_children(kind: u8, n: usize, a: Terms, b: Terms) -> Terms
     requires { ⌜ (n < maxNodes) × (3 < kind) × ((kind ≡ 6) → ⊥) ⌝ }
-    ensures { λ r. ⌜ (r .count ≤ maxTerms → (a .count ≤ maxTerms) × (b .count ≤ maxTerms)) ⌝ }
-    ensures { λ r. ⌜ (a .count ≤ maxTerms → b .count ≤ maxTerms → (p : ℕ) (f g : Formula) → InRange f → InRange g → IsTerms a (terms f) → IsTerms b (terms g) → IsTerms r (terms (build kind n p f g))) ⌝ }
+    ensures { λ r. ⌜ FromChildren kind n a b r ⌝ }
 {
     let na = a.count;
     if MAX_TERMS < na {
@@ -238,9 +203,23 @@ fn terms_pair(kind: u8, n: usize, a: Terms, b: Terms) -> Terms
     }
 }
 
+// The cover of node n, as packed terms with no propositions.
+fn cover_of(rule: &[u8], n: usize) -> Terms
+    requires { ⌜ Ready (now rule) n ⌝ }
+    ensures { λ r. ⌜ FoundCover (now (rule .entry)) n r ⌝ }
+{
+    let kind = formula::kind_of(rule, n);
+    if kind < formula::AND || formula::OR < kind {
+        return cover_leaf(kind, n);
+    }
+    let a = cover_of(rule, formula::left_of(rule, n));
+    let b = cover_of(rule, formula::right_of(rule, n));
+    from_children(kind, n, a, b)
+}
+
 // The row of node n: the count of its terms, and these where they fit.
 fn store_row(table: &mut [u64], n: usize, ts: Terms)
-    requires { ⌜ (n < maxNodes) × (length (now table) ≡ tablePlaces) ⌝ }
+    requires { ⌜ (n < maxNodes) × (suc n * rowPlaces ≤ length (now table)) ⌝ }
     ensures { λ _. ⌜ StoresRow (now (table .entry)) n ts (now (table .exit)) ⌝ }
 {
     let at = n * ROW_PLACES;
@@ -249,16 +228,13 @@ fn store_row(table: &mut [u64], n: usize, ts: Terms)
     if MAX_TERMS < count {
         return;
     }
-    let mut k = 0;
-    while k < count {
-        table[at + 1 + k] = ts.items[k];
-        k += 1;
-    }
+    let from = at + 1;
+    answer::copy_words(&mut table[from..], &ts.items, count);
 }
 
 // The terms of node n, and in the table the rows of n and of all nodes below it.
 fn keep_terms(rule: &[u8], n: usize, table: &mut [u64]) -> Terms
-    requires { ⌜ Ready (now rule) n × (length (now table) ≡ tablePlaces) ⌝ }
+    requires { ⌜ Ready (now rule) n × TableRoom (now rule) (now table) ⌝ }
     ensures { λ r. ⌜ Keeps (now (rule .entry)) n (now (table .entry)) r (now (table .exit)) ⌝ }
 {
     let kind = formula::kind_of(rule, n);
@@ -275,7 +251,7 @@ fn keep_terms(rule: &[u8], n: usize, table: &mut [u64]) -> Terms
         return sets;
     }
     let b = keep_terms(rule, formula::right_of(rule, n), table);
-    let pair = terms_pair(kind, n, a, b);
+    let pair = from_children(kind, n, a, b);
     store_row(table, n, pair);
     pair
 }
@@ -290,7 +266,8 @@ fn clip(x: usize) -> usize
 // The bound of the cover of a node above kind 3, of an and, an or by those of its children.
 fn bound_pair(kind: u8, a: usize, b: usize) -> usize
     requires { ⌜ (a ≤ suc maxTerms) × (b ≤ suc maxTerms) ⌝ }
-    ensures { λ r. ⌜ ((n p : ℕ) (f g : Formula) → a ≡ coverBound f → b ≡ coverBound g → r ≡ coverBound (build kind n p f g)) ⌝ }
+    ensures { λ r. ⌜ ((n p : ℕ) (f g : Formula) → a ≡ coverBound f → b ≡ coverBound g
+        → r ≡ coverBound (build kind n p f g)) ⌝ }
 {
     if kind == formula::AND {
         return clip(a * b);
@@ -315,23 +292,10 @@ fn cover_bound(rule: &[u8], n: usize, bounds: &[usize; formula::MAX_NODES]) -> u
     bound_pair(kind, a, b)
 }
 
-// The bounds of the covers of all n nodes.
-fn cover_bounds(rule: &[u8], n: usize) -> [usize; formula::MAX_NODES]
-    requires { ⌜ (n ≡ nodeCount (now rule)) × (Rule.checked (now rule) ≡ fine) ⌝ }
-    ensures { λ r. ⌜ BoundedBelow (now (rule .entry)) n r ⌝ }
-{
-    let mut bounds = [0usize; formula::MAX_NODES];
-    let mut i = 0;
-    while i < n {
-        bounds[i] = cover_bound(rule, i, &bounds);
-        i += 1;
-    }
-    bounds
-}
-
 // 20 for node n, the nodes below which are no 20. Its cover is worked out only where the bound does not settle it.
 fn check_size(rule: &[u8], n: usize, table: &[u64], bound: usize) -> Checked
-    requires { ⌜ Ready (now rule) n × (lowest (sizeCheck (now rule)) n ≡ fine) × (length (now table) ≡ tablePlaces) × Kept (now rule) (now table) n × (bound ≡ coverBound (tree (now rule) n)) ⌝ }
+    requires { ⌜ Ready (now rule) n × (lowest (sizeCheck (now rule)) n ≡ fine) × TableRoom (now rule) (now table)
+        × Kept (now rule) (now table) n × (bound ≡ coverBound (tree (now rule) n)) ⌝ }
     ensures { λ r. ⌜ answer r ≡ sizeCheck (now (rule .entry)) n ⌝ }
 {
     let terms = table[n * ROW_PLACES] as usize;
@@ -349,15 +313,18 @@ fn check_size(rule: &[u8], n: usize, table: &[u64], bound: usize) -> Checked
     Checked::Accepted
 }
 
-// 20 for all n nodes.
+// 20 for all n nodes, with the bounds of their covers.
 fn check_sizes(rule: &[u8], n: usize, table: &[u64]) -> Checked
-    requires { ⌜ (n ≡ nodeCount (now rule)) × (Rule.checked (now rule) ≡ fine) × (length (now table) ≡ tablePlaces) × ((k : ℕ) → k < n → Kept (now rule) (now table) k) ⌝ }
+    requires { ⌜ (n ≡ nodeCount (now rule)) × (Rule.checked (now rule) ≡ fine) × TableRoom (now rule) (now table)
+        × ((k : ℕ) → k < n → Kept (now rule) (now table) k) ⌝ }
     ensures { λ r. ⌜ answer r ≡ lowest (sizeCheck (now (rule .entry))) n ⌝ }
 {
-    let bounds = cover_bounds(rule, n);
+    let mut bounds = [0usize; formula::MAX_NODES];
     let mut i = 0;
     while i < n {
-        let size = check_size(rule, i, table, bounds[i]);
+        let bound = cover_bound(rule, i, &bounds);
+        bounds[i] = bound;
+        let size = check_size(rule, i, table, bound);
         if let Checked::Refused(number, place) = size {
             return Checked::Refused(number, place);
         }
@@ -368,9 +335,9 @@ fn check_sizes(rule: &[u8], n: usize, table: &[u64]) -> Checked
 
 // The terms of all nodes in the table, or 20 at the lowest node that has too many.
 pub fn tabulate(rule: &[u8], table: &mut [u64]) -> Checked
-    requires { ⌜ (Rule.checked (now rule) ≡ fine) × (length (now table) ≡ tablePlaces) ⌝ }
+    requires { ⌜ (Rule.checked (now rule) ≡ fine) × TableRoom (now rule) (now table) ⌝ }
     ensures { λ r. ⌜ answer r ≡ lowest (sizeCheck (now (rule .entry))) (nodeCount (now (rule .entry))) ⌝ }
-    ensures { λ r. ⌜ (answer r ≡ fine → TermRows (now (rule .entry)) (now (table .exit)) (nodeCount (now (rule .entry)))) ⌝ }
+    ensures { λ r. ⌜ (answer r ≡ fine → TermTable (now (rule .entry)) (now (table .exit))) ⌝ }
 {
     let n = rule.len() / 3;
     keep_terms(rule, n - 1, table);

@@ -57,11 +57,11 @@ module _ {rule table nodes : List ℕ} {count : ℕ} (known : Known rule table n
     node-small = omega (arith, inside, accepted-fine rule (known .accepted) .most)
 
     row-inside : getD nodes k 0 * rowPlaces + 1 + getD table (getD nodes k 0 * rowPlaces) 0 ≤ length table
-    row-inside = omega (arith, row-fits (known .rows (getD nodes k 0) inside) (known .places) node-small)
+    row-inside = omega (arith, row-fits (known .terms) (getD nodes k 0) inside)
 
     next : {b : Bool} (t : ℕ) → b ≡ fulfilsN (getD nodes k 0) (rowOf table (getD nodes k 0)) t → b ≡ fulfilsNext rule k (unpack t)
     next t is =
-        is ∙ rw (row-is (known .rows (getD nodes k 0) inside), fulfils-number rule (getD nodes k 0) t (accepted-in-range rule (known .accepted) (getD nodes k 0) inside), node-is)
+        is ∙ rw (row-is (known .terms .rows (getD nodes k 0) inside), fulfils-number rule (getD nodes k 0) t (accepted-in-range rule (known .accepted) (getD nodes k 0) inside), node-is)
 
     fulfil-steps : {t byte after : ℕ} {b : Bool} → Fulfilling rule count t byte k → b ≡ fulfilsN (getD nodes k 0) (rowOf table (getD nodes k 0)) t → after ≡ byte + cond b (2 ^ k) 0 → Fulfilling rule count t after (k + 1)
     unfolding bitsOf

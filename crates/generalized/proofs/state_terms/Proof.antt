@@ -24,7 +24,7 @@ slice-write-product c = search needs
 loop-holds : tie.Need-loop-holds Inv-loop μ-loop
 loop-holds c =
     let s = c .before .before .before .before in
-    multiply-begins (s .args .product .now) _ (omega (arith, most-nodes _ (s .pre .0))) (s .pre .3)
+    multiply-begins (s .args .product .now) _ (omega (arith, most-nodes _ (s .pre .0))) (s .pre .2)
 
 has-requires : tie.Need-has-requires Inv-loop μ-loop
 has-requires c κs = search needs
@@ -44,7 +44,7 @@ times-requires : tie.Need-times-requires Inv-loop μ-loop
 times-requires c κs =
     let at = c .before .before .before .before .before in
     let s = at .before .before .before .before .before in
-    let factor = factor-of _ _ (at .loop .k) (s .pre .0) (s .pre .1) (omega arith) (s .pre .2 _ (omega arith)) in
+    let factor = factor-of _ _ (at .loop .k) (s .pre .0) (s .pre .1) (omega arith) in
     (omega arith, at .loop .inv .fits, factor, at .loop .inv .room)
 
 same-length : tie.Need-same-length Inv-loop μ-loop
@@ -60,7 +60,7 @@ returns c =
     let at = test .before .before .before in
     let s = at .before .before .before .before .before in
     multiply-over (at .loop .inv) (omega arith) (λ j lt. in-range _ (s .pre .0) j (omega arith))
-    (s .pre .2 _ (omega arith)) (sym (test .before .has .ensures) ∙ not-false _ (test .if1 .left)) _ _
+    (s .pre .1 .rows _ (omega arith)) (sym (test .before .has .ensures) ∙ not-false _ (test .if1 .left)) _ _
     (call .times .kept .1 .1 .0) (call .times .ensures) refl (c .if2 .taken)
 
 add-k-2 : tie.Need-add-k-2 Inv-loop μ-loop
@@ -76,7 +76,7 @@ loop-again-2 c =
     let at = test .before .before .before in
     let s = at .before .before .before .before .before in
     multiply-steps (at .loop .inv) (omega arith) (λ j lt. in-range _ (s .pre .0) j (omega arith))
-    (s .pre .2 _ (omega arith)) (sym (test .before .has .ensures) ∙ not-false _ (test .if1 .left)) _ _
+    (s .pre .1 .rows _ (omega arith)) (sym (test .before .has .ensures) ∙ not-false _ (test .if1 .left)) _ _
     (call .times .kept .1 .1 .0) (call .times .ensures) (call .times .kept .1 .1 .1 .1 .0) (c .if2 .left)
 
 same-length-3 : tie.Need-same-length-3 Inv-loop μ-loop

@@ -24,7 +24,7 @@ untils-of-requires c κs = bytes-fine _ (c .before .before .before .before .befo
 start-requires : tie.Need-start-requires Inv-loop μ-loop
 start-requires c κs =
     let s = c .before .before .before .before .before .before .before in
-    (s .pre .0, s .pre .3 .states-room)
+    (s .pre .0, s .pre .2 .states-room)
 
 loop-holds : tie.Need-loop-holds Inv-loop μ-loop
 loop-holds c =
@@ -32,9 +32,9 @@ loop-holds c =
     let s = c .before .before .before .before .before .before .before .before .before .before in
     walk-begins _ _ _ _ (begun .ensures .0) (begun .ensures .1)
     (record {
-      states-room = begun .kept .1 .0 ∙ s .pre .3 .states-room;
-      transitions-room = s .pre .3 .transitions-room;
-      ends-room = s .pre .3 .ends-room;
+      states-room = begun .kept .1 .0 ∙ s .pre .2 .states-room;
+      transitions-room = s .pre .2 .transitions-room;
+      ends-room = s .pre .2 .ends-room;
     })
 
 walk-state-requires : tie.Need-walk-state-requires Inv-loop μ-loop
@@ -45,8 +45,7 @@ walk-state-requires c κs =
       s .pre .0,
       record {
         accepted = bytes-fine _ (s .pre .0);
-        places = s .pre .1;
-        rows = s .pre .2;
+        terms = s .pre .1;
         untils = untils .untils-of .ensures;
       },
       c .before .before .if1 .taken,

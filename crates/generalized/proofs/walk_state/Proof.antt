@@ -21,7 +21,7 @@ slice-aggregate-state-terms-2 c = search needs
 state-terms-requires : tie.Need-state-terms-requires
 state-terms-requires c κs =
     let s = c .before .before .before .before .before .before .before in
-    (s .pre .0, s .pre .1 .places, s .pre .1 .rows, record { room = refl; beside = refl })
+    (s .pre .0, s .pre .1 .terms, record { room = refl; beside = refl })
 
 returns : tie.Need-returns
 returns c =

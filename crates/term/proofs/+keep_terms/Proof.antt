@@ -3,21 +3,15 @@
 use borrow.Author.Needs.{needs}
 use borrow.Fn.Kinds.{In}
 use borrow.Fn.PlainCycle.{Measures, is, falls, and}
-use mathlib.Core.Path.{_≡_, refl}
-use mathlib.Core.List.{map}
 use native.Mathlib.Omega.{arith}
 use Prim.Native.Nat.{ℕ, _<_}
-use Rattle.formula.specs.Rule.{rightAt}
-use Rattle.formula.specs.Formula.{tree}
-use Rattle.formula.proofs.Trees.{left-below, right-below, leaf-in, pair-in}
 use Rattle.formula.proofs.kind_of.Reads as kind-of-reads
 use Rattle.formula.proofs.left_of.Reads as left-of-reads
 use Rattle.formula.proofs.right_of.Reads as right-of-reads
-use Rattle.term.specs.Term.{cover, terms}
-use Rattle.term.specs.Memory.{pack, packSet, IsTerms}
-use Rattle.term.proofs.ByKind.{of-next}
-use Rattle.term.proofs.Sizes.{own-node, ready-small, ready-below, ready-in-range}
-use Rattle.term.proofs.Descending.{found-terms, next-terms, pair-terms}
+use Rattle.term.specs.Term.{terms}
+use Rattle.term.specs.Memory.{IsTerms}
+use Rattle.term.proofs.Sizes.{own-node, ready-small, ready-below, left-lower, right-lower, of-leaf}
+use Rattle.term.proofs.Descending.{found-terms, terms-next, terms-pair}
 use Rattle.term.proofs.Keeping.{keeps-leaf, keeps-next, keeps-pair}
 use Rattle.term.proofs.keep_terms.Reads as keep-terms
 use Rattle.term.proofs.keep_terms.Kinds as keep-terms-kinds
@@ -25,7 +19,7 @@ use Rattle.term.proofs.+keep_terms.Lts-keep_terms as keep-terms-lts
 use Rattle.term.proofs.cover_of.Reads as cover-of-reads
 use Rattle.term.proofs.store_row.Reads as store-row-reads
 use Rattle.term.proofs.terms_leaf.Reads as terms-leaf-reads
-use Rattle.term.proofs.terms_pair.Reads as terms-pair-reads
+use Rattle.term.proofs.from_children.Reads as from-children-reads
 use Rattle.term.proofs.+keep_terms.{statement}
 use Rattle.term.proofs.+keep_terms.Tie.{close}
 
@@ -40,7 +34,7 @@ keep-terms-below t =
     and 2 keep-terms-kinds.ps (falls 2 keep-terms-kinds.ps _<_ μ-keep-terms t) keep-terms.Pre
 
 abbrev claims : ℕ → keep-terms-lts.Claims
-claims t = (kind-of-reads.Asked, kind-of-reads.Learnt, left-of-reads.Asked, left-of-reads.Learnt, terms-leaf-reads.Asked, terms-leaf-reads.Learnt, store-row-reads.Asked, store-row-reads.Learnt, keep-terms-below t, keep-terms.Post, cover-of-reads.Asked, cover-of-reads.Learnt, right-of-reads.Asked, right-of-reads.Learnt, terms-pair-reads.Asked, terms-pair-reads.Learnt)
+claims t = (kind-of-reads.Asked, kind-of-reads.Learnt, left-of-reads.Asked, left-of-reads.Learnt, terms-leaf-reads.Asked, terms-leaf-reads.Learnt, store-row-reads.Asked, store-row-reads.Learnt, keep-terms-below t, keep-terms.Post, cover-of-reads.Asked, cover-of-reads.Learnt, right-of-reads.Asked, right-of-reads.Learnt, from-children-reads.Asked, from-children-reads.Learnt)
 
 keep-terms-kind-of-requires : (t : ℕ) → keep-terms-lts.Need-kind-of-requires (claims t) (keep-terms-at t) keep-terms.Post
 keep-terms-kind-of-requires t c κs = search needs
@@ -51,12 +45,12 @@ keep-terms-left-of-requires t c κs = search needs
 keep-terms-terms-leaf-requires : (t : ℕ) → keep-terms-lts.Need-terms-leaf-requires (claims t) (keep-terms-at t) keep-terms.Post
 keep-terms-terms-leaf-requires t c κs =
     let ready = c .before .before .before .before .before .pre .1 .0 in
-    (omega arith, λ big. omega (arith, own-node _ _ ready .proposition (omega arith) (omega arith)))
+    (omega arith, λ big. omega (arith, own-node ready .proposition (omega arith) (omega arith)))
 
 keep-terms-store-row-requires : (t : ℕ) → keep-terms-lts.Need-store-row-requires (claims t) (keep-terms-at t) keep-terms.Post
 keep-terms-store-row-requires t c κs =
     let s = c .before .before .before .before .before .before .before in
-    (ready-small _ _ (s .pre .1 .0), search needs)
+    (ready-small (s .pre .1 .0), omega (arith, s .pre .1 .0 .inside))
 
 keep-terms-same-length : (t : ℕ) → keep-terms-lts.Need-same-length (claims t) (keep-terms-at t) keep-terms.Post
 keep-terms-same-length t c = search needs
@@ -69,7 +63,7 @@ keep-terms-returns t c =
     let k = l .before in
     let ready = k .before .before .before .pre .1 .0 in
     keeps-leaf _ _
-    (found-terms _ _ (leaf-in _ _ (ready .inside) (own-node _ _ ready) (λ g. IsTerms (f .terms-leaf .result) (terms g)) _ (k .kind-of .ensures) _ (l .left-of .ensures) (f .terms-leaf .ensures _)))
+    (found-terms _ _ (of-leaf ready (k .kind-of .ensures) (λ g. IsTerms (f .terms-leaf .result) (terms g)) (l .left-of .ensures) (f .terms-leaf .ensures _)))
     (omega (arith, k .kind-of .ensures)) (st .store-row .ensures)
 
 keep-terms-keep-terms-requires : (t : ℕ) → keep-terms-lts.Need-keep-terms-requires (claims t) (keep-terms-at t) keep-terms.Post
@@ -77,20 +71,20 @@ keep-terms-keep-terms-requires t c κs =
     let l = c .before .before in
     let k = l .before in
     let ready = k .before .before .before .pre .1 .0 in
-    let b = left-below _ _ (ready .inside) (own-node _ _ ready) _ (k .kind-of .ensures) (omega arith) _ (l .left-of .ensures) in
-    (omega arith, (ready-below _ _ ready _ b, search needs))
+    let b = left-lower ready (k .kind-of .ensures) (l .left-of .ensures) (omega arith) in
+    (omega arith, (ready-below ready b, search needs))
 
 keep-terms-cover-of-requires : (t : ℕ) → keep-terms-lts.Need-cover-of-requires (claims t) (keep-terms-at t) keep-terms.Post
 keep-terms-cover-of-requires t c κs =
     let l = c .before .before .before .before .before .before in
     let k = l .before in
     let ready = k .before .before .before .pre .1 .0 in
-    ready-below _ _ ready _ (left-below _ _ (ready .inside) (own-node _ _ ready) _ (k .kind-of .ensures) (omega arith) _ (l .left-of .ensures))
+    ready-below ready (left-lower ready (k .kind-of .ensures) (l .left-of .ensures) (omega arith))
 
 keep-terms-store-row-requires-2 : (t : ℕ) → keep-terms-lts.Need-store-row-requires-2 (claims t) (keep-terms-at t) keep-terms.Post
 keep-terms-store-row-requires-2 t c κs =
     let s = c .before .before .before .before .before .before .before .before .before .before .before .before in
-    (ready-small _ _ (s .pre .1 .0), search needs)
+    (ready-small (s .pre .1 .0), omega (arith, s .pre .1 .0 .inside))
 
 keep-terms-same-length-2 : (t : ℕ) → keep-terms-lts.Need-same-length-2 (claims t) (keep-terms-at t) keep-terms.Post
 keep-terms-same-length-2 t c = search needs
@@ -102,14 +96,8 @@ keep-terms-returns-2 t c =
     let a = v .before .before .before .before in
     let l = a .before .before .before in
     let k = l .before in
-    let s = k .before .before .before in
-    let rule = s .args .rule .now in
-    let n = s .args .n in
-    let ready = s .pre .1 .0 in
-    let node = own-node _ _ ready in
-    let b = left-below _ _ (ready .inside) node _ (k .kind-of .ensures) (omega arith) _ (l .left-of .ensures) in
-    let e = pair-in rule n (ready .inside) node (λ f. map pack (terms f) ≡ map packSet (cover (tree rule (l .left-of .result)))) _ (k .kind-of .ensures) _ (rightAt rule n) (l .left-of .ensures) refl (omega arith) (of-next n _ _ _ _ (v .before .if2 .taken)) in
-    keeps-next rule n (next-terms rule n _ b e (v .cover-of .ensures)) _ (l .left-of .ensures) (a .keep-terms .ensures) (omega (arith, k .kind-of .ensures)) (st .store-row2 .ensures)
+    let ready = k .before .before .before .pre .1 .0 in
+    keeps-next _ _ (terms-next ready (k .kind-of .ensures) (l .left-of .ensures) (v .before .if2 .taken) (v .cover-of .ensures)) _ (l .left-of .ensures) (a .keep-terms .ensures) (omega (arith, k .kind-of .ensures)) (st .store-row2 .ensures)
 
 keep-terms-right-of-requires : (t : ℕ) → keep-terms-lts.Need-right-of-requires (claims t) (keep-terms-at t) keep-terms.Post
 keep-terms-right-of-requires t c κs = search needs
@@ -119,19 +107,19 @@ keep-terms-keep-terms-requires-2 t c κs =
     let r = c .before in
     let k = r .before .before .before .before .before .before .before .before in
     let ready = k .before .before .before .pre .1 .0 in
-    let b = right-below _ _ (ready .inside) (own-node _ _ ready) _ (k .kind-of .ensures) (omega arith) _ (r .right-of .ensures) in
-    (omega arith, (ready-below _ _ ready _ b, search needs))
+    let b = right-lower ready (k .kind-of .ensures) (r .right-of .ensures) (omega arith) in
+    (omega arith, (ready-below ready b, search needs))
 
-keep-terms-terms-pair-requires : (t : ℕ) → keep-terms-lts.Need-terms-pair-requires (claims t) (keep-terms-at t) keep-terms.Post
-keep-terms-terms-pair-requires t c κs =
+keep-terms-from-children-requires : (t : ℕ) → keep-terms-lts.Need-from-children-requires (claims t) (keep-terms-at t) keep-terms.Post
+keep-terms-from-children-requires t c κs =
     let e = c .before .before .before .before .before in
     let s = e .before .before .before .before .before .before .before .before .before .before in
-    (ready-small _ _ (s .pre .1 .0), omega arith, e .if2 .left)
+    (ready-small (s .pre .1 .0), omega arith, e .if2 .left)
 
 keep-terms-store-row-requires-3 : (t : ℕ) → keep-terms-lts.Need-store-row-requires-3 (claims t) (keep-terms-at t) keep-terms.Post
 keep-terms-store-row-requires-3 t c κs =
     let s = c .before .before .before .before .before .before .before .before .before .before .before .before .before .before .before .before .before in
-    (ready-small _ _ (s .pre .1 .0), search needs)
+    (ready-small (s .pre .1 .0), omega (arith, s .pre .1 .0 .inside))
 
 keep-terms-same-length-3 : (t : ℕ) → keep-terms-lts.Need-same-length-3 (claims t) (keep-terms-at t) keep-terms.Post
 keep-terms-same-length-3 t c = search needs
@@ -146,14 +134,8 @@ keep-terms-returns-3 t c =
     let l = a .before .before .before in
     let k = l .before in
     let ready = k .before .before .before .pre .1 .0 in
-    let node = own-node _ _ ready in
-    let bl = left-below _ _ (ready .inside) node _ (k .kind-of .ensures) (omega arith) _ (l .left-of .ensures) in
-    let br = right-below _ _ (ready .inside) node _ (k .kind-of .ensures) (omega arith) _ (r .right-of .ensures) in
     keeps-pair _ _
-    (pair-terms _ _ _ _ bl br (v .terms-pair .ensures .0) (a .keep-terms .ensures .value) (b .keep-terms2 .ensures .value)
-    (λ p q x y.
-    pair-in _ _ (ready .inside) node (λ f. IsTerms (v .terms-pair .result) (terms f)) _ (k .kind-of .ensures) _ _ (l .left-of .ensures) (r .right-of .ensures) (omega arith)
-    (v .terms-pair .ensures .1 p q _ _ _ (ready-in-range _ _ ready _ (omega arith)) (ready-in-range _ _ ready _ (omega arith)) x y)))
+    (terms-pair ready (k .kind-of .ensures) (l .left-of .ensures) (r .right-of .ensures) (omega arith) (v .from-children .ensures) (a .keep-terms .ensures .value) (b .keep-terms2 .ensures .value))
     _ (l .left-of .ensures) (a .keep-terms .ensures) _ (r .right-of .ensures) (b .keep-terms2 .ensures) (st .store-row3 .ensures)
 
 pub +keep-terms-spec : {M : Type 1} → statement M
@@ -173,7 +155,7 @@ pub +keep-terms-spec : {M : Type 1} → statement M
     (keep-terms-returns-2 t)
     (keep-terms-right-of-requires t)
     (keep-terms-keep-terms-requires-2 t)
-    (keep-terms-terms-pair-requires t)
+    (keep-terms-from-children-requires t)
     (keep-terms-store-row-requires-3 t)
     (keep-terms-same-length-3 t)
     (keep-terms-returns-3 t)

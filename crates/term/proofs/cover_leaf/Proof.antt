@@ -2,7 +2,8 @@
 -- Assumes nothing.
 use borrow.Author.Needs.{needs}
 use native.Mathlib.Omega.{arith}
-use Rattle.term.proofs.ByKind.{cover-false, cover-true, cover-above, cover-own}
+use Rattle.term.specs.Term.{cover}
+use Rattle.term.proofs.ByKind.{above, cover-own}
 use Rattle.term.proofs.cover_leaf.Statement.{statement}
 use Rattle.term.proofs.cover_leaf.Tie as tie
 
@@ -10,19 +11,22 @@ none-requires : tie.Need-none-requires
 none-requires c κs = search needs
 
 returns : tie.Need-returns
-returns c = λ m f g. rw (cover-false _ m f g _ (c .before .if1 .taken)) (c .none .ensures)
+unfolding cover
+returns c = λ m f g. rw (c .before .if1 .taken) (c .none .ensures)
 
 one-requires : tie.Need-one-requires
 one-requires c κs = search needs
 
 returns-2 : tie.Need-returns-2
-returns-2 c = λ m f g. rw (cover-true _ m f g _ (c .before .if2 .taken)) (c .one .ensures)
+unfolding cover
+returns-2 c = λ m f g. rw (c .before .if2 .taken) (c .one .ensures)
 
 none-requires-2 : tie.Need-none-requires-2
 none-requires-2 c κs = search needs
 
 returns-3 : tie.Need-returns-3
-returns-3 c = λ m f g. rw (cover-above _ m f g _ (c .before .if3 .taken)) (c .none2 .ensures)
+unfolding cover
+returns-3 c = λ m f g. rw (above _ m f g _ (c .before .if3 .taken)) (c .none2 .ensures)
 
 owe-requires : tie.Need-owe-requires
 owe-requires c κs = search needs

@@ -1,93 +1,68 @@
--- `term::store_row` meets its contract: the count goes in first, and the first k terms are behind it (`Storing`).
+-- `term::store_row` meets its contract: the count goes in first, then the terms by one copy into the part behind it.
 -- Assumes nothing.
 use borrow.Author.Needs.{needs}
 use native.Mathlib.Omega.{arith}
-use Prim.Native.Nat.{_-_}
-use mathlib.Core.Path.{_∙_}
-use lib.ListN.{length-set}
-use Rattle.term.proofs.Keeping.{Storing, store-over, store-begins, store-steps, store-ends}
+use native.Mathlib.Numerals.{add-one}
+use lib.ListN.{length-take, length-drop, length-set}
+use Rattle.term.proofs.Keeping.{store-over, store-copied}
 use Rattle.term.proofs.store_row.Statement.{statement}
 use Rattle.term.proofs.store_row.Tie as tie
 
-abbrev Inv-loop : tie.InvT-loop
-Inv-loop table₀ n ts at count k₀ table k = Storing table₀ n ts table k
-
-abbrev μ-loop : tie.MeasureT-loop
-μ-loop table₀ n ts at count k₀ table k = count - k
-
-mul-at : tie.Need-mul-at Inv-loop μ-loop
+mul-at : tie.Need-mul-at
 mul-at c = search needs
 
-mul-table : tie.Need-mul-table Inv-loop μ-loop
+mul-table : tie.Need-mul-table
 mul-table c = search needs
 
-slice-write-table : tie.Need-slice-write-table Inv-loop μ-loop
+slice-write-table : tie.Need-slice-write-table
 slice-write-table c = search needs
 
-same-length : tie.Need-same-length Inv-loop μ-loop
+same-length : tie.Need-same-length
 same-length c = search needs
 
-returns : tie.Need-returns Inv-loop μ-loop
+returns : tie.Need-returns
 returns c = store-over _ _ _ (omega arith) (c .if1 .taken)
 
-loop-holds : tie.Need-loop-holds Inv-loop μ-loop
-loop-holds c = store-begins (c .before .args .table .now) _ (c .before .args .t3) (omega arith) (c .if1 .left)
+add-from : tie.Need-add-from
+add-from c = search needs
 
-mul-table-2 : tie.Need-mul-table-2 Inv-loop μ-loop
-mul-table-2 c = search needs
+mul-copy-words : tie.Need-mul-copy-words
+mul-copy-words c = search needs
 
-element-copy-out-table : tie.Need-element-copy-out-table Inv-loop μ-loop
-element-copy-out-table c = search needs
+sub-copy-words : tie.Need-sub-copy-words
+sub-copy-words c = simp length-set (omega arith)
 
-add-table : tie.Need-add-table Inv-loop μ-loop
-add-table c = search needs
+part-copy-words-start : tie.Need-part-copy-words-start
+part-copy-words-start c = simp length-set (omega arith)
 
-add-table-2 : tie.Need-add-table-2 Inv-loop μ-loop
-add-table-2 c = search needs
+part-copy-words-end : tie.Need-part-copy-words-end
+part-copy-words-end c = search needs
 
-mul-table-3 : tie.Need-mul-table-3 Inv-loop μ-loop
-mul-table-3 c = search needs
+copy-words-requires : tie.Need-copy-words-requires
+copy-words-requires c κs = (simp (length-take, length-drop, length-set) (omega arith), search needs)
 
-slice-write-table-2 : tie.Need-slice-write-table-2 Inv-loop μ-loop
-slice-write-table-2 c = search needs
+returns-2 : tie.Need-returns-2
+returns-2 c =
+    let e = c .before .before .before .before .before .before .before in
+    store-copied _ _ _ (omega arith) (e .if1 .left) (search needs) _ (add-one _) (c .before .before .copy-words .ensures)
 
-add-k : tie.Need-add-k Inv-loop μ-loop
-add-k c = search needs
-
-loop-less : tie.Need-loop-less Inv-loop μ-loop
-loop-less c = search needs
-
-loop-again : tie.Need-loop-again Inv-loop μ-loop
-loop-again c =
-    let at = c .before .before in
-    store-steps _ _ _ _ _ (at .loop .inv) (c .before .loop-test .taken)
-
-same-length-2 : tie.Need-same-length-2 Inv-loop μ-loop
-same-length-2 c = c .before .loop .inv .size ∙ simp length-set
-
-returns-2 : tie.Need-returns-2 Inv-loop μ-loop
-returns-2 c = store-ends _ _ _ (omega arith) _ _ (c .before .loop .inv) (c .loop-test .left) (search needs)
+same-length-2 : tie.Need-same-length-2
+same-length-2 c = returns-2 c .size
 
 pub store-row-spec : {M : Type 1} → statement M
 store-row-spec =
     tie.close
     (tie.spec
-    Inv-loop
-    μ-loop
     mul-at
     mul-table
     slice-write-table
     same-length
     returns
-    loop-holds
-    mul-table-2
-    element-copy-out-table
-    add-table
-    add-table-2
-    mul-table-3
-    slice-write-table-2
-    add-k
-    loop-less
-    loop-again
+    add-from
+    mul-copy-words
+    sub-copy-words
+    part-copy-words-start
+    part-copy-words-end
+    copy-words-requires
     same-length-2
     returns-2)

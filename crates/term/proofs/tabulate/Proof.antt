@@ -6,7 +6,7 @@ use mathlib.Core.Path.{refl, sym, _∙_}
 use Rattle.formula.proofs.Accepted.{accepted-fine}
 use Rattle.term.proofs.Sizes.{root-ready}
 use Rattle.term.proofs.Reached.{reached-whole}
-use Rattle.term.proofs.Keeping.{rows-fine}
+use Rattle.term.proofs.Keeping.{table-fine}
 use Rattle.term.proofs.tabulate.Statement.{statement}
 use Rattle.term.proofs.tabulate.Tie as tie
 
@@ -28,8 +28,10 @@ same-length c = search needs
 returns : tie.Need-returns
 returns c =
     let k = c .before .before .before .before in
-    let s = k .before .before .before .before in
-    (c .check-sizes .ensures, λ e. rows-fine _ _ _ (λ j lt. k .keep-terms .ensures .reached j (reached-whole _ (s .pre .0) j lt)) (sym (c .check-sizes .ensures) ∙ e))
+    let s = k .before .before .before .before in (
+      c .check-sizes .ensures,
+      λ e. table-fine _ _ (search needs) (λ j lt. k .keep-terms .ensures .reached j (reached-whole _ (s .pre .0) j lt)) (sym (c .check-sizes .ensures) ∙ e),
+    )
 
 pub tabulate-spec : {M : Type 1} → statement M
 tabulate-spec =

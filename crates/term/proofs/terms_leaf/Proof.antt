@@ -2,8 +2,10 @@
 -- Assumes nothing.
 use borrow.Author.Needs.{needs}
 use native.Mathlib.Omega.{arith}
+use mathlib.Core.Path.{_≡_}
 use Rattle.formula.specs.Limits.{propositions}
-use Rattle.term.proofs.ByKind.{of-false, of-true, of-proposition, of-negated-proposition}
+use Rattle.term.specs.Term.{terms}
+use Rattle.term.proofs.Packing.{pack-must, pack-must-not}
 use lib.Pow.{pow-lt}
 use Rattle.term.proofs.terms_leaf.Statement.{statement}
 use Rattle.term.proofs.terms_leaf.Tie as tie
@@ -12,13 +14,15 @@ none-requires : tie.Need-none-requires
 none-requires c κs = search needs
 
 returns : tie.Need-returns
-returns c = λ n f g. rw (of-false n _ f g _ (c .before .if1 .taken)) (c .none .ensures)
+unfolding terms
+returns c = λ n f g. rw (c .before .if1 .taken) (c .none .ensures)
 
 one-requires : tie.Need-one-requires
 one-requires c κs = search needs
 
 returns-2 : tie.Need-returns-2
-returns-2 c = λ n f g. rw (of-true n _ f g _ (c .before .if2 .taken)) (c .one .ensures)
+unfolding terms
+returns-2 c = λ n f g. rw (c .before .if2 .taken) (c .one .ensures)
 
 bit-requires : tie.Need-bit-requires
 bit-requires c κs = omega (arith, c .before .before .before .pre .1 (omega arith))
@@ -30,7 +34,8 @@ one-requires-2 : tie.Need-one-requires-2
 one-requires-2 c κs = search needs
 
 returns-3 : tie.Need-returns-3
-returns-3 c = λ n f g. rw (of-proposition n _ f g _ (c .before .before .if3 .taken), ← c .before .bit .ensures) (c .one2 .ensures)
+unfolding terms
+returns-3 c = λ n f g. rw (c .before .before .if3 .taken, pack-must, ← c .before .bit .ensures) (c .one2 .ensures)
 
 bit-requires-2 : tie.Need-bit-requires-2
 bit-requires-2 c κs = omega (arith, c .before .before .before .pre .1 (omega arith))
@@ -39,7 +44,10 @@ one-requires-3 : tie.Need-one-requires-3
 one-requires-3 c κs = search needs
 
 returns-4 : tie.Need-returns-4
-returns-4 c = λ n f g. rw (of-negated-proposition n _ f g (c .before .before .before .before .before .args .kind) (omega arith), ← c .before .bit2 .ensures) (c .one3 .ensures)
+unfolding terms
+returns-4 c = λ n f g.
+    let is-negated : c .before .before .before .before .before .args .kind ≡ 3 = omega arith in
+    rw (is-negated, pack-must-not, ← c .before .bit2 .ensures) (c .one3 .ensures)
 
 pub terms-leaf-spec : {M : Type 1} → statement M
 terms-leaf-spec =

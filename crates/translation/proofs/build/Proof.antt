@@ -1,8 +1,10 @@
 -- `translation::build` meets its contract: the table of terms and the two walks follow `translation`.
 -- Assumes nothing.
 use borrow.Author.Needs.{needs}
+use native.Mathlib.Omega.{arith}
 use mathlib.Core.Path.{_≡_, refl, ap, _∙_}
 use Rattle.answer.specs.Result.{fine, answer}
+use Rattle.formula.proofs.Accepted.{accepted-fine}
 use Rattle.term.specs.Size.{sizesChecked}
 use Rattle.translation.proofs.FirstWalk.{handed}
 use Rattle.translation.proofs.Translating.{sizes-are, walks-as, size-refused, first-refused}
@@ -17,7 +19,7 @@ slice-aggregate-tabulate : tie.Need-slice-aggregate-tabulate
 slice-aggregate-tabulate c = search needs
 
 tabulate-requires : tie.Need-tabulate-requires
-tabulate-requires c κs = search needs
+tabulate-requires c κs = (search needs, omega (arith, accepted-fine _ (c .before .before .before .before .before .pre .0) .most))
 
 enum-known-sizes : tie.Need-enum-known-sizes
 enum-known-sizes c = search needs
@@ -53,7 +55,7 @@ slice-aggregate-walk-4 : tie.Need-slice-aggregate-walk-4
 slice-aggregate-walk-4 c = search needs
 
 walk-requires : tie.Need-walk-requires
-walk-requires c κs = (passed (c .before .before .before .before), c .before .before .before .before .before .before .before .tabulate .kept .1 .0, c .before .before .before .before .before .before .before .tabulate .ensures .1 (ap answer (c .before .before .before .before .enum-told .given .1)), record { states-room = refl; transitions-room = refl; ends-room = refl })
+walk-requires c κs = (passed (c .before .before .before .before), c .before .before .before .before .before .before .before .tabulate .ensures .1 (ap answer (c .before .before .before .before .enum-told .given .1)), record { states-room = refl; transitions-room = refl; ends-room = refl })
 
 enum-known-walked : tie.Need-enum-known-walked
 enum-known-walked c = search needs
