@@ -9,7 +9,7 @@ use lib.ListN.{length, getD, take, set, length-append, length-map, length-set, l
 use lib.Seq.{getD-take, length-take-le, take-append-le, take-all, take-add, take-suc, getD-set-same, getD-set-other}
 use lib.Dec.{eqb}
 use borrow.Author.Count.{below-more}
-use Rattle.answer.specs.Result.{Result, accepted, refused, fine}
+use Rattle.answer.specs.Result.{Result, accepted, refused, andThen, fine}
 use Rattle.answer.proofs.Results.{then-accepted}
 use Rattle.formula.specs.Rule.{nodeCount}
 use Rattle.formula.specs.Formula.{formula}
@@ -22,28 +22,38 @@ use Rattle.generalized.specs.Limits.{maxProduct, maxGeneralizedStates}
 use Rattle.generalized.specs.declared.Extent.{Extent}
 use Rattle.generalized.specs.declared.Step.{Step}
 use Rattle.generalized.specs.declared.Step.the-variants.{On, Stop}
-use Rattle.generalized.specs.declared.Walked.the-variants.{Accepted, Refused}
+use Rattle.generalized.specs.declared.Walked.the-variants.{Accepted}
 use Rattle.generalized.specs.Explore.{explore}
 use Rattle.generalized.specs.Generalized.{transitions, productCheck, transitionCheck, targets, generalized}
-use Rattle.generalized.specs.Memory.{Product, ListedKept, WalkRoom, transitionsOf, walkState, Added, Told}
-use Rattle.generalized.specs.Memory.{MeetsAll, WalksState, allTransitions, WalkPlaces, Walks}
+use Rattle.generalized.specs.Memory.{ProductRoom, Product, ListedKept, WalkRoom, meetTargets, Added, AddsTransitions, Told}
+use Rattle.generalized.specs.Memory.{MeetsAll, allTransitions, WalkPlaces, Walks}
 use Rattle.generalized.proofs.Exploring.{explore-next, explore-refused, explore-ends}
 use Rattle.generalized.proofs.Explored.{Extends, extends-longer, all-grows}
 use Rattle.generalized.proofs.Passed.{in-range}
 use Rattle.generalized.proofs.Products.{partial-packed}
 use Rattle.generalized.proofs.Numbers.{listed-on, listed-none, listed-both}
 
+-- the transitions of the state at place among xs
+abbrev transitionsOf : (rule xs : List ℕ) (place : ℕ) → List Term
+transitionsOf rule xs place = transitions rule (getD xs place 0)
+
+-- the walk of the state at place, when count transitions and the states xs are there
+abbrev walkState : (rule : List ℕ) (place count : ℕ) (xs : List ℕ) → Result (List ℕ)
+walkState rule place count xs =
+    andThen (productCheck rule place (getD xs place 0)) (λ _. meetTargets place (transitionsOf rule xs place) count xs)
+
 -- the state at place, whose transitions are the first count of items
 module _ (rule states : List ℕ) (place : ℕ) (before : Extent) (lt : place < before .states) (items : List ℕ) (count : ℕ)
     (product : Product rule (getD states place 0) items count) where
-  pub state-refused : maxProduct < count
+  state-refused : maxProduct < count
       → walkState rule place (before .transitions) (take (before .states) states) ≡ refused 21 place
   state-refused over = rw (getD-take (before .states) states place 0 lt, product .over over place)
 
-  pub state-adds : sizesChecked rule ≡ fine → count ≤ maxProduct
+  state-adds : sizesChecked rule ≡ fine → count ≤ maxProduct
       → (bytes transitions₀ : List ℕ) (step : Step) (states′ transitions′ : List ℕ) → Told rule items bytes count
       → MeetsAll items bytes count place before states transitions₀ step states′ transitions′
-      → WalksState rule place before states transitions₀ step states′ transitions′
+      → AddsTransitions rule (transitionsOf rule states place) (before .transitions) transitions₀
+      (walkState rule place (before .transitions) (take (before .states) states)) step states′ transitions′
   unfolding transitions
   state-adds passed le bytes transitions₀ step states′ transitions′ told turn =
       let packed = partial-packed rule (getD states place 0) (nodeCount rule) (in-range rule passed) in
@@ -88,6 +98,11 @@ pub record Walking (rule : List ℕ) (initial : ℕ) (states transitions ends : 
       (take (size .transitions) transitions)
   pub ending : (k : ℕ) → k < place
       → getD ends k 0 ≡ length (allTransitions rule (take (suc k) (numbered size states)))
+
+-- the arrays that the walk works in
+pub record Space (product next bytes : List ℕ) : Type 0 where
+  pub products : ProductRoom product next
+  pub bytes-room : length bytes ≡ maxProduct
 
 pub walk-begins : {rule : List ℕ} (states transitions ends : List ℕ) (n : ℕ) → take n states ≡ cover (formula rule)
     → n ≤ maxTerms → WalkPlaces states transitions ends
@@ -135,89 +150,104 @@ module _ {rule : List ℕ} {initial : ℕ} {states transitions ends : List ℕ} 
         ending = λ k lt. inv .ending k (omega arith);
       }
 
-  -- it goes on with the state there
-  module _ (lt : place < size .states) (step : Step) (states′ transitions′ : List ℕ)
-      (walked : WalksState rule place size states transitions step states′ transitions′) where
+  -- it goes on with the state there, whose transitions are the first many of items
+  module _ (lt : place < size .states) {items : List ℕ} {many : ℕ}
+      (product : Product rule (getD states place 0) items many) where
     fuel : maxGeneralizedStates - place ≡ suc (maxGeneralizedStates - suc place)
     fuel = omega (arith, inv .room .few)
 
     inside : place < length xs
     inside = rw count lt
 
-    pub walk-refused : {number at : ℕ} → step ≡ Stop number at
-        → Walks rule (Refused number at) states′ transitions′ ends
+    refused-here : {number at : ℕ} → walkState rule place total xs ≡ refused number at
+        → generalized rule ≡ refused number at
     unfolding targets
-    walk-refused e =
+    refused-here e =
         inv .left
         ∙ rw fuel
         (explore-refused eqb maxGeneralizedStates 23 transitionCheck 0 (targets rule) (productCheck rule)
-        (maxGeneralizedStates - suc place) place total xs inside (rw e at walked))
+        (maxGeneralizedStates - suc place) place total xs inside e)
 
-    module _ {met end : ℕ} (e : step ≡ On met end) where
-      abbrev ts : List Term
-      ts = transitionsOf rule states place
+    pub walk-over : maxProduct < many → generalized rule ≡ refused 21 place
+    walk-over over = refused-here (state-refused rule states place size lt items many product over)
 
-      abbrev ys : List ℕ
-      ys = take met states′
+    module _ (passed : sizesChecked rule ≡ fine) (le : many ≤ maxProduct) (bytes : List ℕ)
+        (told : Told rule items bytes many) (step : Step) (states′ transitions′ : List ℕ)
+        (turn : MeetsAll items bytes many place size states transitions step states′ transitions′) where
+      walked : AddsTransitions rule (transitionsOf rule states place) total transitions (walkState rule place total xs)
+          step states′ transitions′
+      walked =
+          state-adds rule states place size lt items many product passed le bytes transitions step states′ transitions′
+          told turn
 
-      added : Added rule ts total transitions (walkState rule place total xs) met end states′ transitions′
-      added = rw e at walked
+      pub walk-refused : {number at : ℕ} → step ≡ Stop number at → generalized rule ≡ refused number at
+      walk-refused e = refused-here (rw e at walked)
 
-      grown : Extends xs ys
-      grown = state-extends rule place total xs ys (added .are)
+      module _ {met end : ℕ} (e : step ≡ On met end) where
+        abbrev ts : List Term
+        ts = transitionsOf rule states place
 
-      -- the first states stay
-      stay : (k : ℕ) → k ≤ size .states → take k ys ≡ take k xs
-      stay k le = ap (take k) (grown .are) ∙ take-append-le k xs (grown .more) (rw count le)
+        abbrev ys : List ℕ
+        ys = take met states′
 
-      first : take (length xs) ys ≡ xs
-      first = rw count (stay (size .states) (omega arith) ∙ take-all (size .states) xs (omega (arith, count)))
+        added : Added rule ts total transitions (walkState rule place total xs) met end states′ transitions′
+        added = rw e at walked
 
-      with-state : take (suc place) ys ≡ take place xs ++ (getD states place 0 ∷ [])
-      with-state = stay (suc place) lt ∙ take-suc xs place 0 inside ∙ rw (getD-take (size .states) states place 0 lt)
+        grown : Extends xs ys
+        grown = state-extends rule place total xs ys (added .are)
 
-      all-now : allTransitions rule (take (suc place) ys) ≡ allTransitions rule (take place xs) ++ ts
-      all-now = ap (allTransitions rule) with-state ∙ all-last rule (take place xs) (getD states place 0)
+        -- the first states stay
+        stay : (k : ℕ) → k ≤ size .states → take k ys ≡ take k xs
+        stay k le = ap (take k) (grown .are) ∙ take-append-le k xs (grown .more) (rw count le)
 
-      end-is : end ≡ length (allTransitions rule (take (suc place) ys))
-      end-is = rw (all-now, length-append) (omega (arith, added .counted, inv .counted))
+        first : take (length xs) ys ≡ xs
+        first = rw count (stay (size .states) (omega arith) ∙ take-all (size .states) xs (omega (arith, count)))
 
-      count-is : total + length (targets rule (getD states place 0)) ≡ end
-      unfolding targets
-      count-is = omega (arith, added .counted, length-map ts (λ t. t .obligations))
+        with-state : take (suc place) ys ≡ take place xs ++ (getD states place 0 ∷ [])
+        with-state = stay (suc place) lt ∙ take-suc xs place 0 inside ∙ rw (getD-take (size .states) states place 0 lt)
 
-      left-now : generalized rule ≡ rest rule (suc place) end ys
-      unfolding targets
-      left-now =
-          let next = explore-next eqb maxGeneralizedStates 23 transitionCheck 0 (targets rule) (productCheck rule)
-          (maxGeneralizedStates - suc place) place total xs inside (added .are) in
-          inv .left ∙ rw (fuel, next, getD-take (size .states) states place 0 lt, count-is)
+        all-now : allTransitions rule (take (suc place) ys) ≡ allTransitions rule (take place xs) ++ ts
+        all-now = ap (allTransitions rule) with-state ∙ all-last rule (take place xs) (getD states place 0)
 
-      listed-now : ListedKept rule ys (allTransitions rule (take (suc place) ys)) (take end transitions′)
-      listed-now =
-          rw (all-now, added .counted, take-add total (length ts) transitions′, added .same)
-          (listed-both (listed-on _ _ first (inv .listed)) (added .listed))
+        end-is : end ≡ length (allTransitions rule (take (suc place) ys))
+        end-is = rw (all-now, length-append) (omega (arith, added .counted, inv .counted))
 
-      pub walk-steps : length states′ ≡ length states → length transitions′ ≡ length transitions → {ends′ : List ℕ}
-          → ends′ ≡ set ends place end
-          → Walking rule initial states′ transitions′ ends′ (record { states = met; transitions = end }) (place + 1)
-      walk-steps same-states same-transitions stored = record {
-        within = omega (arith, inside, extends-longer grown, length-take met states′);
-        begun = inv .begun;
-        room = record {
-          states-room = same-states ∙ inv .room .states-room;
-          few = added .few;
-          transitions-room = same-transitions ∙ inv .room .transitions-room;
-          fits = added .fits;
-        };
-        ends-room = rw stored (length-set ends place end ∙ inv .ends-room);
-        counted = rw add-one end-is;
-        left = rw add-one left-now;
-        listed = rw add-one listed-now;
-        ending = rw stored
-            (below-more _ place
-            (λ k l. getD-set-other ends place k end 0 (λ s. omega arith)
-            ∙ inv .ending k l
-            ∙ ap length (ap (allTransitions rule) (sym (stay (suc k) (omega arith)))))
-            (getD-set-same ends place end 0 (omega (arith, inv .room .few, inv .ends-room)) ∙ end-is));
-      }
+        count-is : total + length (targets rule (getD states place 0)) ≡ end
+        unfolding targets
+        count-is = omega (arith, added .counted, length-map ts (λ t. t .obligations))
+
+        left-now : generalized rule ≡ rest rule (suc place) end ys
+        unfolding targets
+        left-now =
+            let next = explore-next eqb maxGeneralizedStates 23 transitionCheck 0 (targets rule) (productCheck rule)
+            (maxGeneralizedStates - suc place) place total xs inside (added .are) in
+            inv .left ∙ rw (fuel, next, getD-take (size .states) states place 0 lt, count-is)
+
+        listed-now : ListedKept rule ys (allTransitions rule (take (suc place) ys)) (take end transitions′)
+        listed-now =
+            rw (all-now, added .counted, take-add total (length ts) transitions′, added .same)
+            (listed-both (listed-on _ _ first (inv .listed)) (added .listed))
+
+        pub walk-steps : length states′ ≡ length states → length transitions′ ≡ length transitions → {ends′ : List ℕ}
+            → ends′ ≡ set ends place end
+            → Walking rule initial states′ transitions′ ends′ (record { states = met; transitions = end }) (place + 1)
+        walk-steps same-states same-transitions stored = record {
+          within = omega (arith, inside, extends-longer grown, length-take met states′);
+          begun = inv .begun;
+          room = record {
+            states-room = same-states ∙ inv .room .states-room;
+            few = added .few;
+            transitions-room = same-transitions ∙ inv .room .transitions-room;
+            fits = added .fits;
+          };
+          ends-room = rw stored (length-set ends place end ∙ inv .ends-room);
+          counted = rw add-one end-is;
+          left = rw add-one left-now;
+          listed = rw add-one listed-now;
+          ending = rw stored
+              (below-more _ place
+              (λ k l. getD-set-other ends place k end 0 (λ s. omega arith)
+              ∙ inv .ending k l
+              ∙ ap length (ap (allTransitions rule) (sym (stay (suc k) (omega arith)))))
+              (getD-set-same ends place end 0 (omega (arith, inv .room .few, inv .ends-room)) ∙ end-is));
+        }

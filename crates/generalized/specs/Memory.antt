@@ -6,7 +6,7 @@ use mathlib.Core.List.{List, [], _∷_, _++_, map}
 use lib.ListN.{length, getD, take, drop}
 use lib.Dec.{eqb}
 use Rattle.sets.specs.Sets.{In, insertProductN}
-use Rattle.answer.specs.Result.{Result, accepted, refused, andThen, fine}
+use Rattle.answer.specs.Result.{Result, accepted, refused, fine}
 use Rattle.formula.specs.Formula.{formula}
 use Rattle.term.specs.Limits.{rowPlaces}
 use Rattle.term.specs.Term.{Term, cover}
@@ -108,15 +108,6 @@ abbrev pub meetTargets : (place : ℕ) (ts : List Term) (count : ℕ) (xs : List
 meetTargets place ts count xs =
     meetAll eqb maxGeneralizedStates 23 transitionCheck place (map (λ t. t .obligations) ts) count xs
 
--- the transitions of the state at place among xs
-abbrev pub transitionsOf : (rule xs : List ℕ) (place : ℕ) → List Term
-transitionsOf rule xs place = transitions rule (getD xs place 0)
-
--- the walk of the state at place, when count transitions and the states xs are there
-abbrev pub walkState : (rule : List ℕ) (place count : ℕ) (xs : List ℕ) → Result (List ℕ)
-walkState rule place count xs =
-    andThen (productCheck rule place (getD xs place 0)) (λ _. meetTargets place (transitionsOf rule xs place) count xs)
-
 -- ts added to the total transitions that were in the table before: n states and m transitions are there then
 pub record Added (rule : List ℕ) (ts : List Term) (total : ℕ) (before : List ℕ) (met : Result (List ℕ))
     (n m : ℕ) (states after : List ℕ) : Type 0 where
@@ -145,14 +136,6 @@ MeetsAll ts bytes count place before states transitions step states′ transitio
     (rule : List ℕ) → Told rule ts bytes count
     → AddsTransitions rule (map unpack (take count ts)) (before .transitions) transitions
     (meetTargets place (map unpack (take count ts)) (before .transitions) (take (before .states) states))
-    step states′ transitions′
-
--- the state at place walked, and its transitions added to the states and transitions before
-abbrev pub WalksState : (rule : List ℕ) (place : ℕ) (before : Extent) (states transitions : List ℕ)
-    → Step → (states′ transitions′ : List ℕ) → Type 0
-WalksState rule place before states transitions step states′ transitions′ =
-    AddsTransitions rule (transitionsOf rule states place) (before .transitions) transitions
-    (walkState rule place (before .transitions) (take (before .states) states))
     step states′ transitions′
 
 -- ---- the whole walk

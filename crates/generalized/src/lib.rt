@@ -14,12 +14,11 @@ ghost use Rattle.term.specs.Limits.{maxTerms};
 ghost use Rattle.term.specs.Term.{cover};
 ghost use Rattle.term.specs.Size.{sizesChecked};
 ghost use Rattle.term.specs.Memory.{unpack, rowOf, TermTable};
-ghost use Rattle.acceptance.specs.Memory.{Known};
 ghost use Rattle.generalized.specs.Limits.{maxProduct, maxGeneralizedStates};
 ghost use Rattle.generalized.specs.Explore.{find};
 ghost use Rattle.generalized.specs.Memory.{Factor, ProductRoom, Product};
 ghost use Rattle.generalized.specs.Memory.{keptN, keptTarget, keptUntils, keptMust, keptMustNot};
-ghost use Rattle.generalized.specs.Memory.{OwnNumber, MeetsState, WalkRoom, MeetsAll, WalksState};
+ghost use Rattle.generalized.specs.Memory.{OwnNumber, MeetsState, WalkRoom, MeetsAll};
 ghost use Rattle.generalized.specs.Memory.{WalkPlaces, Walks};
 
 // The numbers of document 01 by which the first walk is refused.
@@ -221,35 +220,6 @@ fn meet_all(
     Step::On(seen, total + count)
 }
 
-// A state walked: its transitions worked out, or 21, then the untils that they fulfil, then met.
-fn walk_state(
-    rule: &[u8],
-    table: &[u64],
-    untils: Untils,
-    state: GeneralizedNumber,
-    states: &mut [u64],
-    transitions: &mut [u64],
-    before: Extent,
-) -> Step
-    requires { ⌜ (sizesChecked (now rule) ≡ fine)
-        × Known (now rule) (now table) (untils .nodes) (untils .count)
-        × (state .0 < before .states) × WalkRoom before (now states) (now transitions) ⌝ }
-    ensures { λ r. ⌜ WalksState (now (rule .entry)) (state .0) before
-        (now (states .entry)) (now (transitions .entry)) r (now (states .exit)) (now (transitions .exit)) ⌝ }
-{
-    let at = state.0;
-    let obligations = states[at];
-    let mut product = [0u64; MAX_PRODUCT];
-    let mut next = [0u64; MAX_PRODUCT];
-    let count = state_terms(rule, table, obligations, &mut product, &mut next);
-    if MAX_PRODUCT < count {
-        return Step::Stop(PRODUCT_TOO_LARGE, at);
-    }
-    let mut bytes = [0u8; MAX_PRODUCT];
-    acceptance::fulfil(rule, table, untils, &product, count, &mut bytes);
-    meet_all(&product, &bytes, count, state, states, transitions, before)
-}
-
 // The root's cover as the first states; their count.
 fn start(rule: &[u8], states: &mut [u64]) -> usize
     requires { ⌜ (sizesChecked (now rule) ≡ fine) × (length (now states) ≡ maxGeneralizedStates) ⌝ }
@@ -275,7 +245,8 @@ fn put_end(ends: &mut [usize], state: GeneralizedNumber, end: usize)
 }
 
 // The first walk of a rule that 1 to 7 and 20 let pass, from its table of terms: its states by number, their
-// transitions one after another, and where each state's end.
+// transitions one after another, and where each state's end. Each state's transitions are worked out, or 21, then the
+// untils that they fulfil, then they are met.
 pub fn walk(
     rule: &[u8],
     table: &[u64],
@@ -289,13 +260,22 @@ pub fn walk(
 {
     let untils = acceptance::untils_of(rule);
     let initial = start(rule, states);
+    let mut product = [0u64; MAX_PRODUCT];
+    let mut next = [0u64; MAX_PRODUCT];
+    let mut bytes = [0u8; MAX_PRODUCT];
     let mut size = Extent {
         states: initial,
         transitions: 0,
     };
     let mut state = GeneralizedNumber(0);
     while state.0 < size.states {
-        let step = walk_state(rule, table, untils, state, states, transitions, size);
+        let at = state.0;
+        let count = state_terms(rule, table, states[at], &mut product, &mut next);
+        if MAX_PRODUCT < count {
+            return Walked::Refused(PRODUCT_TOO_LARGE, at);
+        }
+        acceptance::fulfil(rule, table, untils, &product, count, &mut bytes);
+        let step = meet_all(&product, &bytes, count, state, states, transitions, size);
         match step {
             Step::On(n, m) => {
                 put_end(ends, state, m);
@@ -305,8 +285,8 @@ pub fn walk(
                 };
                 state = GeneralizedNumber(state.0 + 1);
             }
-            Step::Stop(number, at) => {
-                return Walked::Refused(number, at);
+            Step::Stop(number, place) => {
+                return Walked::Refused(number, place);
             }
         }
     }

@@ -3,83 +3,54 @@
 use borrow.Author.Needs.{needs}
 use native.Mathlib.Omega.{arith}
 use Prim.Native.Nat.{_-_}
-use mathlib.Core.Path.{_∙_}
+use mathlib.Core.Path.{refl, sym, _∙_}
 use Rattle.generalized.specs.Limits.{maxGeneralizedStates}
 use Rattle.term.proofs.Sizes.{bytes-fine}
-use Rattle.generalized.proofs.Walking.{Walking, walk-begins, walk-refused, walk-steps, walk-ends}
+use Rattle.generalized.proofs.Walking.{Walking, Space, walk-begins, walk-refused, walk-over, walk-steps, walk-ends}
 use Rattle.generalized.proofs.walk.Statement.{statement}
 use Rattle.generalized.proofs.walk.Tie as tie
 
 abbrev Inv-loop : tie.InvT-loop
-Inv-loop rule table states₀ transitions₀ ends₀ untils initial size₀ place₀ states transitions ends size place =
-    Walking rule initial states transitions ends size (place .0)
+Inv-loop rule table states₀ transitions₀ ends₀ untils initial product₀ next₀ bytes₀ size₀ state₀ states transitions ends product next bytes size state =
+    Walking rule initial states transitions ends size (state .0) × Space product next bytes
 
 abbrev μ-loop : tie.MeasureT-loop
-μ-loop rule table states₀ transitions₀ ends₀ untils initial size₀ place₀ states transitions ends size place =
-    maxGeneralizedStates - place .0
+μ-loop rule table states₀ transitions₀ ends₀ untils initial product₀ next₀ bytes₀ size₀ state₀ states transitions ends product next bytes size state =
+    maxGeneralizedStates - state .0
 
 untils-of-requires : tie.Need-untils-of-requires Inv-loop μ-loop
 untils-of-requires c κs = bytes-fine _ (c .before .before .before .before .before .pre .0)
 
 start-requires : tie.Need-start-requires Inv-loop μ-loop
-start-requires c κs =
-    let s = c .before .before .before .before .before .before .before in
-    (s .pre .0, s .pre .2 .states-room)
+start-requires c κs = (c .before .before .before .before .before .before .before .pre .0, c .before .before .before .before .before .before .before .pre .2 .states-room)
 
 loop-holds : tie.Need-loop-holds Inv-loop μ-loop
 loop-holds c =
     let begun = c .before .before .start in
-    let s = c .before .before .before .before .before .before .before .before .before .before in
-    walk-begins _ _ _ _ (begun .ensures .0) (begun .ensures .1)
-    (record {
-      states-room = begun .kept .1 .0 ∙ s .pre .2 .states-room;
-      transitions-room = s .pre .2 .transitions-room;
-      ends-room = s .pre .2 .ends-room;
-    })
-
-walk-state-requires : tie.Need-walk-state-requires Inv-loop μ-loop
-walk-state-requires c κs =
-    let at = c .before .before .before .before .before in
-    let untils = at .before .before .before .before .before in
-    let s = untils .before .before .before .before .before .before in (
-      s .pre .0,
-      record {
-        accepted = bytes-fine _ (s .pre .0);
-        terms = s .pre .1;
-        untils = untils .untils-of .ensures;
-      },
-      c .before .before .if1 .taken,
-      at .loop .inv .room,
+    let s = c .before .before .before .before .before .before .before .before .before .before in (
+      walk-begins _ _ _ _ (begun .ensures .0) (begun .ensures .1)
+          (record {
+            states-room = begun .kept .1 .0 ∙ s .pre .2 .states-room;
+            transitions-room = s .pre .2 .transitions-room;
+            ends-room = s .pre .2 .ends-room;
+          }),
+      record { products = record { room = refl; beside = refl }; bytes-room = refl },
     )
 
-enum-known-step : tie.Need-enum-known-step Inv-loop μ-loop
-enum-known-step c = search needs
+mul-state-terms : tie.Need-mul-state-terms Inv-loop μ-loop
+mul-state-terms c = search needs
 
-put-end-requires : tie.Need-put-end-requires Inv-loop μ-loop
-put-end-requires c κs =
-    let test = c .before .before .before .before .before .before .before .before .before .before .before in
-    let at = test .before .before .before in
-    omega (arith, at .loop .inv .room .few, at .loop .inv .ends-room, test .if1 .taken)
+slice-read-state-terms : tie.Need-slice-read-state-terms Inv-loop μ-loop
+slice-read-state-terms c = search needs
 
-add-t25 : tie.Need-add-t25 Inv-loop μ-loop
-add-t25 c = search needs
+slice-aggregate-state-terms : tie.Need-slice-aggregate-state-terms Inv-loop μ-loop
+slice-aggregate-state-terms c = sym (c .before .before .before .before .before .loop .inv .1 .products .room)
 
-loop-less : tie.Need-loop-less Inv-loop μ-loop
-loop-less c = search needs
+slice-aggregate-state-terms-2 : tie.Need-slice-aggregate-state-terms-2 Inv-loop μ-loop
+slice-aggregate-state-terms-2 c = sym (c .before .before .before .before .before .before .loop .inv .1 .products .beside)
 
-loop-again : tie.Need-loop-again Inv-loop μ-loop
-loop-again c =
-    let put = c .before .before .before in
-    let state = put .before .before .before .before .before .before .before .before .before in
-    let at = state .before .before .before .before .before .before in
-    let walk = state .walk-state in
-    walk-steps (at .loop .inv) (state .before .before .before .if1 .taken)
-    (walk .result) (walk .last .1 .1 .1 .1 .0) (walk .last .1 .1 .1 .1 .1 .0) (walk .ensures)
-    (put .before .before .before .step .given .1) (walk .kept .1 .1 .1 .1 .0) (walk .kept .1 .1 .1 .1 .1 .0)
-    (put .put-end .ensures)
-
-enum-known-step-2 : tie.Need-enum-known-step-2 Inv-loop μ-loop
-enum-known-step-2 c = search needs
+state-terms-requires : tie.Need-state-terms-requires Inv-loop μ-loop
+state-terms-requires c κs = (c .before .before .before .before .before .before .before .before .before .before .before .before .before .before .before .before .before .pre .0, c .before .before .before .before .before .before .before .before .before .before .before .before .before .before .before .before .before .pre .1, c .before .before .before .before .before .before .loop .inv .1 .products)
 
 same-length : tie.Need-same-length Inv-loop μ-loop
 same-length c = search needs
@@ -91,25 +62,67 @@ same-length-3 : tie.Need-same-length-3 Inv-loop μ-loop
 same-length-3 c = search needs
 
 returns : tie.Need-returns Inv-loop μ-loop
-returns c =
-    let state = c .before .before .before .before .before .before .before in
-    let at = state .before .before .before .before .before .before in
-    let walk = state .walk-state in
-    walk-refused (at .loop .inv) (state .before .before .before .if1 .taken)
-    (walk .result) (walk .last .1 .1 .1 .1 .0) (walk .last .1 .1 .1 .1 .1 .0) (walk .ensures)
-    (c .before .step2 .given .1)
+returns c = walk-over (c .before .before .before .before .before .before .before .before .before .before .loop .inv .0) (c .before .before .before .before .before .before .before .if1 .taken) (c .before .before .before .state-terms .ensures) (c .if2 .taken)
+
+slice-aggregate-fulfil : tie.Need-slice-aggregate-fulfil Inv-loop μ-loop
+slice-aggregate-fulfil c = search needs
+
+slice-aggregate-fulfil-2 : tie.Need-slice-aggregate-fulfil-2 Inv-loop μ-loop
+slice-aggregate-fulfil-2 c = sym (c .before .before .before .before .before .before .before .before .before .before .before .before .loop .inv .1 .bytes-room)
+
+fulfil-requires : tie.Need-fulfil-requires Inv-loop μ-loop
+fulfil-requires c κs = (omega (arith, c .before .before .if2 .left, c .before .before .before .before .before .state-terms .kept .1 .1 .1 .0, c .before .before .before .before .before .before .before .before .before .before .before .before .loop .inv .1 .products .room), omega (arith, c .before .before .if2 .left, c .before .before .before .before .before .before .before .before .before .before .before .before .loop .inv .1 .bytes-room), record { accepted = bytes-fine _ (c .before .before .before .before .before .before .before .before .before .before .before .before .before .before .before .before .before .before .before .before .before .before .before .pre .0); terms = c .before .before .before .before .before .before .before .before .before .before .before .before .before .before .before .before .before .before .before .before .before .before .before .pre .1; untils = c .before .before .before .before .before .before .before .before .before .before .before .before .before .before .before .before .before .untils-of .ensures })
+
+slice-aggregate-meet-all : tie.Need-slice-aggregate-meet-all Inv-loop μ-loop
+slice-aggregate-meet-all c = search needs
+
+slice-aggregate-meet-all-2 : tie.Need-slice-aggregate-meet-all-2 Inv-loop μ-loop
+slice-aggregate-meet-all-2 c = search needs
+
+meet-all-requires : tie.Need-meet-all-requires Inv-loop μ-loop
+meet-all-requires c κs = (search needs, search needs, c .before .before .before .before .before .before .before .before .before .before .before .before .before .before .before .before .before .before .loop .inv .0 .room)
+
+enum-known-step : tie.Need-enum-known-step Inv-loop μ-loop
+enum-known-step c = search needs
+
+put-end-requires : tie.Need-put-end-requires Inv-loop μ-loop
+put-end-requires c κs = omega (arith, c .before .before .before .before .before .before .before .before .before .before .before .before .before .before .before .before .before .before .before .before .before .before .before .before .before .before .before .loop .inv .0 .room .few, c .before .before .before .before .before .before .before .before .before .before .before .before .before .before .before .before .before .before .before .before .before .before .before .before .before .before .before .loop .inv .0 .ends-room, c .before .before .before .before .before .before .before .before .before .before .before .before .before .before .before .before .before .before .before .before .before .before .before .before .if1 .taken)
+
+add-t46 : tie.Need-add-t46 Inv-loop μ-loop
+add-t46 c = omega (arith, c .before .before .before .before .before .before .before .before .before .before .before .before .before .before .before .before .before .before .before .before .before .before .before .before .before .before .before .before .before .before .before .loop .inv .0 .room .few, c .before .before .before .before .before .before .before .before .before .before .before .before .before .before .before .before .before .before .before .before .before .before .before .before .before .before .before .before .if1 .taken)
+
+loop-less : tie.Need-loop-less Inv-loop μ-loop
+loop-less c = omega (arith, c .before .before .before .before .before .before .before .before .before .before .before .before .before .before .before .before .before .before .before .before .before .before .before .before .before .before .before .before .before .before .before .loop .inv .0 .room .few, c .before .before .before .before .before .before .before .before .before .before .before .before .before .before .before .before .before .before .before .before .before .before .before .before .before .before .before .before .if1 .taken)
+
+loop-again : tie.Need-loop-again Inv-loop μ-loop
+loop-again c = (walk-steps (c .before .before .before .before .before .before .before .before .before .before .before .before .before .before .before .before .before .before .before .before .before .before .before .before .before .before .before .before .before .before .before .loop .inv .0) (c .before .before .before .before .before .before .before .before .before .before .before .before .before .before .before .before .before .before .before .before .before .before .before .before .before .before .before .before .if1 .taken) (c .before .before .before .before .before .before .before .before .before .before .before .before .before .before .before .before .before .before .before .before .before .before .before .before .state-terms .ensures) (c .before .before .before .before .before .before .before .before .before .before .before .before .before .before .before .before .before .before .before .before .before .before .before .before .before .before .before .before .before .before .before .before .before .before .before .before .before .before .before .before .before .before .pre .0) (c .before .before .before .before .before .before .before .before .before .before .before .before .before .before .before .before .before .before .before .before .before .if2 .left) _ (c .before .before .before .before .before .before .before .before .before .before .before .before .before .before .before .before .before .before .fulfil .ensures) (c .before .before .before .before .before .before .before .before .before .before .before .before .meet-all .result) (c .before .before .before .before .before .before .before .before .before .before .before .before .meet-all .last .1 .1 .1 .1 .0) (c .before .before .before .before .before .before .before .before .before .before .before .before .meet-all .last .1 .1 .1 .1 .1 .0) (c .before .before .before .before .before .before .before .before .before .before .before .before .meet-all .ensures) (c .before .before .before .before .before .before .step .given .1) (c .before .before .before .before .before .before .before .before .before .before .before .before .meet-all .kept .1 .1 .1 .1 .0) (c .before .before .before .before .before .before .before .before .before .before .before .before .meet-all .kept .1 .1 .1 .1 .1 .0) (c .before .before .before .put-end .ensures), record { products = record { room = c .before .before .before .before .before .before .before .before .before .before .before .before .before .before .before .before .before .before .before .before .before .before .before .before .state-terms .kept .1 .1 .1 .0 ∙ c .before .before .before .before .before .before .before .before .before .before .before .before .before .before .before .before .before .before .before .before .before .before .before .before .before .before .before .before .before .before .before .loop .inv .1 .products .room; beside = c .before .before .before .before .before .before .before .before .before .before .before .before .before .before .before .before .before .before .before .before .before .before .before .before .state-terms .kept .1 .1 .1 .1 .0 ∙ c .before .before .before .before .before .before .before .before .before .before .before .before .before .before .before .before .before .before .before .before .before .before .before .before .before .before .before .before .before .before .before .loop .inv .1 .products .beside }; bytes-room = c .before .before .before .before .before .before .before .before .before .before .before .before .before .before .before .before .before .before .fulfil .kept .1 .1 .1 .1 .1 .0 ∙ c .before .before .before .before .before .before .before .before .before .before .before .before .before .before .before .before .before .before .before .before .before .before .before .before .before .before .before .before .before .before .before .loop .inv .1 .bytes-room })
+
+enum-known-step-2 : tie.Need-enum-known-step-2 Inv-loop μ-loop
+enum-known-step-2 c = search needs
 
 same-length-4 : tie.Need-same-length-4 Inv-loop μ-loop
-same-length-4 c = search needs
+same-length-4 c = c .before .before .before .before .before .before .before .meet-all .kept .1 .1 .1 .1 .0 ∙ c .before .before .before .before .before .before .before .before .before .before .before .before .before .before .before .before .before .before .before .before .before .before .before .before .before .before .loop .inv .0 .room .states-room ∙ sym (c .before .before .before .before .before .before .before .before .before .before .before .before .before .before .before .before .before .before .before .before .before .before .before .before .before .before .before .before .before .before .before .before .before .before .before .before .before .pre .2 .states-room)
 
 same-length-5 : tie.Need-same-length-5 Inv-loop μ-loop
-same-length-5 c = search needs
+same-length-5 c = c .before .before .before .before .before .before .before .meet-all .kept .1 .1 .1 .1 .1 .0 ∙ c .before .before .before .before .before .before .before .before .before .before .before .before .before .before .before .before .before .before .before .before .before .before .before .before .before .before .loop .inv .0 .room .transitions-room ∙ sym (c .before .before .before .before .before .before .before .before .before .before .before .before .before .before .before .before .before .before .before .before .before .before .before .before .before .before .before .before .before .before .before .before .before .before .before .before .before .pre .2 .transitions-room)
 
 same-length-6 : tie.Need-same-length-6 Inv-loop μ-loop
-same-length-6 c = search needs
+same-length-6 c = c .before .before .before .before .before .before .before .before .before .before .before .before .before .before .before .before .before .before .before .before .before .before .before .before .before .before .loop .inv .0 .ends-room ∙ sym (c .before .before .before .before .before .before .before .before .before .before .before .before .before .before .before .before .before .before .before .before .before .before .before .before .before .before .before .before .before .before .before .before .before .before .before .before .before .pre .2 .ends-room)
 
 returns-2 : tie.Need-returns-2 Inv-loop μ-loop
-returns-2 c = walk-ends (c .before .before .before .loop .inv) (c .if1 .left)
+returns-2 c = walk-refused (c .before .before .before .before .before .before .before .before .before .before .before .before .before .before .before .before .before .before .before .before .before .before .before .before .before .before .loop .inv .0) (c .before .before .before .before .before .before .before .before .before .before .before .before .before .before .before .before .before .before .before .before .before .before .before .if1 .taken) (c .before .before .before .before .before .before .before .before .before .before .before .before .before .before .before .before .before .before .before .state-terms .ensures) (c .before .before .before .before .before .before .before .before .before .before .before .before .before .before .before .before .before .before .before .before .before .before .before .before .before .before .before .before .before .before .before .before .before .before .before .before .before .pre .0) (c .before .before .before .before .before .before .before .before .before .before .before .before .before .before .before .before .if2 .left) _ (c .before .before .before .before .before .before .before .before .before .before .before .before .before .fulfil .ensures) (c .before .before .before .before .before .before .before .meet-all .result) (c .before .before .before .before .before .before .before .meet-all .last .1 .1 .1 .1 .0) (c .before .before .before .before .before .before .before .meet-all .last .1 .1 .1 .1 .1 .0) (c .before .before .before .before .before .before .before .meet-all .ensures) (c .before .step2 .given .1)
+
+same-length-7 : tie.Need-same-length-7 Inv-loop μ-loop
+same-length-7 c = search needs
+
+same-length-8 : tie.Need-same-length-8 Inv-loop μ-loop
+same-length-8 c = search needs
+
+same-length-9 : tie.Need-same-length-9 Inv-loop μ-loop
+same-length-9 c = search needs
+
+returns-3 : tie.Need-returns-3 Inv-loop μ-loop
+returns-3 c = walk-ends (c .before .before .before .loop .inv .0) (c .if1 .left)
 
 pub walk-spec : {M : Type 1} → statement M
 walk-spec =
@@ -120,18 +133,32 @@ walk-spec =
     untils-of-requires
     start-requires
     loop-holds
-    walk-state-requires
-    enum-known-step
-    put-end-requires
-    add-t25
-    loop-less
-    loop-again
-    enum-known-step-2
+    mul-state-terms
+    slice-read-state-terms
+    slice-aggregate-state-terms
+    slice-aggregate-state-terms-2
+    state-terms-requires
     same-length
     same-length-2
     same-length-3
     returns
+    slice-aggregate-fulfil
+    slice-aggregate-fulfil-2
+    fulfil-requires
+    slice-aggregate-meet-all
+    slice-aggregate-meet-all-2
+    meet-all-requires
+    enum-known-step
+    put-end-requires
+    add-t46
+    loop-less
+    loop-again
+    enum-known-step-2
     same-length-4
     same-length-5
     same-length-6
-    returns-2)
+    returns-2
+    same-length-7
+    same-length-8
+    same-length-9
+    returns-3)
