@@ -43,7 +43,8 @@ cover-bounded (conjunction a b) le =
     let few = factors-few (coverBound a) (coverBound b) (bounds a .0) (bounds b .0) (omega arith) in
     omega (arith, product-shorter ltb bitOr (λ _. true) (cover a) (cover b) [], mul-le-mul (cover-bounded a (few .0)) (cover-bounded b (few .1)))
 cover-bounded (disjunction a b) le =
-    omega (arith, union-shorter ltb (cover a) (cover b), cover-bounded a (omega (arith, bounds b)), cover-bounded b (omega (arith, bounds a)))
+    let few = cover-bounded a (omega (arith, bounds b)) in
+    omega (arith, union-shorter ltb (cover a) (cover b), few, cover-bounded b (omega (arith, bounds a)))
 cover-bounded (next n a) le = omega arith
 cover-bounded (until n a b) le = omega arith
 cover-bounded (release n a b) le = omega arith
@@ -72,7 +73,9 @@ bound-leaf n p f g (suc (suc (suc (suc (suc (suc (suc (suc zero)))))))) a b = re
 bound-leaf n p f g (suc (suc (suc (suc (suc (suc (suc (suc (suc k))))))))) a b = refl
 
 -- the bound of one node more
-pub bounded-more : (rule bounds : List ℕ) (i v : ℕ) → i < length bounds → BoundedBelow rule i bounds → v ≡ coverBound (tree rule i)
+pub bounded-more : (rule bounds : List ℕ) (i v : ℕ) → i < length bounds → BoundedBelow rule i bounds
+    → v ≡ coverBound (tree rule i)
     → BoundedBelow rule (i + 1) (set bounds i v)
 bounded-more rule bounds i v lt done e =
-    below-more _ i (λ k l. getD-set-other bounds i k v 0 (λ f. omega arith) ∙ done k l) (getD-set-same bounds i v 0 lt ∙ e)
+    below-more _ i (λ k l. getD-set-other bounds i k v 0 (λ f. omega arith) ∙ done k l)
+    (getD-set-same bounds i v 0 lt ∙ e)

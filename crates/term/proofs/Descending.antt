@@ -15,9 +15,11 @@ use Rattle.term.specs.declared.Terms.{Terms}
 use Rattle.term.specs.Limits.{maxTerms}
 use Rattle.term.specs.Term.{terms, cover}
 use Rattle.term.specs.Size.{sizeCheck, sizesChecked, Ready}
-use Rattle.term.specs.Memory.{IsPacked, IsTerms, IsCover, pack, packSet, FromChildren, Over, Found, FoundTerms, FoundCover}
+use Rattle.term.specs.Memory.{IsPacked, IsTerms, IsCover, pack, packSet, FromChildren}
+use Rattle.term.specs.Memory.{Over, Found, FoundTerms, FoundCover}
 use Rattle.term.proofs.ByKind.{of-next}
-use Rattle.term.proofs.Sizes.{ready-in-range, left-lower, right-lower, of-pair, bytes-fine, sizes-fine, over-above, over-many}
+use Rattle.term.proofs.Sizes.{ready-in-range, left-lower, right-lower, of-pair, bytes-fine}
+use Rattle.term.proofs.Sizes.{sizes-fine, over-above, over-many}
 
 module _ (rule : List ℕ) (n : ℕ) where
   many-terms : maxTerms < length (map pack (terms (tree rule n))) → Over rule n
@@ -51,11 +53,13 @@ module _ (rule : List ℕ) (n : ℕ) where
     found-cover is = found many-sets is
 
 -- an inner node n by its children l and m
-module _ {rule : List ℕ} {n kind l : ℕ} (ready : Ready rule n) (ek : kind ≡ kindAt rule n) (el : l ≡ leftAt rule n) {r : Terms} where
+module _ {rule : List ℕ} {n kind l : ℕ} (ready : Ready rule n) (ek : kind ≡ kindAt rule n) (el : l ≡ leftAt rule n)
+    {r : Terms} where
   pub terms-next : kind ≡ 6 → FoundCover rule l r → FoundTerms rule n r
   terms-next e f =
       let same : map pack (terms (tree rule n)) ≡ map packSet (cover (tree rule l)) =
-      of-pair ready ek (λ g. map pack (terms g) ≡ map packSet (cover (tree rule l))) el refl (omega arith) (of-next n _ _ _ kind e) in
+      of-pair ready ek (λ g. map pack (terms g) ≡ map packSet (cover (tree rule l))) el refl (omega arith)
+      (of-next n _ _ _ kind e) in
       record {
         within = λ le. rw same (f .within le);
         over = λ lt. over-above rule n l (omega (arith, left-lower ready ek el (omega arith))) (f .over lt);
@@ -73,7 +77,8 @@ module _ {rule : List ℕ} {n kind l : ℕ} (ready : Ready rule n) (ek : kind �
         found-pair rule n (many-terms rule n) l m below-l below-m fa fb (made .handed-on)
         (λ p q x y.
         of-pair ready ek (λ f. IsTerms r (terms f)) el em inner
-        (made .has-terms p q l _ _ (ready-in-range ready l (omega (arith, below-l))) (ready-in-range ready m (omega (arith, below-m))) x y))
+        (made .has-terms p q l _ _ (ready-in-range ready l (omega (arith, below-l)))
+        (ready-in-range ready m (omega (arith, below-m))) x y))
 
     pub cover-pair : kind < 6 → FoundCover rule l a → FoundCover rule m b → FoundCover rule n r
     cover-pair low fa fb =

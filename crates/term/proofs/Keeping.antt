@@ -6,8 +6,10 @@ use mathlib.Core.List.{List, [], _++_, append-nil}
 use Prim.Native.Nat.{ℕ, suc, _+_, _-_, _*_, _≤_, _<_}
 use native.Mathlib.Decide.{ℕ-discrete, decLt}
 use native.Mathlib.Omega.{arith}
-use lib.ListN.{length, getD, take, drop, set, length-append, length-map, length-set, length-take, length-drop, drop-of-length-le, List·getD-append}
-use lib.Seq.{getD-take, getD-drop, getD-set-same, getD-set-other, ext-getD, take-all, take-at, drop-at, drop-drop, length-take-le}
+use lib.ListN.{length, getD, take, drop, set, length-append, length-map}
+use lib.ListN.{length-set, length-take, length-drop, drop-of-length-le, List·getD-append}
+use lib.Seq.{getD-take, getD-drop, getD-set-same, getD-set-other, ext-getD, take-all}
+use lib.Seq.{take-at, drop-at, drop-drop, length-take-le}
 use borrow.Rule.Slice.PartMut.{midOf, putMid}
 use Rattle.answer.specs.Result.{fine, lowest}
 use Rattle.answer.proofs.Lowest.{lowest-below}
@@ -22,12 +24,16 @@ use Rattle.term.proofs.Carries.{carried}
 use Rattle.term.proofs.Reached.{below-leaf, below-next, below-pair}
 
 -- two lists that agree on m places from a on
-same-part : (m a : ℕ) (xs ys : List ℕ) → length xs ≡ length ys → ((i : ℕ) → i < m → getD xs (a + i) 0 ≡ getD ys (a + i) 0) → take m (drop a xs) ≡ take m (drop a ys)
+same-part : (m a : ℕ) (xs ys : List ℕ) → length xs ≡ length ys
+    → ((i : ℕ) → i < m → getD xs (a + i) 0 ≡ getD ys (a + i) 0) → take m (drop a xs) ≡ take m (drop a ys)
 same-part m a xs ys size same =
     ext-getD 0 _ _ (simp (length-take, length-drop) (omega arith))
     (λ i lt.
     let l : i < m = omega (arith, length-take m (drop a xs)) in
-    getD-take m (drop a xs) i 0 l ∙ getD-drop a xs i 0 ∙ same i l ∙ sym (getD-take m (drop a ys) i 0 l ∙ getD-drop a ys i 0))
+    getD-take m (drop a xs) i 0 l
+    ∙ getD-drop a xs i 0
+    ∙ same i l
+    ∙ sym (getD-take m (drop a ys) i 0 l ∙ getD-drop a ys i 0))
 
 -- ws, which are m, in the places of xs from a on
 module _ (xs ws : List ℕ) (a m : ℕ) (l : length ws ≡ m) (fits : a + m ≤ length xs) where
@@ -56,7 +62,8 @@ module _ (xs ws : List ℕ) (a m : ℕ) (l : length ws ≡ m) (fits : a + m ≤ 
       rw e at same
 
   -- they came back at the start of the part from a on
-  written-lent : {ys : List ℕ} → ys ≡ ws ++ drop m (midOf a (length xs - a) xs) → putMid a (length xs - a) xs ys ≡ written
+  written-lent : {ys : List ℕ} → ys ≡ ws ++ drop m (midOf a (length xs - a) xs)
+      → putMid a (length xs - a) xs ys ≡ written
   written-lent e =
       let k : ℕ = length xs - a in
       let part : midOf a k xs ≡ drop a xs = take-all k (drop a xs) (omega (arith, length-drop a xs)) in
@@ -72,7 +79,8 @@ module _ (before : List ℕ) (n : ℕ) (ts : Terms) (room : suc n * rowPlaces �
   first-stored : getD (counted before n ts) (n * rowPlaces) 0 ≡ ts .count
   first-stored = getD-set-same before (n * rowPlaces) (ts .count) 0 (omega arith)
 
-  others-kept : (i : ℕ) → (i < n * rowPlaces) ⊎ (suc n * rowPlaces ≤ i) → getD (counted before n ts) i 0 ≡ getD before i 0
+  others-kept : (i : ℕ) → (i < n * rowPlaces) ⊎ (suc n * rowPlaces ≤ i)
+      → getD (counted before n ts) i 0 ≡ getD before i 0
   others-kept i (inl below) = getD-set-other before (n * rowPlaces) i (ts .count) 0 (λ e. omega arith)
   others-kept i (inr above) = getD-set-other before (n * rowPlaces) i (ts .count) 0 (λ e. omega arith)
 
@@ -87,12 +95,16 @@ module _ (before : List ℕ) (n : ℕ) (ts : Terms) (room : suc n * rowPlaces �
     others = others-kept;
   }
 
-  module _ (few : ts .count ≤ maxTerms) (full : length (ts .items) ≡ maxTerms) (from : ℕ) (is : from ≡ suc (n * rowPlaces)) where
+  module _ (few : ts .count ≤ maxTerms) (full : length (ts .items) ≡ maxTerms) (from : ℕ)
+      (is : from ≡ suc (n * rowPlaces)) where
     wider : (i : ℕ) → (i < n * rowPlaces) ⊎ (suc n * rowPlaces ≤ i) → (i < from) ⊎ (from + ts .count ≤ i)
     wider i (inl lt) = inl (omega arith)
     wider i (inr ge) = inr (omega arith)
 
-    pub store-copied : {ys : List ℕ} → ys ≡ take (ts .count) (ts .items) ++ drop (ts .count) (midOf from (length (counted before n ts) - from) (counted before n ts))
+    pub store-copied : {ys : List ℕ}
+        → ys
+        ≡ take (ts .count) (ts .items)
+        ++ drop (ts .count) (midOf from (length (counted before n ts) - from) (counted before n ts))
         → StoresRow before n ts (putMid from (length (counted before n ts) - from) (counted before n ts) ys)
     store-copied e =
         let xs : List ℕ = counted before n ts in

@@ -12,7 +12,8 @@ use Rattle.formula.specs.Limits.{propositions}
 use Rattle.formula.specs.Formula.{Formula, bottom, top, proposition, negatedProposition, conjunction, disjunction, next, until, release, InRange}
 use Rattle.term.specs.Term.{cover, terms}
 use Rattle.term.specs.Memory.{pack, packSet}
-use Rattle.term.proofs.Packing.{set-drops, pack-must, pack-must-not, pack-unions, pack-union, pack-owing, pack-conjunction, pack-disjunction, pack-until, pack-release}
+use Rattle.term.proofs.Packing.{set-drops, pack-must, pack-must-not, pack-unions, pack-union, pack-owing}
+use Rattle.term.proofs.Packing.{pack-conjunction, pack-disjunction, pack-until, pack-release}
 
 -- a join that is kept is consistent
 kept : (x y : ℕ) → Consistent x → Consistent y → Consistent (bitOr x y) → Consistent (bitOr x y)

@@ -20,5 +20,6 @@ row-fits {rule} {table} is k lt =
     let row = is .rows k lt in
     let ts = terms (tree rule k) in
     let behind = drop (suc (k * rowPlaces)) table in
-    omega
-    (arith, is .room, row .count, ap length (row .terms), length-take (length ts) behind, length-drop (suc (k * rowPlaces)) table, length-map ts pack)
+    let size = length-take (length ts) behind in
+    let left = length-drop (suc (k * rowPlaces)) table in
+    omega (arith, is .room, row .count, ap length (row .terms), size, left, length-map ts pack)

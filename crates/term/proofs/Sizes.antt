@@ -69,7 +69,8 @@ module _ {rule : List ℕ} {n : ℕ} (ready : Ready rule n) where
     pub right-lower : {r : ℕ} → r ≡ rightAt rule n → 3 < k → r < n
     right-lower er inner = right-below rule n (ready .inside) own-node k ek inner _ er
 
-    pub of-leaf : (P : Formula → Type 0) {l : ℕ} → l ≡ leftAt rule n → ((f g : Formula) → P (build k n l f g)) → P (tree rule n)
+    pub of-leaf : (P : Formula → Type 0) {l : ℕ} → l ≡ leftAt rule n → ((f g : Formula) → P (build k n l f g))
+        → P (tree rule n)
     of-leaf P el = leaf-in rule n (ready .inside) own-node P k ek _ el
 
     pub of-pair : (P : Formula → Type 0) {l r : ℕ} → l ≡ leftAt rule n → r ≡ rightAt rule n → 3 < k

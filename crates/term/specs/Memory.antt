@@ -6,7 +6,8 @@ use mathlib.Core.Logic.{_⊎_}
 use mathlib.Core.Path.{_≡_}
 use lib.ListN.{take, length, getD, drop}
 use Rattle.answer.specs.Result.{fine, lowest}
-use Rattle.formula.specs.Formula.{tree, build, InRange, Formula, bottom, top, proposition, negatedProposition, conjunction, disjunction, next, until, release}
+use Rattle.formula.specs.Formula.{tree, build, InRange, Formula, bottom, top, proposition}
+use Rattle.formula.specs.Formula.{negatedProposition, conjunction, disjunction, next, until, release}
 use Rattle.formula.specs.Rule.{nodeCount, kindAt, leftAt, rightAt}
 use Rattle.term.specs.Limits.{maxTerms, rowPlaces}
 use Rattle.term.specs.Size.{sizeCheck}

@@ -44,14 +44,18 @@ cover-of-cover-leaf-requires t c κs =
     let small = ready-small (c .before .before .before .pre .1) in
     elim (c .if1 .came) [
       | inl low ↦ (small, λ e. omega arith, λ e. omega arith)
-      | inr (_, high) ↦ (let lt = ltb-true _ (c .before .kind-of .result) (high .taken) in (small, λ e. omega arith, λ e. omega arith))
+      | inr (_, high) ↦
+          (let lt = ltb-true _ (c .before .kind-of .result) (high .taken) in
+          (small, λ e. omega arith, λ e. omega arith))
     ]
 
 cover-of-returns : (t : ℕ) → cover-of-lts.Need-returns (claims t) (cover-of-at t) cover-of.Post
 cover-of-returns t c =
     let k = c .before .before in
     let ready = k .before .before .pre .1 in
-    found-cover _ _ (of-leaf ready (k .kind-of .ensures) (λ f. IsCover (c .cover-leaf .result) (cover f)) refl (c .cover-leaf .ensures _))
+    found-cover _ _
+    (of-leaf ready (k .kind-of .ensures) (λ f. IsCover (c .cover-leaf .result) (cover f)) refl
+    (c .cover-leaf .ensures _))
 
 cover-of-left-of-requires : (t : ℕ) → cover-of-lts.Need-left-of-requires (claims t) (cover-of-at t) cover-of.Post
 cover-of-left-of-requires t c κs = search needs
@@ -73,7 +77,8 @@ cover-of-cover-of-requires-2 t c κs =
     let b = right-lower ready (k .kind-of .ensures) (c .right-of .ensures) (omega arith) in
     (omega arith, ready-below ready b)
 
-cover-of-from-children-requires : (t : ℕ) → cover-of-lts.Need-from-children-requires (claims t) (cover-of-at t) cover-of.Post
+cover-of-from-children-requires : (t : ℕ)
+    → cover-of-lts.Need-from-children-requires (claims t) (cover-of-at t) cover-of.Post
 cover-of-from-children-requires t c κs =
     let k = c .before .before .before .before .before .before in
     let le = ltb-false _ (k .kind-of .result) (c .before .before .before .before .if2 .left) in
@@ -85,7 +90,8 @@ cover-of-returns-2 t c =
     let l = r .before .before in
     let k = l .before .before .before .before in
     let ready = k .before .before .pre .1 in
-    cover-pair ready (k .kind-of .ensures) (l .before .left-of .ensures) (r .before .right-of .ensures) (omega arith) (c .from-children .ensures) (search needs) (l .cover-of .ensures) (r .cover-of2 .ensures)
+    cover-pair ready (k .kind-of .ensures) (l .before .left-of .ensures) (r .before .right-of .ensures) (omega arith)
+    (c .from-children .ensures) (search needs) (l .cover-of .ensures) (r .cover-of2 .ensures)
 
 pub +cover-of-spec : {M : Type 1} → statement M
 +cover-of-spec = close μ-cover-of λ t. cover-of-lts.spec (claims t)

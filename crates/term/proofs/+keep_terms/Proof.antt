@@ -63,7 +63,9 @@ keep-terms-returns t c =
     let k = l .before in
     let ready = k .before .before .before .pre .1 .0 in
     keeps-leaf _ _
-    (found-terms _ _ (of-leaf ready (k .kind-of .ensures) (λ g. IsTerms (f .terms-leaf .result) (terms g)) (l .left-of .ensures) (f .terms-leaf .ensures _)))
+    (found-terms _ _
+    (of-leaf ready (k .kind-of .ensures) (λ g. IsTerms (f .terms-leaf .result) (terms g)) (l .left-of .ensures)
+    (f .terms-leaf .ensures _)))
     (omega (arith, k .kind-of .ensures)) (st .store-row .ensures)
 
 keep-terms-keep-terms-requires : (t : ℕ) → keep-terms-lts.Need-keep-terms-requires (claims t) (keep-terms-at t) keep-terms.Post
@@ -97,7 +99,9 @@ keep-terms-returns-2 t c =
     let l = a .before .before .before in
     let k = l .before in
     let ready = k .before .before .before .pre .1 .0 in
-    keeps-next _ _ (terms-next ready (k .kind-of .ensures) (l .left-of .ensures) (v .before .if2 .taken) (v .cover-of .ensures)) _ (l .left-of .ensures) (a .keep-terms .ensures) (omega (arith, k .kind-of .ensures)) (st .store-row2 .ensures)
+    keeps-next _ _
+    (terms-next ready (k .kind-of .ensures) (l .left-of .ensures) (v .before .if2 .taken) (v .cover-of .ensures)) _
+    (l .left-of .ensures) (a .keep-terms .ensures) (omega (arith, k .kind-of .ensures)) (st .store-row2 .ensures)
 
 keep-terms-right-of-requires : (t : ℕ) → keep-terms-lts.Need-right-of-requires (claims t) (keep-terms-at t) keep-terms.Post
 keep-terms-right-of-requires t c κs = search needs
@@ -110,7 +114,8 @@ keep-terms-keep-terms-requires-2 t c κs =
     let b = right-lower ready (k .kind-of .ensures) (r .right-of .ensures) (omega arith) in
     (omega arith, (ready-below ready b, search needs))
 
-keep-terms-from-children-requires : (t : ℕ) → keep-terms-lts.Need-from-children-requires (claims t) (keep-terms-at t) keep-terms.Post
+keep-terms-from-children-requires : (t : ℕ)
+    → keep-terms-lts.Need-from-children-requires (claims t) (keep-terms-at t) keep-terms.Post
 keep-terms-from-children-requires t c κs =
     let e = c .before .before .before .before .before in
     let s = e .before .before .before .before .before .before .before .before .before .before in
@@ -135,7 +140,8 @@ keep-terms-returns-3 t c =
     let k = l .before in
     let ready = k .before .before .before .pre .1 .0 in
     keeps-pair _ _
-    (terms-pair ready (k .kind-of .ensures) (l .left-of .ensures) (r .right-of .ensures) (omega arith) (v .from-children .ensures) (a .keep-terms .ensures .value) (b .keep-terms2 .ensures .value))
+    (terms-pair ready (k .kind-of .ensures) (l .left-of .ensures) (r .right-of .ensures) (omega arith)
+    (v .from-children .ensures) (a .keep-terms .ensures .value) (b .keep-terms2 .ensures .value))
     _ (l .left-of .ensures) (a .keep-terms .ensures) _ (r .right-of .ensures) (b .keep-terms2 .ensures) (st .store-row3 .ensures)
 
 pub +keep-terms-spec : {M : Type 1} → statement M

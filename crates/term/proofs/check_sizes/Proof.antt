@@ -1,5 +1,5 @@
--- `term::check_sizes` meets its contract: the nodes before i are fine and their bounds are there (`Checking`), and the first
--- refusal is the lowest. Assumes nothing.
+-- `term::check_sizes` meets its contract: the nodes before i are fine and their bounds are there (`Checking`), and the
+-- first refusal is the lowest. Assumes nothing.
 use borrow.Author.Needs.{needs}
 use native.Mathlib.Omega.{arith}
 use Prim.Native.Nat.{ℕ, _-_, _≤_}
@@ -51,8 +51,13 @@ array-write-bounds c = search needs
 check-size-requires : tie.Need-check-size-requires Inv-loop μ-loop
 check-size-requires c κs =
     let at = c .before .before .before in
-    let s = at .before .before .before in
-    (record { accepted = s .pre .1; inside = omega arith }, at .loop .inv .passing .passed, s .pre .2, s .pre .3 _ (omega arith), c .cover-bound .ensures)
+    let s = at .before .before .before in (
+      record { accepted = s .pre .1; inside = omega arith },
+      at .loop .inv .passing .passed,
+      s .pre .2,
+      s .pre .3 _ (omega arith),
+      c .cover-bound .ensures,
+    )
 
 enum-known-size : tie.Need-enum-known-size Inv-loop μ-loop
 enum-known-size c = search needs
@@ -61,7 +66,8 @@ returns : tie.Need-returns Inv-loop μ-loop
 returns c =
     let size = c .before .before .before in
     let at = size .before .before .before .before in
-    pass-fails _ _ (at .loop .i) (omega arith) (at .loop .inv .passing) (sym (ap answer (c .before .size .given .1)) ∙ size .check-size .ensures)
+    pass-fails _ _ (at .loop .i) (omega arith) (at .loop .inv .passing)
+    (sym (ap answer (c .before .size .given .1)) ∙ size .check-size .ensures)
 
 enum-told : tie.Need-enum-told Inv-loop μ-loop
 enum-told c = search needs
@@ -77,11 +83,13 @@ loop-again c =
     let size = c .before .before in
     let at = size .before .before .before .before in
     let inv = at .loop .inv in
+    let fine-here = sym (size .check-size .ensures) ∙ ap answer (c .enum-told .given .1) in
+    let is = size .before .cover-bound .ensures in
     record {
       small = inv .small;
       size = simp length-set (inv .size);
-      passing = pass-steps _ _ (at .loop .i) (omega arith) (inv .passing) (sym (size .check-size .ensures) ∙ ap answer (c .enum-told .given .1));
-      bounded = bounded-more _ (at .loop .bounds) (at .loop .i) _ (omega (arith, inv .size)) (inv .bounded) (size .before .cover-bound .ensures);
+      passing = pass-steps _ _ (at .loop .i) (omega arith) (inv .passing) fine-here;
+      bounded = bounded-more _ (at .loop .bounds) (at .loop .i) _ (omega (arith, inv .size)) (inv .bounded) is;
     }
 
 returns-2 : tie.Need-returns-2 Inv-loop μ-loop

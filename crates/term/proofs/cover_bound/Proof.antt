@@ -17,7 +17,8 @@ returns : tie.Need-returns
 returns c =
     let k = c .before in
     let ready = k .before .before .pre .0 in
-    of-leaf ready (k .kind-of .ensures) (λ f. 1 ≡ coverBound f) refl (λ f g. sym (bound-leaf _ _ f g (k .kind-of .result) (λ e. omega arith) (λ e. omega arith)))
+    of-leaf ready (k .kind-of .ensures) (λ f. 1 ≡ coverBound f) refl
+    (λ f g. sym (bound-leaf _ _ f g (k .kind-of .result) (λ e. omega arith) (λ e. omega arith)))
 
 left-of-requires : tie.Need-left-of-requires
 left-of-requires c κs = search needs
@@ -26,7 +27,8 @@ mul-a : tie.Need-mul-a
 mul-a c =
     let k = c .before .before in
     let ready = k .before .before .pre .0 in
-    record { fits = omega (arith, ready-small ready, left-lower ready (k .kind-of .ensures) (c .left-of .ensures) (omega arith)) }
+    let lower = left-lower ready (k .kind-of .ensures) (c .left-of .ensures) (omega arith) in
+    record { fits = omega (arith, ready-small ready, lower) }
 
 element-copy-out-a : tie.Need-element-copy-out-a
 element-copy-out-a c =
@@ -41,7 +43,8 @@ mul-b : tie.Need-mul-b
 mul-b c =
     let k = c .before .before .before .before in
     let ready = k .before .before .pre .0 in
-    record { fits = omega (arith, ready-small ready, right-lower ready (k .kind-of .ensures) (c .right-of .ensures) (omega arith)) }
+    let lower = right-lower ready (k .kind-of .ensures) (c .right-of .ensures) (omega arith) in
+    record { fits = omega (arith, ready-small ready, lower) }
 
 element-copy-out-b : tie.Need-element-copy-out-b
 element-copy-out-b c =
@@ -59,7 +62,9 @@ bound-pair-requires c κs =
     let rule = s .args .rule .now in
     let bl = left-lower ready (k .kind-of .ensures) (l .left-of .ensures) (omega arith) in
     let br = right-lower ready (k .kind-of .ensures) (r .right-of .ensures) (omega arith) in
-    (omega (arith, s .pre .1 _ bl, bounds (tree rule (l .left-of .result))), omega (arith, s .pre .1 _ br, bounds (tree rule (r .right-of .result))))
+    let most-l = bounds (tree rule (l .left-of .result)) in
+    let most-r = bounds (tree rule (r .right-of .result)) in
+    (omega (arith, s .pre .1 _ bl, most-l), omega (arith, s .pre .1 _ br, most-r))
 
 returns-2 : tie.Need-returns-2
 returns-2 c =
@@ -70,7 +75,8 @@ returns-2 c =
     let ready = s .pre .0 in
     let bl = left-lower ready (k .kind-of .ensures) (l .left-of .ensures) (omega arith) in
     let br = right-lower ready (k .kind-of .ensures) (r .right-of .ensures) (omega arith) in
-    of-pair ready (k .kind-of .ensures) (λ f. c .bound-pair .result ≡ coverBound f) (l .left-of .ensures) (r .right-of .ensures) (omega arith)
+    of-pair ready (k .kind-of .ensures) (λ f. c .bound-pair .result ≡ coverBound f) (l .left-of .ensures)
+    (r .right-of .ensures) (omega arith)
     (c .bound-pair .ensures _ _ _ _ (s .pre .1 _ bl) (s .pre .1 _ br))
 
 pub cover-bound-spec : {M : Type 1} → statement M

@@ -1,18 +1,27 @@
--- `term::from_children` meets its contract, kind by kind: packing carries products and unions over, and what is over is handed
--- on. Assumes nothing.
+-- `term::from_children` meets its contract, kind by kind: packing carries products and unions over, and what is over is
+-- handed on. Assumes nothing.
 use borrow.Author.Needs.{needs}
 use native.Mathlib.Omega.{arith}
 use Rattle.term.specs.Term.{terms, cover}
-use Rattle.term.proofs.Packing.{pack-unions, pack-union, pack-conjunction, pack-disjunction, pack-until, pack-release}
+use Rattle.term.proofs.Packing.{pack-unions, pack-union, pack-conjunction, pack-disjunction}
+use Rattle.term.proofs.Packing.{pack-until, pack-release}
 use Rattle.term.proofs.ByKind.{above, no-kind}
 use Rattle.term.proofs.from_children.Statement.{statement}
 use Rattle.term.proofs.from_children.Tie as tie
 
 returns : tie.Need-returns
-returns c = record { handed-on = λ le. absurd (omega arith); has-terms = λ p. absurd (omega arith); is-cover = λ p. absurd (omega arith) }
+returns c = record {
+  handed-on = λ le. absurd (omega arith);
+  has-terms = λ p. absurd (omega arith);
+  is-cover = λ p. absurd (omega arith);
+}
 
 returns-2 : tie.Need-returns-2
-returns-2 c = record { handed-on = λ le. absurd (omega arith); has-terms = λ p q. absurd (omega arith); is-cover = λ p q. absurd (omega arith) }
+returns-2 c = record {
+  handed-on = λ le. absurd (omega arith);
+  has-terms = λ p q. absurd (omega arith);
+  is-cover = λ p q. absurd (omega arith);
+}
 
 product-requires : tie.Need-product-requires
 product-requires c κs = search needs
@@ -23,8 +32,12 @@ returns-3 c =
     let e = c .before .before in
     record {
       handed-on = λ le. (e .before .if1 .left, e .if2 .left);
-      has-terms = λ p q m f g mf mg a b. rw (c .before .if3 .taken, pack-conjunction 0 f g mf mg) (c .product .ensures _ _ a b);
-      is-cover = λ p q low m f g a b. rw (c .before .if3 .taken, pack-unions (cover f) (cover g)) (c .product .ensures _ _ a b);
+      has-terms = λ p q m f g mf mg a b.
+          rw (c .before .if3 .taken, pack-conjunction 0 f g mf mg)
+          (c .product .ensures _ _ a b);
+      is-cover = λ p q low m f g a b.
+          rw (c .before .if3 .taken, pack-unions (cover f) (cover g))
+          (c .product .ensures _ _ a b);
     }
 
 union-requires : tie.Need-union-requires
@@ -36,8 +49,12 @@ returns-4 c =
     let e = c .before .before .before in
     record {
       handed-on = λ le. (e .before .if1 .left, e .if2 .left);
-      has-terms = λ p q m f g mf mg a b. rw (c .before .if4 .taken, pack-disjunction 0 f g mf mg) (c .union .ensures _ _ a b);
-      is-cover = λ p q low m f g a b. rw (c .before .if4 .taken, pack-union (cover f) (cover g)) (c .union .ensures _ _ a b);
+      has-terms = λ p q m f g mf mg a b.
+          rw (c .before .if4 .taken, pack-disjunction 0 f g mf mg)
+          (c .union .ensures _ _ a b);
+      is-cover = λ p q low m f g a b.
+          rw (c .before .if4 .taken, pack-union (cover f) (cover g))
+          (c .union .ensures _ _ a b);
     }
 
 owe-requires : tie.Need-owe-requires
@@ -52,7 +69,9 @@ returns-5 c =
     let e = c .before .before .before .before .before in
     record {
       handed-on = λ le. (e .before .if1 .left, e .if2 .left);
-      has-terms = λ p q m f g mf mg a b. rw (c .before .before .if5 .taken, pack-until _ f g mf mg, ← c .before .owe .ensures) (c .until .ensures _ _ a b);
+      has-terms = λ p q m f g mf mg a b.
+          rw (c .before .before .if5 .taken, pack-until _ f g mf mg, ← c .before .owe .ensures)
+          (c .until .ensures _ _ a b);
       is-cover = λ p q low. absurd (omega arith);
     }
 
@@ -71,7 +90,9 @@ returns-6 c =
     let e = c .before .before .before .before .before .before in
     record {
       handed-on = λ le. (e .before .if1 .left, e .if2 .left);
-      has-terms = λ p q m f g mf mg a b. rw (c .before .before .if6 .taken, pack-release _ f g mf mg, ← c .before .owe2 .ensures) (c .release .ensures _ _ a b);
+      has-terms = λ p q m f g mf mg a b.
+          rw (c .before .before .if6 .taken, pack-release _ f g mf mg, ← c .before .owe2 .ensures)
+          (c .release .ensures _ _ a b);
       is-cover = λ p q low. absurd (omega arith);
     }
 
@@ -81,7 +102,8 @@ returns-7 c =
     let w = c .before .before in
     let e = w .before .before .before in
     let pre = e .before .before .pre in
-    let k = no-kind (pre .1) (w .before .before .if3 .left) (w .before .if4 .left) (pre .2) (w .if5 .left) (c .before .if6 .left) in
+    let or = w .before in
+    let k = no-kind (pre .1) (or .before .if3 .left) (or .if4 .left) (pre .2) (w .if5 .left) (c .before .if6 .left) in
     record {
       handed-on = λ le. (e .before .if1 .left, e .if2 .left);
       has-terms = λ p q m f g mf mg a b. rw (above _ m f g _ k) (c .none .ensures);

@@ -44,7 +44,8 @@ copy-words-requires c κs = (simp (length-take, length-drop, length-set) (omega 
 returns-2 : tie.Need-returns-2
 returns-2 c =
     let e = c .before .before .before .before .before .before .before in
-    store-copied _ _ _ (omega arith) (e .if1 .left) (search needs) _ (add-one _) (c .before .before .copy-words .ensures)
+    store-copied _ _ _ (omega arith) (e .if1 .left) (search needs) _ (add-one _)
+    (c .before .before .copy-words .ensures)
 
 same-length-2 : tie.Need-same-length-2
 same-length-2 c = returns-2 c .size

@@ -30,7 +30,10 @@ returns c =
     let k = c .before .before .before .before in
     let s = k .before .before .before .before in (
       c .check-sizes .ensures,
-      λ e. table-fine _ _ (search needs) (λ j lt. k .keep-terms .ensures .reached j (reached-whole _ (s .pre .0) j lt)) (sym (c .check-sizes .ensures) ∙ e),
+      λ e.
+          table-fine _ _ (search needs)
+          (λ j lt. k .keep-terms .ensures .reached j (reached-whole _ (s .pre .0) j lt))
+          (sym (c .check-sizes .ensures) ∙ e),
     )
 
 pub tabulate-spec : {M : Type 1} → statement M

@@ -3,6 +3,7 @@
 use borrow.Author.Needs.{needs}
 use native.Mathlib.Omega.{arith}
 use mathlib.Core.Path.{_≡_}
+use Prim.Native.Nat.{_^_}
 use Rattle.formula.specs.Limits.{propositions}
 use Rattle.term.specs.Term.{terms}
 use Rattle.term.proofs.Packing.{pack-must, pack-must-not}
@@ -46,8 +47,9 @@ one-requires-3 c κs = search needs
 returns-4 : tie.Need-returns-4
 unfolding terms
 returns-4 c = λ n f g.
-    let is-negated : c .before .before .before .before .before .args .kind ≡ 3 = omega arith in
-    rw (is-negated, pack-must-not, ← c .before .bit2 .ensures) (c .one3 .ensures)
+    let s = c .before .before .before .before .before in
+    let is-negated : s .args .kind ≡ 3 = omega arith in
+    rw (is-negated, pack-must-not (2 ^ s .args .p), ← c .before .bit2 .ensures) (c .one3 .ensures)
 
 pub terms-leaf-spec : {M : Type 1} → statement M
 terms-leaf-spec =

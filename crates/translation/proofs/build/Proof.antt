@@ -19,7 +19,9 @@ slice-aggregate-tabulate : tie.Need-slice-aggregate-tabulate
 slice-aggregate-tabulate c = search needs
 
 tabulate-requires : tie.Need-tabulate-requires
-tabulate-requires c κs = (search needs, omega (arith, accepted-fine _ (c .before .before .before .before .before .pre .0) .most))
+tabulate-requires c κs =
+    let s = c .before .before .before .before .before in
+    (search needs, omega (arith, accepted-fine _ (s .pre .0) .most))
 
 enum-known-sizes : tie.Need-enum-known-sizes
 enum-known-sizes c = search needs
@@ -55,7 +57,10 @@ slice-aggregate-walk-4 : tie.Need-slice-aggregate-walk-4
 slice-aggregate-walk-4 c = search needs
 
 walk-requires : tie.Need-walk-requires
-walk-requires c κs = (passed (c .before .before .before .before), c .before .before .before .before .before .before .before .tabulate .ensures .1 (ap answer (c .before .before .before .before .enum-told .given .1)), record { states-room = refl; transitions-room = refl; ends-room = refl })
+walk-requires c κs =
+    let told = c .before .before .before .before in
+    let table = told .before .before .before .tabulate .ensures .1 (ap answer (told .enum-told .given .1)) in
+    (passed told, table, record { states-room = refl; transitions-room = refl; ends-room = refl })
 
 enum-known-walked : tie.Need-enum-known-walked
 enum-known-walked c = search needs
