@@ -14,7 +14,7 @@ use Rattle.automaton.specs.Tables.{Counts, countsOf}
 use Rattle.image.specs.Memory.{Small}
 use Rattle.image.specs.Image.{transitionsAt, initialAt, imageLength, contentsBytes}
 use Rattle.answer.specs.Bytes.{numberAt}
-use Rattle.image.specs.Reader.{countsAt, countsFit, contentsCheck, stateCheck, sumCheck, transitionRecordCheck, initialCheck, recordsCheck}
+use Rattle.image.specs.Reader.{countsAt, countsFit, kindsFit, offsetsFit, contentsCheck, stateCheck, sumCheck, transitionRecordCheck, initialCheck, recordsCheck}
 
 -- two orders and a test in a row: the first that fails, or the last
 module _ (a x b y : ℕ) (r : Bool) where
@@ -52,12 +52,6 @@ small-fits c small = rw (le-leb (c .states) maxStates (small .states), le-leb (c
 
 -- the contents of an image, by the tests in their order
 module _ (image : List ℕ) where
-  abbrev kinds : Bool
-  kinds = eqb (numberAt image 0) 1 && (eqb (numberAt image 6) 2 && eqb (numberAt image 12) 3)
-
-  abbrev offsets : Counts → Bool
-  offsets c = eqb (numberAt image 4) contentsBytes && (eqb (numberAt image 10) (transitionsAt c) && eqb (numberAt image 16) (initialAt c))
-
   abbrev contentsAnswer : Result Counts
   contentsAnswer = andThen (contentsCheck image) (λ _. accepted (countsAt image))
 
@@ -66,22 +60,22 @@ module _ (image : List ℕ) where
   image-short lt = rw (lt-leb contentsBytes (length image) lt)
 
   module _ (long : contentsBytes ≤ length image) where
-    pub kinds-wrong : {r : Bool} → r ≡ kinds → not r ≡ true → refused 10 0 ≡ contentsAnswer
+    pub kinds-wrong : {r : Bool} → r ≡ kindsFit image → not r ≡ true → refused 10 0 ≡ contentsAnswer
     unfolding contentsCheck
     kinds-wrong {r} e f = rw (le-leb contentsBytes (length image) long, ← e, not-true r f)
 
     -- the counts as the code has read them
-    module _ {r : Bool} (known : r ≡ kinds) (passed : not r ≡ false) (a b d : ℕ) (states : a ≡ numberAt image 2) (transitions : b ≡ numberAt image 8) (initial : d ≡ numberAt image 14) where
+    module _ {r : Bool} (known : r ≡ kindsFit image) (passed : not r ≡ false) (a b d : ℕ) (states : a ≡ numberAt image 2) (transitions : b ≡ numberAt image 8) (initial : d ≡ numberAt image 14) where
       pub counts-wrong : {t : Bool} → t ≡ countsFit (countsOf a b d) → not t ≡ true → refused 10 0 ≡ contentsAnswer
       unfolding contentsCheck
       counts-wrong {t} e f = rw (le-leb contentsBytes (length image) long, ← known, not-false r passed, ← states, ← transitions, ← initial, ← e, not-true t f)
 
       module _ {t : Bool} (small : t ≡ countsFit (countsOf a b d)) (fits : not t ≡ false) where
-        pub offsets-wrong : {o : Bool} → o ≡ offsets (countsOf a b d) → not o ≡ true → refused 10 0 ≡ contentsAnswer
+        pub offsets-wrong : {o : Bool} → o ≡ offsetsFit image (transitionsAt (countsOf a b d)) (initialAt (countsOf a b d)) → not o ≡ true → refused 10 0 ≡ contentsAnswer
         unfolding contentsCheck
         offsets-wrong {o} e f = rw (le-leb contentsBytes (length image) long, ← known, not-false r passed, ← states, ← transitions, ← initial, ← small, not-false t fits, ← e, not-true o f)
 
-        module _ {o : Bool} (tight : o ≡ offsets (countsOf a b d)) (agree : not o ≡ false) where
+        module _ {o : Bool} (tight : o ≡ offsetsFit image (transitionsAt (countsOf a b d)) (initialAt (countsOf a b d))) (agree : not o ≡ false) where
           pub length-wrong : (length image ≡ imageLength (countsOf a b d) → ⊥) → refused 10 0 ≡ contentsAnswer
           unfolding contentsCheck
           length-wrong ne = rw (le-leb contentsBytes (length image) long, ← known, not-false r passed, ← states, ← transitions, ← initial, ← small, not-false t fits, ← tight, not-false o agree, ne-eqb (length image) (imageLength (countsOf a b d)) ne)

@@ -30,9 +30,7 @@ read : (c : tie.After-known-told) → Passes (contentsCheck (c .before .before .
 read c = passes _ _ _ (sym (ap readAnswer (c .before .contents .given .1)) ∙ c .before .before .before .check-contents .ensures)
 
 check-bodies-requires : tie.Need-check-bodies-requires
-check-bodies-requires c κs =
-    let known = sized (read c) in
-    (known .small, known .size)
+check-bodies-requires c κs = sized (read c)
 
 enum-known-bodies : tie.Need-enum-known-bodies
 enum-known-bodies c = search needs

@@ -11,11 +11,11 @@ use Rattle.image.proofs.check_contents.Tie as tie
 returns : tie.Need-returns
 returns c = image-short _ (omega arith)
 
-kinds-fit-requires : tie.Need-kinds-fit-requires
-kinds-fit-requires c κs = search needs
+entries-have-requires : tie.Need-entries-have-requires
+entries-have-requires c κs = search needs
 
 returns-2 : tie.Need-returns-2
-returns-2 c = kinds-wrong _ (omega arith) (c .before .kinds-fit .ensures) (c .if2 .taken)
+returns-2 c = kinds-wrong _ (omega arith) (c .before .entries-have .ensures) (c .if2 .taken)
 
 number-at-requires : tie.Need-number-at-requires
 number-at-requires c κs = search needs
@@ -33,7 +33,7 @@ returns-3 : tie.Need-returns-3
 returns-3 c =
     let counts = c .before in
     let kinds = counts .before .before .before .before in
-    counts-wrong _ (omega arith) (kinds .before .kinds-fit .ensures) (kinds .if2 .left) _ _ _ (counts .before .before .before .number-at .ensures) (counts .before .before .number-at2 .ensures) (counts .before .number-at3 .ensures)
+    counts-wrong _ (omega arith) (kinds .before .entries-have .ensures) (kinds .if2 .left) _ _ _ (counts .before .before .before .number-at .ensures) (counts .before .before .number-at2 .ensures) (counts .before .number-at3 .ensures)
     (counts .counts-fit .ensures) (c .if3 .taken)
 
 mul-transitions-at : tie.Need-mul-transitions-at
@@ -60,15 +60,15 @@ add-initial-at c =
     let small = counts-small _ (sym (counts .counts-fit .ensures) ∙ not-false _ (c .if3 .left)) in
     omega (arith, small .states, small .transitions, small .initial)
 
-offsets-fit-requires : tie.Need-offsets-fit-requires
-offsets-fit-requires c κs = search needs
+entries-have-requires-2 : tie.Need-entries-have-requires-2
+entries-have-requires-2 c κs = search needs
 
 returns-4 : tie.Need-returns-4
 returns-4 c =
     let counts = c .before .before .before in
     let kinds = counts .before .before .before .before in
-    offsets-wrong _ (omega arith) (kinds .before .kinds-fit .ensures) (kinds .if2 .left) _ _ _ (counts .before .before .before .number-at .ensures) (counts .before .before .number-at2 .ensures) (counts .before .number-at3 .ensures)
-    (counts .counts-fit .ensures) (c .before .before .if3 .left) (c .before .offsets-fit .ensures) (c .if4 .taken)
+    offsets-wrong _ (omega arith) (kinds .before .entries-have .ensures) (kinds .if2 .left) _ _ _ (counts .before .before .before .number-at .ensures) (counts .before .before .number-at2 .ensures) (counts .before .number-at3 .ensures)
+    (counts .counts-fit .ensures) (c .before .before .if3 .left) (c .before .entries-have2 .ensures) (c .if4 .taken)
 
 mul-if5 : tie.Need-mul-if5
 mul-if5 c =
@@ -86,22 +86,22 @@ returns-5 : tie.Need-returns-5
 returns-5 c =
     let counts = c .before .before .before .before in
     let kinds = counts .before .before .before .before in
-    length-wrong _ (omega arith) (kinds .before .kinds-fit .ensures) (kinds .if2 .left) _ _ _ (counts .before .before .before .number-at .ensures) (counts .before .before .number-at2 .ensures) (counts .before .number-at3 .ensures)
-    (counts .counts-fit .ensures) (c .before .before .before .if3 .left) (c .before .before .offsets-fit .ensures) (c .before .if4 .left) (c .if5 .taken)
+    length-wrong _ (omega arith) (kinds .before .entries-have .ensures) (kinds .if2 .left) _ _ _ (counts .before .before .before .number-at .ensures) (counts .before .before .number-at2 .ensures) (counts .before .number-at3 .ensures)
+    (counts .counts-fit .ensures) (c .before .before .before .if3 .left) (c .before .before .entries-have2 .ensures) (c .before .if4 .left) (c .if5 .taken)
 
 returns-6 : tie.Need-returns-6
 returns-6 c =
     let counts = c .before .before .before .before in
     let kinds = counts .before .before .before .before in
-    contents-fit _ (omega arith) (kinds .before .kinds-fit .ensures) (kinds .if2 .left) _ _ _ (counts .before .before .before .number-at .ensures) (counts .before .before .number-at2 .ensures) (counts .before .number-at3 .ensures)
-    (counts .counts-fit .ensures) (c .before .before .before .if3 .left) (c .before .before .offsets-fit .ensures) (c .before .if4 .left) (c .if5 .left)
+    contents-fit _ (omega arith) (kinds .before .entries-have .ensures) (kinds .if2 .left) _ _ _ (counts .before .before .before .number-at .ensures) (counts .before .before .number-at2 .ensures) (counts .before .number-at3 .ensures)
+    (counts .counts-fit .ensures) (c .before .before .before .if3 .left) (c .before .before .entries-have2 .ensures) (c .before .if4 .left) (c .if5 .left)
 
 pub check-contents-spec : {M : Type 1} → statement M
 check-contents-spec =
     tie.close
     (tie.spec
     returns
-    kinds-fit-requires
+    entries-have-requires
     returns-2
     number-at-requires
     number-at-requires-2
@@ -112,7 +112,7 @@ check-contents-spec =
     add-transitions-at
     mul-initial-at
     add-initial-at
-    offsets-fit-requires
+    entries-have-requires-2
     returns-4
     mul-if5
     add-if5

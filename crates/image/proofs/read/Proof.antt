@@ -34,8 +34,7 @@ load-bodies-requires c κs =
     let tables = found .before .before .before in
     let a = tables .before .before .before .before .before .before .args in
     let long = tables-long (a .states .now) (a .transitions .now) (a .initial .now) (tables .before .tables-fit .ensures) (tables .if1 .left) in
-    let known = checks-sized _ _ (sym (ap readAnswer (found .found .given .1)) ∙ found .before .before .check .ensures) in
-    (known .small, known .size, long)
+    (checks-sized _ _ (sym (ap readAnswer (found .found .given .1)) ∙ found .before .before .check .ensures), long)
 
 same-length : tie.Need-same-length
 same-length c = search needs

@@ -1,7 +1,8 @@
--- `image::write_contents` meets its contract: three entries, the last two in lent parts.
+-- `image::write_contents` meets its contract: three entries, one behind another.
 -- Assumes nothing.
 use borrow.Author.Needs.{needs}
-use Rattle.image.proofs.Stores.{contents-written}
+use Rattle.automaton.specs.Tables.{countsOf}
+use Rattle.image.proofs.Stores.{contents-stored}
 use Rattle.image.proofs.write_contents.Statement.{statement}
 use Rattle.image.proofs.write_contents.Tie as tie
 
@@ -20,26 +21,8 @@ add-initial-at c = search needs
 write-entry-requires : tie.Need-write-entry-requires
 write-entry-requires c κs = search needs
 
-sub-write-entry : tie.Need-sub-write-entry
-sub-write-entry c = search needs
-
-part-write-entry-start : tie.Need-part-write-entry-start
-part-write-entry-start c = search needs
-
-part-write-entry-end : tie.Need-part-write-entry-end
-part-write-entry-end c = search needs
-
 write-entry-requires-2 : tie.Need-write-entry-requires-2
 write-entry-requires-2 c κs = search needs
-
-sub-write-entry-2 : tie.Need-sub-write-entry-2
-sub-write-entry-2 c = search needs
-
-part-write-entry-start-2 : tie.Need-part-write-entry-start-2
-part-write-entry-start-2 c = search needs
-
-part-write-entry-end-2 : tie.Need-part-write-entry-end-2
-part-write-entry-end-2 c = search needs
 
 write-entry-requires-3 : tie.Need-write-entry-requires-3
 write-entry-requires-3 c κs = search needs
@@ -50,7 +33,8 @@ same-length c = search needs
 returns : tie.Need-returns
 returns c =
     let first = c .before .before .before .before .before .before .before .before .before .before in
-    contents-written _ (first .before .before .before .args .image .now) _ _ _ (first .write-entry .ensures) (c .before .before .before .before .before .before .write-entry2 .ensures) (c .before .before .write-entry3 .ensures)
+    let a = first .before .before .before .args in
+    contents-stored (countsOf (a .states) (a .transitions) (a .initial)) (a .image .now) (first .write-entry .ensures) (c .before .before .before .before .before .before .write-entry2 .ensures) (c .before .before .write-entry3 .ensures)
 
 pub write-contents-spec : {M : Type 1} → statement M
 write-contents-spec =
@@ -61,13 +45,7 @@ write-contents-spec =
     mul-initial-at
     add-initial-at
     write-entry-requires
-    sub-write-entry
-    part-write-entry-start
-    part-write-entry-end
     write-entry-requires-2
-    sub-write-entry-2
-    part-write-entry-start-2
-    part-write-entry-end-2
     write-entry-requires-3
     same-length
     returns)

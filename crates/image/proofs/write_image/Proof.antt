@@ -1,9 +1,9 @@
--- `image::write_image` meets its contract: the contents, then three copies in lent parts after them.
+-- `image::write_image` meets its contract: the contents, and behind them three copies.
 -- Assumes nothing.
 use borrow.Author.Needs.{needs}
 use native.Mathlib.Omega.{arith}
 use Rattle.automaton.specs.Tables.{countsOf}
-use Rattle.image.proofs.Stores.{image-written}
+use Rattle.image.proofs.Stores.{image-stored}
 use Rattle.image.proofs.write_image.Statement.{statement}
 use Rattle.image.proofs.write_image.Tie as tie
 
@@ -22,50 +22,23 @@ add-initial-at c = search needs
 write-contents-requires : tie.Need-write-contents-requires
 write-contents-requires c κs = search needs
 
-sub-copy : tie.Need-sub-copy
-sub-copy c = search needs
+mul-put : tie.Need-mul-put
+mul-put c = search needs
 
-part-copy-start : tie.Need-part-copy-start
-part-copy-start c = search needs
+put-requires : tie.Need-put-requires
+put-requires c κs = search needs
 
-part-copy-end : tie.Need-part-copy-end
-part-copy-end c = search needs
+mul-put-2 : tie.Need-mul-put-2
+mul-put-2 c = search needs
 
-mul-copy : tie.Need-mul-copy
-mul-copy c = search needs
+put-requires-2 : tie.Need-put-requires-2
+put-requires-2 c κs = search needs
 
-copy-requires : tie.Need-copy-requires
-copy-requires c κs = search needs
+mul-put-3 : tie.Need-mul-put-3
+mul-put-3 c = search needs
 
-sub-copy-2 : tie.Need-sub-copy-2
-sub-copy-2 c = search needs
-
-part-copy-start-2 : tie.Need-part-copy-start-2
-part-copy-start-2 c = search needs
-
-part-copy-end-2 : tie.Need-part-copy-end-2
-part-copy-end-2 c = search needs
-
-mul-copy-2 : tie.Need-mul-copy-2
-mul-copy-2 c = search needs
-
-copy-requires-2 : tie.Need-copy-requires-2
-copy-requires-2 c κs = search needs
-
-sub-copy-3 : tie.Need-sub-copy-3
-sub-copy-3 c = search needs
-
-part-copy-start-3 : tie.Need-part-copy-start-3
-part-copy-start-3 c = search needs
-
-part-copy-end-3 : tie.Need-part-copy-end-3
-part-copy-end-3 c = search needs
-
-mul-copy-3 : tie.Need-mul-copy-3
-mul-copy-3 c = search needs
-
-copy-requires-3 : tie.Need-copy-requires-3
-copy-requires-3 c κs = search needs
+put-requires-3 : tie.Need-put-requires-3
+put-requires-3 c κs = search needs
 
 mul-result : tie.Need-mul-result
 mul-result c = search needs
@@ -78,11 +51,11 @@ same-length c = search needs
 
 returns : tie.Need-returns
 returns c =
-    let third = c .before .before .before .before .before .before in
-    let second = third .before .before .before .before in
-    let s = second .before .before .before .before .before .before .before .before .before .before in
+    let first = c .before .before .before .before .before .before .before .before .before .before .before .before .before .before in
+    let s = first .before .before .before .before .before .before in
     let a = s .args in
-    image-written (countsOf (a .state-count) (a .transition-count) (a .initial-count)) (a .states .now) (a .transitions .now) (a .initial .now) (a .image .now) _ _ _ _ (omega (arith, s .pre)) (omega (arith, s .pre)) (second .before .before .before .before .write-contents .ensures) (second .copy .ensures) (third .copy2 .ensures) (c .before .before .copy3 .ensures)
+    image-stored (countsOf (a .state-count) (a .transition-count) (a .initial-count)) (a .states .now) (a .transitions .now) (a .initial .now) (a .image .now) (omega (arith, s .pre)) (omega (arith, s .pre)) (omega (arith, s .pre)) (omega (arith, s .pre))
+    (first .write-contents .ensures) (c .before .before .before .before .before .before .before .before .before .before .put .ensures) (c .before .before .before .before .before .before .put2 .ensures) (c .before .before .put3 .ensures)
 
 pub write-image-spec : {M : Type 1} → statement M
 write-image-spec =
@@ -93,21 +66,12 @@ write-image-spec =
     mul-initial-at
     add-initial-at
     write-contents-requires
-    sub-copy
-    part-copy-start
-    part-copy-end
-    mul-copy
-    copy-requires
-    sub-copy-2
-    part-copy-start-2
-    part-copy-end-2
-    mul-copy-2
-    copy-requires-2
-    sub-copy-3
-    part-copy-start-3
-    part-copy-end-3
-    mul-copy-3
-    copy-requires-3
+    mul-put
+    put-requires
+    mul-put-2
+    put-requires-2
+    mul-put-3
+    put-requires-3
     mul-result
     add-result
     same-length
