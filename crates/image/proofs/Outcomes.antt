@@ -9,7 +9,7 @@ use lib.ListN.{length, take, drop, replicate, length-append, length-drop, length
 use lib.Seq.{take-append-seam}
 use lib.Dec.{leb}
 use borrow.Author.Tests.{leb-true, le-leb, lt-leb, not-true, not-false}
-use Rattle.answer.specs.Result.{Result, accepted, refused, fine}
+use Rattle.answer.specs.Result.{Result, Check, accepted, refused, fine}
 use Rattle.answer.proofs.Results.{never-both, require-fine}
 use Rattle.automaton.specs.Automaton.{Automaton}
 use Rattle.automaton.specs.Limits.{statesBytes, transitionsBytes, initialBytes}
@@ -79,13 +79,17 @@ module _ (c : Counts) (s t i image : List ℕ) {r : Bool} (fit : r ≡ lengthsFi
       counts-refused f = rw (tables-fine s t i fit long, le-leb largestImage (length image) room, ← counted, not-true q f)
 
       module _ (few : not q ≡ false) where
-        pub records-refused : {number place : ℕ} → refused number place ≡ recordsCheck c s t i → buffer (refused number place) image ≡ writes c s t i image
+        pub records-refused : {r : Check} {number place : ℕ} → r ≡ recordsCheck c s t i → r ≡ refused number place
+            → buffer (refused number place) image ≡ writes c s t i image
         unfolding writes readTables
-        records-refused e = rw (tables-fine s t i fit long, le-leb largestImage (length image) room, ← counted, not-false q few, ← e)
+        records-refused e told =
+            rw (tables-fine s t i fit long, le-leb largestImage (length image) room, ← counted, not-false q few, ← e, told)
 
-        pub write-accepted : {w : Buffer} → Bytes s → Bytes t → Bytes i → recordsCheck c s t i ≡ fine → w ≡ joinedOver c s t i image → w ≡ writes c s t i image
+        pub write-accepted : {r : Check} {w : Buffer} → Bytes s → Bytes t → Bytes i → r ≡ recordsCheck c s t i → r ≡ fine
+            → w ≡ joinedOver c s t i image → w ≡ writes c s t i image
         unfolding writes readTables
-        write-accepted bs bt bi checked e =
+        write-accepted bs bt bi known told e =
+            let checked = sym known ∙ told in
             let small = counts-small c (sym counted ∙ not-false q few) in
             let passed = long-passed s t i c small (tables-long s t i fit long) bs bt bi checked in
             e ∙ rw (tables-fine s t i fit long, le-leb largestImage (length image) room, ← counted, not-false q few, checked, image-back c s t i passed, image-length c s t i passed)

@@ -146,20 +146,28 @@ module _ (c : Counts) (s t i : List ℕ) where
   abbrev stateAnswers : Check
   stateAnswers = andThen (lowest (stateCheck s) (c .states)) (λ _. sumCheck c s)
 
-  regroup : recordsCheck c s t i ≡ andThen stateAnswers (λ _. andThen (lowest (transitionRecordCheck (c .states) t) (c .transitions)) (λ _. lowest (initialCheck (c .states) i) (c .initial)))
+  abbrev transitionAnswers : Check
+  transitionAnswers = lowest (transitionRecordCheck (c .states) t) (c .transitions)
+
+  abbrev initialAnswers : Check
+  initialAnswers = lowest (initialCheck (c .states) i) (c .initial)
+
+  regroup : recordsCheck c s t i ≡ andThen stateAnswers (λ _. andThen transitionAnswers (λ _. initialAnswers))
   unfolding recordsCheck
-  regroup = go (lowest (stateCheck s) (c .states)) (sumCheck c s) (andThen (lowest (transitionRecordCheck (c .states) t) (c .transitions)) (λ _. lowest (initialCheck (c .states) i) (c .initial)))
+  regroup = go (lowest (stateCheck s) (c .states)) (sumCheck c s) (andThen transitionAnswers (λ _. initialAnswers))
     where
-      go : (first second rest : Check) → andThen first (λ _. andThen second (λ _. rest)) ≡ andThen (andThen first (λ _. second)) (λ _. rest)
+      go : (first second rest : Check)
+          → andThen first (λ _. andThen second (λ _. rest)) ≡ andThen (andThen first (λ _. second)) (λ _. rest)
       go (accepted u) second rest = refl
       go (refused number place) second rest = refl
 
-  pub states-refused : {number place : ℕ} → refused number place ≡ stateAnswers → refused number place ≡ recordsCheck c s t i
-  states-refused e = rw (regroup, ← e)
+  pub states-refused : {r : Check} {number place : ℕ} → r ≡ refused number place → r ≡ stateAnswers → r ≡ recordsCheck c s t i
+  states-refused told e = rw (regroup, ← e, told)
 
-  module _ (fine-states : stateAnswers ≡ fine) where
-    pub transitions-refused : {number place : ℕ} → refused number place ≡ lowest (transitionRecordCheck (c .states) t) (c .transitions) → refused number place ≡ recordsCheck c s t i
-    transitions-refused e = rw (regroup, fine-states, ← e)
+  module _ {r₁ : Check} (first : r₁ ≡ stateAnswers) (fine₁ : r₁ ≡ fine) where
+    pub transitions-refused : {r : Check} {number place : ℕ} → r ≡ refused number place → r ≡ transitionAnswers
+        → r ≡ recordsCheck c s t i
+    transitions-refused told e = rw (regroup, ← first, fine₁, ← e, told)
 
-    pub initial-left : lowest (transitionRecordCheck (c .states) t) (c .transitions) ≡ fine → lowest (initialCheck (c .states) i) (c .initial) ≡ recordsCheck c s t i
-    initial-left e = rw (regroup, fine-states, e)
+    pub initial-left : {r₂ r : Check} → r₂ ≡ transitionAnswers → r₂ ≡ fine → r ≡ initialAnswers → r ≡ recordsCheck c s t i
+    initial-left second fine₂ e = rw (regroup, ← first, fine₁, ← second, fine₂) e

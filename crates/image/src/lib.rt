@@ -110,14 +110,15 @@ fn check_state(states: &[u8], i: usize) -> StateCount
     ensures { λ r. ⌜ stateAnswer i r
         ≡ andThen (stateCheck (now (states .entry)) i) (λ _. accepted (numberAt (now (states .entry)) (4 * i))) ⌝ }
 {
-    let count = number_at(states, 4 * i);
+    let at = 4 * i;
+    let count = number_at(states, at);
     if MAX_OF_STATE < count {
         return StateCount::Refused;
     }
-    if 1 < states[4 * i + 2] {
+    if 1 < states[at + 2] {
         return StateCount::Refused;
     }
-    if states[4 * i + 3] != 0 {
+    if states[at + 3] != 0 {
         return StateCount::Refused;
     }
     StateCount::Accepted(count)
@@ -151,12 +152,11 @@ fn check_transition(transitions: &[u8], i: usize, state_count: usize) -> Checked
     requires { ⌜ 4 * i + 3 < length (now transitions) ⌝ }
     ensures { λ r. ⌜ answer r ≡ transitionRecordCheck «state_count» (now (transitions .entry)) i ⌝ }
 {
-    if state_count <= number_at(transitions, 4 * i + 2) {
+    let at = 4 * i;
+    if state_count <= number_at(transitions, at + 2) {
         return Checked::Refused(BAD_TRANSITION, i);
     }
-    let must = transitions[4 * i];
-    let must_not = transitions[4 * i + 1];
-    if must & must_not != 0 {
+    if transitions[at] & transitions[at + 1] != 0 {
         return Checked::Refused(BAD_TRANSITION, i);
     }
     Checked::Accepted
@@ -170,9 +170,9 @@ fn check_transitions(transitions: &[u8], n: usize, state_count: usize) -> Checke
     let mut i = 0;
     while i < n {
         let transition = check_transition(transitions, i, state_count);
-        if let Checked::Refused(number, place) = transition {
-            return Checked::Refused(number, place);
-        }
+        let Checked::Accepted = transition else {
+            return transition;
+        };
         i += 1;
     }
     Checked::Accepted
@@ -215,13 +215,13 @@ fn check_records(
         (now (states .entry)) (now (transitions .entry)) (now (initial .entry)) ⌝ }
 {
     let first = check_states(states, state_count, transition_count);
-    if let Checked::Refused(number, place) = first {
-        return Checked::Refused(number, place);
-    }
+    let Checked::Accepted = first else {
+        return first;
+    };
     let second = check_transitions(transitions, transition_count, state_count);
-    if let Checked::Refused(number, place) = second {
-        return Checked::Refused(number, place);
-    }
+    let Checked::Accepted = second else {
+        return second;
+    };
     check_initial(initial, initial_count, state_count)
 }
 
@@ -352,7 +352,7 @@ pub fn read(image: &[u8], states: &mut [u8], transitions: &mut [u8], initial: &m
         transitions,
         initial,
     );
-    Loaded::Accepted(state_count, transition_count, initial_count)
+    found
 }
 
 // An entry of the table of contents in six bytes from byte `at` on.
@@ -368,7 +368,8 @@ fn write_entry(image: &mut [u8], at: usize, kind: usize, count: usize, offset: u
 // The table of contents at the start.
 fn write_contents(image: &mut [u8], states: usize, transitions: usize, initial: usize)
     requires { ⌜ (contentsBytes ≤ length (now image)) × Small (countsOf states transitions initial) ⌝ }
-    ensures { λ _. ⌜ now (image .exit) ≡ sets (now (image .entry)) 0 (contents (countsOf states transitions initial)) ⌝ }
+    ensures { λ _. ⌜ now (image .exit)
+        ≡ sets (now (image .entry)) 0 (contents (countsOf states transitions initial)) ⌝ }
 {
     let transitions_at = CONTENTS_BYTES + 4 * states;
     let initial_at = transitions_at + 4 * transitions;

@@ -6,7 +6,7 @@ use Rattle.answer.specs.Result.{answer}
 use Rattle.image.specs.Reader.{countsAt, contentsCheck}
 use Rattle.automaton.specs.Tables.{countsOf}
 use Rattle.image.specs.Calls.{readAnswer}
-use Rattle.image.proofs.Before.{Passes, passes}
+use Rattle.image.proofs.Before.{Passes, passes, handed-on}
 use Rattle.image.proofs.Contents.{sized, contents-refused, bodies-refused, image-accepted}
 use Rattle.image.proofs.check.Statement.{statement}
 use Rattle.image.proofs.check.Tie as tie
@@ -21,9 +21,7 @@ enum-told : tie.Need-enum-told
 enum-told c = search needs
 
 returns : tie.Need-returns
-returns c =
-    let told = ap readAnswer (c .enum-told .given .1) in
-    told ∙ contents-refused _ (sym told ∙ c .before .before .check-contents .ensures)
+returns c = handed-on (ap readAnswer (c .enum-told .given .1)) (c .before .before .check-contents .ensures) (contents-refused _)
 
 -- what the contents say where they are accepted
 read : (c : tie.After-known-told) → Passes (contentsCheck (c .before .before .before .before .before .args .image .now)) (countsOf (c .before .contents .given .0 .0) (c .before .contents .given .0 .1 .0) (c .before .contents .given .0 .1 .1 .0)) (countsAt (c .before .before .before .before .before .args .image .now))

@@ -45,7 +45,7 @@ returns-4 c =
     let counts = c .before .before .before .before in
     let tables = counts .before .before .before in
     records-refused _ _ _ _ _ (tables .before .tables-fit .ensures) (tables .if1 .left) (omega arith) (counts .before .counts-fit .ensures) (counts .if3 .left)
-    (sym (ap answer (c .before .records .given .1)) ∙ c .before .before .before .check-records .ensures)
+    (c .before .before .before .check-records .ensures) (ap answer (c .before .records .given .1))
 
 enum-told : tie.Need-enum-told
 enum-told c = search needs
@@ -70,7 +70,7 @@ returns-5 c =
     let known = tables .before .before .before in
     write-accepted _ _ _ _ _ (tables .before .tables-fit .ensures) (tables .if1 .left) (omega arith) (counts .before .counts-fit .ensures) (counts .if3 .left)
     (λ i. known .before .before .shared-slice-known .given i .fits) (λ i. known .before .shared-slice-known2 .given i .fits) (λ i. known .shared-slice-known3 .given i .fits)
-    (sym (records .before .before .check-records .ensures) ∙ ap answer (records .enum-told .given .1)) (c .before .before .write-image .ensures)
+    (records .before .before .check-records .ensures) (ap answer (records .enum-told .given .1)) (c .before .before .write-image .ensures)
 
 pub write-spec : {M : Type 1} → statement M
 write-spec =
