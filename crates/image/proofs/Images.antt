@@ -3,7 +3,7 @@
 use mathlib.Core.Path.{_≡_, refl, sym, ap, _∙_}
 use mathlib.Core.Bool.{true}
 use mathlib.Core.List.{List, [], _++_, append-nil, append-assoc}
-use Prim.Native.Nat.{ℕ, suc, _+_, _*_, _/_, _%_, _≤_}
+use Prim.Native.Nat.{ℕ, suc, _+_, _*_, _≤_}
 use native.Mathlib.Numerals.{add-one}
 use native.Mathlib.Omega.{arith}
 use lib.ListN.{length, getD, take, drop, length-drop, take-append-drop}
@@ -14,62 +14,79 @@ use Rattle.automaton.specs.Automaton.{Automaton}
 use Rattle.answer.specs.Bytes.{twoBytes, numberAt}
 use Rattle.automaton.specs.Tables.{Counts}
 use Rattle.image.specs.Image.{entry, transitionsAt, initialAt, imageLength, contents, contentsBytes}
-use Rattle.image.specs.Reader.{countsAt, countsFit, contentsCheck, readTables, readImage}
+use Rattle.image.specs.Reader.{countsAt, countsFit, contentsCheck, readTables, readBodies, readImage}
 use Rattle.image.specs.Memory.{joinedBodies}
 use Rattle.image.proofs.Contents.{Contents}
-use Rattle.image.proofs.Tables.{Bytes, two-back, Passed, image-length}
-use Rattle.image.proofs.Agree.{Agree, front-agrees, tables-agree}
+use Rattle.image.proofs.Sizes.{row-size}
+use Rattle.image.proofs.ReadRecords.{number-read}
+use Rattle.image.proofs.Tables.{Bytes, two-back, Passed}
+use Rattle.image.proofs.Agree.{front-agrees, tables-agree}
 
--- two bytes give back their number
-two-read : (n : ℕ) → n % 256 + 256 * (n / 256) ≡ n
-two-read n = omega arith
+-- contents and bodies in a row
+module _ (c : Counts) (s t i : List ℕ) where
+  abbrev row : List ℕ
+  row = contents c ++ (s ++ (t ++ i))
 
--- contents at the start of a list are read back
-module _ (c : Counts) (rest : List ℕ) where
-  counts-again : countsAt (contents c ++ rest) ≡ c
+  counts-again : countsAt row ≡ c
   unfolding contents entry twoBytes
-  counts-again = rw (two-read (c .states), two-read (c .transitions), two-read (c .initial))
+  counts-again = rw (number-read (c .states), number-read (c .transitions), number-read (c .initial))
 
-  contents-again : countsFit c ≡ true → length (contents c ++ rest) ≡ imageLength c → contentsCheck (contents c ++ rest) ≡ fine
+  contents-again : countsFit c ≡ true → length row ≡ imageLength c → contentsCheck row ≡ fine
   unfolding contentsCheck contents entry twoBytes
   contents-again fit size =
-      rw (two-read (c .states), two-read (c .transitions), two-read (c .initial), two-read (transitionsAt c), two-read (initialAt c), fit, eq-eqb (transitionsAt c) (transitionsAt c) refl, eq-eqb (initialAt c) (initialAt c) refl, eq-eqb (length (contents c ++ rest)) (imageLength c) size, le-leb contentsBytes (length (contents c ++ rest)) (rw size (omega arith)))
+      rw (
+        number-read (c .states),
+        number-read (c .transitions),
+        number-read (c .initial),
+        number-read (transitionsAt c),
+        number-read (initialAt c),
+        fit,
+        eq-eqb (transitionsAt c) (transitionsAt c) refl,
+        eq-eqb (initialAt c) (initialAt c) refl,
+        eq-eqb (length row) (imageLength c) size,
+        le-leb contentsBytes (length row) (rw size (omega arith)),
+      )
 
-  contents-dropped : drop contentsBytes (contents c ++ rest) ≡ rest
+  bodies-again : drop contentsBytes row ≡ s ++ (t ++ i)
   unfolding contents entry twoBytes
-  contents-dropped = refl
+  bodies-again = refl
+
+  module _ (es : length s ≡ 4 * c .states) (et : length t ≡ 4 * c .transitions) (ei : length i ≡ 2 * c .initial) where
+    transitions-again : drop (transitionsAt c) row ≡ t ++ i
+    transitions-again =
+        sym (drop-drop (4 * c .states) contentsBytes row)
+        ∙ ap (drop (4 * c .states)) bodies-again
+        ∙ drop-at s (t ++ i) (4 * c .states) es
+
+    initial-again : drop (initialAt c) row ≡ i
+    initial-again =
+        sym (drop-drop (4 * c .transitions) (transitionsAt c) row)
+        ∙ ap (drop (4 * c .transitions)) transitions-again
+        ∙ drop-at t i (4 * c .transitions) et
+
+    -- are read as tables, each with what stands behind it
+    pub row-read : countsFit c ≡ true → readImage row ≡ readTables c (s ++ (t ++ i)) (t ++ i) i
+    unfolding readImage
+    row-read fit = rw (contents-again fit (row-size c s t i es et ei)) (same (countsAt row) counts-again)
+      where
+        same : (d : Counts) → d ≡ c → readBodies d row ≡ readTables c (s ++ (t ++ i)) (t ++ i) i
+        same d e = rw (e, bodies-again, transitions-again, initial-again)
 
 -- contents and used bytes in a row are read as the tables are
 module _ (c : Counts) (s t i : List ℕ) (passed : Passed c s t i) where
-  abbrev transitionPart : List ℕ
-  transitionPart = take (4 * c .transitions) t ++ take (2 * c .initial) i
-
-  transitions-after : drop (transitionsAt c) (joinedBodies c s t i) ≡ transitionPart
-  transitions-after =
-      sym (drop-drop (4 * c .states) contentsBytes (joinedBodies c s t i))
-      ∙ ap (drop (4 * c .states)) (contents-dropped c (take (4 * c .states) s ++ transitionPart))
-      ∙ drop-at (take (4 * c .states) s) transitionPart (4 * c .states) (length-take-le (4 * c .states) s (passed .state-room))
-
-  initial-after : drop (initialAt c) (joinedBodies c s t i) ≡ take (2 * c .initial) i
-  initial-after =
-      sym (drop-drop (4 * c .transitions) (transitionsAt c) (joinedBodies c s t i))
-      ∙ ap (drop (4 * c .transitions)) transitions-after
-      ∙ drop-at (take (4 * c .transitions) t) (take (2 * c .initial) i) (4 * c .transitions) (length-take-le (4 * c .transitions) t (passed .transition-room))
-
-  initial-agrees : Agree (2 * c .initial) i (take (2 * c .initial) i)
-  initial-agrees = rw append-nil at (front-agrees (2 * c .initial) i [] (passed .initial-room))
-
-  pub joined-read : (a : Automaton) → countsFit c ≡ true → readTables c s t i ≡ accepted a → readImage (joinedBodies c s t i) ≡ accepted a
-  unfolding readImage
+  pub joined-read : (a : Automaton) → countsFit c ≡ true → readTables c s t i ≡ accepted a
+      → readImage (joinedBodies c s t i) ≡ accepted a
   joined-read a fit e =
-      let bodies = take (4 * c .states) s ++ transitionPart in
-      let found : contentsCheck (joinedBodies c s t i) ≡ fine = contents-again c bodies fit (image-length c s t i passed) in
-      rw found (same-counts (countsAt (joinedBodies c s t i)) (counts-again c bodies))
-    where
-      same-counts : (d : Counts) → d ≡ c → readTables d (drop contentsBytes (joinedBodies c s t i)) (drop (transitionsAt d) (joinedBodies c s t i)) (drop (initialAt d) (joinedBodies c s t i)) ≡ accepted a
-      same-counts d same =
-          rw (same, contents-dropped c (take (4 * c .states) s ++ transitionPart), transitions-after, initial-after)
-          (tables-agree c s t i (take (4 * c .states) s ++ transitionPart) transitionPart (take (2 * c .initial) i) (front-agrees (4 * c .states) s transitionPart (passed .state-room)) (front-agrees (4 * c .transitions) t (take (2 * c .initial) i) (passed .transition-room)) initial-agrees a e)
+      let us = take (4 * c .states) s in
+      let vs = take (4 * c .transitions) t in
+      let ws = take (2 * c .initial) i in
+      row-read c us vs ws (length-take-le (4 * c .states) s (passed .state-room))
+      (length-take-le (4 * c .transitions) t (passed .transition-room))
+      (length-take-le (2 * c .initial) i (passed .initial-room)) fit
+      ∙ tables-agree c s t i (us ++ (vs ++ ws)) (vs ++ ws) ws
+      (front-agrees (4 * c .states) s (vs ++ ws) (passed .state-room))
+      (front-agrees (4 * c .transitions) t ws (passed .transition-room))
+      (rw append-nil at (front-agrees (2 * c .initial) i [] (passed .initial-room))) a e
 
 -- a number at k and what stands behind it
 number-front : (xs : List ℕ) (k m n : ℕ) → Bytes xs → m ≡ suc (suc k) → m ≤ length xs → n ≡ numberAt xs k → twoBytes n ++ drop m xs ≡ drop k xs

@@ -5,7 +5,7 @@ use mathlib.Core.List.{List, [], _∷_, _++_, append-nil, append-assoc}
 use Prim.Native.Nat.{ℕ, suc, _+_, _-_, _*_, _≤_}
 use native.Mathlib.Nat.{zero-add}
 use native.Mathlib.Omega.{arith}
-use lib.ListN.{length, take, drop, set, replicate, length-append, length-drop, drop-of-length-le}
+use lib.ListN.{length, take, drop, set, replicate, length-drop, drop-of-length-le}
 use lib.Seq.{sets, sets-eq, take-all, take-at, drop-at, drop-drop, length-take-le}
 use borrow.Rule.Slice.PartMut.{midOf, putMid}
 use Rattle.answer.specs.Bytes.{twoBytes, filled}
@@ -14,6 +14,7 @@ use Rattle.answer.specs.Result.{accepted}
 use Rattle.image.specs.Image.{entry, transitionsAt, initialAt, imageLength, contents, contentsBytes, entryBytes}
 use Rattle.image.specs.Calls.{buffer}
 use Rattle.image.specs.Memory.{joinedBodies, joinedOver}
+use Rattle.image.proofs.Sizes.{contents-size, row-size}
 
 -- a part that goes to the end is what is left there
 pub part-whole : (xs : List ℕ) (a : ℕ) → midOf a (length xs - a) xs ≡ drop a xs
@@ -69,10 +70,6 @@ pub contents-stored : (c : Counts) (xs : List ℕ) {xs₁ xs₂ xs₃ : List ℕ
 unfolding contents entry twoBytes
 contents-stored c xs e f g = rw (g, f, e)
 
-contents-length : (c : Counts) → length (contents c) ≡ contentsBytes
-unfolding contents entry twoBytes
-contents-length c = refl
-
 -- and three copies behind them an image over the buffer
 pub image-stored : (c : Counts) (s t i xs : List ℕ) {xs₁ xs₂ xs₃ xs₄ : List ℕ} → 4 * c .states ≤ length s
     → 4 * c .transitions ≤ length t → 2 * c .initial ≤ length i → imageLength c ≤ length xs
@@ -87,8 +84,8 @@ image-stored c s t i xs {xs₁} room₁ room₂ room₃ long e f g h =
     let n₁ : length us ≡ 4 * c .states = length-take-le (4 * c .states) s room₁ in
     let n₂ : length vs ≡ 4 * c .transitions = length-take-le (4 * c .transitions) t room₂ in
     let n₃ : length ws ≡ 2 * c .initial = length-take-le (2 * c .initial) i room₃ in
-    let n : length (joinedBodies c s t i) ≡ imageLength c = simp (length-append, contents-length, n₁, n₂, n₃) (omega arith) in
+    let n : length (joinedBodies c s t i) ≡ imageLength c = row-size c us vs ws n₁ n₂ n₃ in
     let bodies = three-stored us vs ws xs₁ contentsBytes (transitionsAt c) (initialAt c) (omega (arith, n₁)) (omega (arith, n₂)) f g h in
-    let behind = sets-sets (contents c) (us ++ (vs ++ ws)) xs 0 contentsBytes (omega (arith, contents-length c)) in
+    let behind = sets-sets (contents c) (us ++ (vs ++ ws)) xs 0 contentsBytes (omega (arith, contents-size c)) in
     let whole = sets-eq (joinedBodies c s t i) xs 0 (omega arith) in
     rw (bodies, e, behind, whole, n, zero-add (imageLength c))
