@@ -18,7 +18,8 @@ use Rattle.automaton.specs.Records.{records, stateRecord, transitionRecord, sta
 use Rattle.answer.specs.Bytes.{twoBytes, numberAt}
 use Rattle.automaton.specs.Tables.{counts, transitionCount}
 use Rattle.image.specs.Image.{imageBytes}
-use Rattle.image.specs.Reader.{countsFit, stateCheck, sumCheck, transitionRecordCheck, initialCheck, recordsCheck, automatonFrom, readTables, readImage}
+use Rattle.image.specs.Reader.{countsFit, stateCheck, sumCheck, transitionRecordCheck, initialCheck}
+use Rattle.image.specs.Reader.{recordsCheck, automatonFrom, readTables, readImage}
 use Rattle.sets.proofs.Members.{at-in, append-in}
 use Rattle.automaton.proofs.WellFormed.{WellFormed, few-together}
 use Rattle.automaton.proofs.Records.{records-append, byte-at, number-at, number-length, transition-length, state-byte-at, state-number-at}
@@ -162,4 +163,5 @@ unfolding imageBytes
 image-accepted a formed =
     row-read (counts a) (stateRecords a) (transitionRecords a) (initialRecords a)
     (states-size a) (transitions-size a) (initial-size a) (counts-fit a formed)
-    ∙ (rw (append-nil (initialRecords a)) at (tables-read a formed (transitionRecords a ++ initialRecords a) (initialRecords a) []))
+    ∙ (rw (append-nil (initialRecords a)) at
+    (tables-read a formed (transitionRecords a ++ initialRecords a) (initialRecords a) []))

@@ -35,4 +35,6 @@ module _ (a : Automaton) where
 
   pub image-size : length (imageBytes a) ≡ imageLength (counts a)
   unfolding imageBytes
-  image-size = row-size (counts a) (stateRecords a) (transitionRecords a) (initialRecords a) states-size transitions-size initial-size
+  image-size =
+      row-size (counts a) (stateRecords a) (transitionRecords a) (initialRecords a)
+      states-size transitions-size initial-size

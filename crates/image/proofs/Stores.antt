@@ -22,11 +22,13 @@ part-whole xs a = take-all (length xs - a) (drop a xs) (rw (length-drop a xs) (o
 
 -- and the whole, once ys came back in its place
 part-back : (xs ys : List ℕ) (a : ℕ) → putMid a (length xs - a) xs ys ≡ take a xs ++ ys
-part-back xs ys a = rw (drop-of-length-le (drop a xs) {i = length xs - a} (rw (length-drop a xs) (omega arith)), append-nil)
+part-back xs ys a =
+    rw (drop-of-length-le (drop a xs) {i = length xs - a} (rw (length-drop a xs) (omega arith)), append-nil)
 
 -- a copy at the start of such a part
 pub part-copied : (xs source ys : List ℕ) (a n : ℕ) → a + n ≤ length xs → n ≤ length source
-    → ys ≡ take n source ++ drop n (midOf a (length xs - a) xs) → putMid a (length xs - a) xs ys ≡ sets xs a (take n source)
+    → ys ≡ take n source ++ drop n (midOf a (length xs - a) xs)
+    → putMid a (length xs - a) xs ys ≡ sets xs a (take n source)
 part-copied xs source ys a n room le e =
     let size : length (take n source) ≡ n = length-take-le n source le in
     let all = sets-eq (take n source) xs a (rw size room) in
@@ -35,13 +37,22 @@ part-copied xs source ys a n room le e =
 -- a copy out of such a part, and zeros in the part behind it
 pub part-loaded : (table image xs ys : List ℕ) (a n : ℕ) → n ≤ length table → a + n ≤ length image
     → xs ≡ take n (midOf a (length image - a) image) ++ drop n table
-    → ys ≡ replicate (length (midOf n (length xs - n) xs)) 0 → putMid n (length xs - n) xs ys ≡ filled table (take n (drop a image))
+    → ys ≡ replicate (length (midOf n (length xs - n) xs)) 0
+    → putMid n (length xs - n) xs ys ≡ filled table (take n (drop a image))
 part-loaded table image xs ys a n room le e f =
     let bytes = take n (drop a image) in
     let size : length bytes ≡ n = length-take-le n (drop a image) (rw (length-drop a image) (omega arith)) in
     let whole : xs ≡ bytes ++ drop n table = rw (part-whole image a) at e in
     part-back xs ys n
-    ∙ rw (f, part-whole xs n, whole, take-at bytes (drop n table) n size, drop-at bytes (drop n table) n size, length-drop n table, size)
+    ∙ rw (
+      f,
+      part-whole xs n,
+      whole,
+      take-at bytes (drop n table) n size,
+      drop-at bytes (drop n table) n size,
+      length-drop n table,
+      size,
+    )
 
 -- a run of stores, and another right behind it
 pub sets-sets : (vs ws xs : List ℕ) (i j : ℕ) → j ≡ i + length vs → sets (sets xs i vs) j ws ≡ sets xs i (vs ++ ws)
@@ -58,13 +69,14 @@ three-stored us vs ws xs i j k {xs₁} second third e f g =
 
 -- three numbers are an entry, and three entries the contents
 pub entry-stored : (xs : List ℕ) (at kind count offset : ℕ) {xs₁ xs₂ xs₃ : List ℕ}
-    → xs₁ ≡ sets xs at (twoBytes kind) → xs₂ ≡ sets xs₁ (at + 2) (twoBytes count) → xs₃ ≡ sets xs₂ (at + 4) (twoBytes offset)
-    → xs₃ ≡ sets xs at (entry kind count offset)
+    → xs₁ ≡ sets xs at (twoBytes kind) → xs₂ ≡ sets xs₁ (at + 2) (twoBytes count)
+    → xs₃ ≡ sets xs₂ (at + 4) (twoBytes offset) → xs₃ ≡ sets xs at (entry kind count offset)
 unfolding entry twoBytes
 entry-stored xs at kind count offset e f g =
     three-stored (twoBytes kind) (twoBytes count) (twoBytes offset) xs at (at + 2) (at + 4) refl (omega arith) e f g
 
-pub contents-stored : (c : Counts) (xs : List ℕ) {xs₁ xs₂ xs₃ : List ℕ} → xs₁ ≡ sets xs 0 (entry 1 (c .states) contentsBytes)
+pub contents-stored : (c : Counts) (xs : List ℕ) {xs₁ xs₂ xs₃ : List ℕ}
+    → xs₁ ≡ sets xs 0 (entry 1 (c .states) contentsBytes)
     → xs₂ ≡ sets xs₁ entryBytes (entry 2 (c .transitions) (transitionsAt c))
     → xs₃ ≡ sets xs₂ (2 * entryBytes) (entry 3 (c .initial) (initialAt c)) → xs₃ ≡ sets xs 0 (contents c)
 unfolding contents entry twoBytes
@@ -85,7 +97,8 @@ image-stored c s t i xs {xs₁} room₁ room₂ room₃ long e f g h =
     let n₂ : length vs ≡ 4 * c .transitions = length-take-le (4 * c .transitions) t room₂ in
     let n₃ : length ws ≡ 2 * c .initial = length-take-le (2 * c .initial) i room₃ in
     let n : length (joinedBodies c s t i) ≡ imageLength c = row-size c us vs ws n₁ n₂ n₃ in
-    let bodies = three-stored us vs ws xs₁ contentsBytes (transitionsAt c) (initialAt c) (omega (arith, n₁)) (omega (arith, n₂)) f g h in
+    let bodies = three-stored us vs ws xs₁ contentsBytes (transitionsAt c) (initialAt c)
+    (omega (arith, n₁)) (omega (arith, n₂)) f g h in
     let behind = sets-sets (contents c) (us ++ (vs ++ ws)) xs 0 contentsBytes (omega (arith, contents-size c)) in
     let whole = sets-eq (joinedBodies c s t i) xs 0 (omega arith) in
     rw (bodies, e, behind, whole, n, zero-add (imageLength c))

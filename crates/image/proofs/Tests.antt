@@ -82,7 +82,13 @@ module _ {image : List ℕ} {c : Counts} (read : Opened image c) where
       ≡ andThen (require (countsFit c && (offsets && eqb (length image) (imageLength c))) 10 0) (λ _. accepted c)
   unfolding contentsCheck
   decided =
-      rw (le-leb contentsBytes (length image) (read .long), read .kinds, ← read .states, ← read .transitions, ← read .initial)
+      rw (
+        le-leb contentsBytes (length image) (read .long),
+        read .kinds,
+        ← read .states,
+        ← read .transitions,
+        ← read .initial,
+      )
 
   pub counts-wrong : {t : Bool} → t ≡ countsFit c → not t ≡ true → refused 10 0 ≡ contentsAnswer image
   counts-wrong {t} e f = rw (decided, ← e, not-true t f)
@@ -177,7 +183,8 @@ module _ (c : Counts) (s t i : List ℕ) where
       go (accepted u) second rest = refl
       go (refused number place) second rest = refl
 
-  pub states-refused : {r : Check} {number place : ℕ} → r ≡ refused number place → r ≡ stateAnswers → r ≡ recordsCheck c s t i
+  pub states-refused : {r : Check} {number place : ℕ} → r ≡ refused number place → r ≡ stateAnswers
+      → r ≡ recordsCheck c s t i
   states-refused told e = rw (regroup, ← e, told)
 
   module _ {r₁ : Check} (first : r₁ ≡ stateAnswers) (fine₁ : r₁ ≡ fine) where
@@ -185,5 +192,6 @@ module _ (c : Counts) (s t i : List ℕ) where
         → r ≡ recordsCheck c s t i
     transitions-refused told e = rw (regroup, ← first, fine₁, ← e, told)
 
-    pub initial-left : {r₂ r : Check} → r₂ ≡ transitionAnswers → r₂ ≡ fine → r ≡ initialAnswers → r ≡ recordsCheck c s t i
+    pub initial-left : {r₂ r : Check} → r₂ ≡ transitionAnswers → r₂ ≡ fine → r ≡ initialAnswers
+        → r ≡ recordsCheck c s t i
     initial-left second fine₂ e = rw (regroup, ← first, fine₁, ← second, fine₂) e

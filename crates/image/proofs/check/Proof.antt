@@ -2,9 +2,11 @@
 -- Assumes nothing.
 use borrow.Author.Needs.{needs}
 use mathlib.Core.Path.{sym, ap, _∙_}
+use mathlib.Core.List.{List}
+use Prim.Native.Nat.{ℕ}
 use Rattle.answer.specs.Result.{answer}
 use Rattle.image.specs.Reader.{countsAt, contentsCheck}
-use Rattle.automaton.specs.Tables.{countsOf}
+use Rattle.automaton.specs.Tables.{Counts, countsOf}
 use Rattle.image.specs.Calls.{readAnswer}
 use Rattle.image.proofs.Before.{Passes, passes, handed-on}
 use Rattle.image.proofs.Contents.{sized, contents-refused, bodies-refused, image-accepted}
@@ -21,11 +23,23 @@ enum-told : tie.Need-enum-told
 enum-told c = search needs
 
 returns : tie.Need-returns
-returns c = handed-on (ap readAnswer (c .enum-told .given .1)) (c .before .before .check-contents .ensures) (contents-refused _)
+returns c =
+    handed-on (ap readAnswer (c .enum-told .given .1)) (c .before .before .check-contents .ensures)
+    (contents-refused _)
 
 -- what the contents say where they are accepted
-read : (c : tie.After-known-told) → Passes (contentsCheck (c .before .before .before .before .before .args .image .now)) (countsOf (c .before .contents .given .0 .0) (c .before .contents .given .0 .1 .0) (c .before .contents .given .0 .1 .1 .0)) (countsAt (c .before .before .before .before .before .args .image .now))
-read c = passes _ _ _ (sym (ap readAnswer (c .before .contents .given .1)) ∙ c .before .before .before .check-contents .ensures)
+abbrev image : tie.After-known-told → List ℕ
+image c = c .before .before .before .before .before .args .image .now
+
+abbrev counts : tie.After-known-told → Counts
+counts c =
+    let (states, (transitions, (initial, _))) = c .before .contents .given .0 in
+    countsOf states transitions initial
+
+read : (c : tie.After-known-told) → Passes (contentsCheck (image c)) (counts c) (countsAt (image c))
+read c =
+    let known = c .before .before .before .check-contents .ensures in
+    passes _ _ _ (sym (ap readAnswer (c .before .contents .given .1)) ∙ known)
 
 check-bodies-requires : tie.Need-check-bodies-requires
 check-bodies-requires c κs = sized (read c)
@@ -35,13 +49,16 @@ enum-known-bodies c = search needs
 
 returns-2 : tie.Need-returns-2
 returns-2 c =
-    bodies-refused _ _ (read (c .before .before .before .before)) (sym (ap answer (c .before .bodies .given .1)) ∙ c .before .before .before .check-bodies .ensures)
+    bodies-refused _ _ (read (c .before .before .before .before))
+    (sym (ap answer (c .before .bodies .given .1)) ∙ c .before .before .before .check-bodies .ensures)
 
 enum-told-2 : tie.Need-enum-told-2
 enum-told-2 c = search needs
 
 returns-3 : tie.Need-returns-3
-returns-3 c = image-accepted _ _ (read (c .before .before .before)) (sym (c .before .before .check-bodies .ensures) ∙ ap answer (c .enum-told2 .given .1))
+returns-3 c =
+    image-accepted _ _ (read (c .before .before .before))
+    (sym (c .before .before .check-bodies .ensures) ∙ ap answer (c .enum-told2 .given .1))
 
 pub check-spec : {M : Type 1} → statement M
 check-spec =

@@ -23,7 +23,8 @@ returns-2 : tie.Need-returns-2
 returns-2 c =
     let one = c .before .before in
     let a = one .before .before .before .args in
-    second-differs _ (a .first) _ (a .second) _ (a .third) (one .before .number-at .ensures) (one .if1 .left) (c .before .number-at2 .ensures) (c .if2 .taken)
+    second-differs _ (a .first) _ (a .second) _ (a .third) (one .before .number-at .ensures) (one .if1 .left)
+    (c .before .number-at2 .ensures) (c .if2 .taken)
 
 add-number-at-2 : tie.Need-add-number-at-2
 add-number-at-2 c = search needs
@@ -36,7 +37,8 @@ returns-3 c =
     let two = c .before in
     let one = two .before .before in
     let a = one .before .before .before .args in
-    third-agrees _ (a .first) _ (a .second) _ (a .third) (one .before .number-at .ensures) (one .if1 .left) (two .before .number-at2 .ensures) (two .if2 .left) (c .number-at3 .ensures)
+    third-agrees _ (a .first) _ (a .second) _ (a .third) (one .before .number-at .ensures) (one .if1 .left)
+    (two .before .number-at2 .ensures) (two .if2 .left) (c .number-at3 .ensures)
 
 pub entries-have-spec : {M : Type 1} → statement M
 entries-have-spec =

@@ -1,4 +1,4 @@
--- `image::load` meets its contract: a copy from the part of the image from `at` on, and zeros in the lent part behind it.
+-- `image::load` meets its contract: a copy out of the image's part from `at` on, and zeros in the lent part behind it.
 -- Assumes nothing.
 use borrow.Author.Needs.{needs}
 use Rattle.image.proofs.Stores.{part-loaded}
@@ -34,8 +34,10 @@ same-length c = search needs
 
 returns : tie.Need-returns
 returns c =
-    let s = c .before .before .before .before .before .before .before .before .before .before .before in
-    part-loaded (s .args .table .now) (s .args .image .now) _ _ (s .args .at) (s .args .n) (s .pre .0) (s .pre .1) (c .before .before .before .before .before .before .copy .ensures) (c .before .before .zero .ensures)
+    let copied = c .before .before .before .before .before .before in
+    let s = copied .before .before .before .before .before in
+    part-loaded _ (s .args .image .now) _ _ (s .args .at) _ (s .pre .0) (s .pre .1) (copied .copy .ensures)
+    (c .before .before .zero .ensures)
 
 pub load-spec : {M : Type 1} → statement M
 load-spec =

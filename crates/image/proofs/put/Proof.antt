@@ -23,7 +23,7 @@ same-length c = search needs
 returns : tie.Need-returns
 returns c =
     let s = c .before .before .before .before .before .before in
-    part-copied (s .args .image .now) (s .args .source .now) _ (s .args .at) (s .args .n) (s .pre .0) (s .pre .1) (c .before .before .copy .ensures)
+    part-copied _ (s .args .source .now) _ _ (s .args .n) (s .pre .0) (s .pre .1) (c .before .before .copy .ensures)
 
 pub put-spec : {M : Type 1} → statement M
 put-spec =

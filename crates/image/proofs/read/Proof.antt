@@ -13,7 +13,8 @@ use Rattle.image.proofs.read.Tie as tie
 abbrev start : tie.Else1 → tie.Start
 start c = c .before .before .before .before .before .before
 
-long : (c : tie.Else1) → Long (start c .args .states .now) (start c .args .transitions .now) (start c .args .initial .now)
+long : (c : tie.Else1)
+    → Long (start c .args .states .now) (start c .args .transitions .now) (start c .args .initial .now)
 long c = tables-long _ _ _ (c .before .tables-fit .ensures) (c .if1 .left)
 
 tables-fit-requires : tie.Need-tables-fit-requires

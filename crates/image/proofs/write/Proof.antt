@@ -21,7 +21,8 @@ abbrev counts : tie.Start → Counts
 counts s = countsOf (s .args .state-count) (s .args .transition-count) (s .args .initial-count)
 
 -- what is known of it once the tables, and once the counts, fit
-long : (c : tie.Else1) → Long (start c .args .states .now) (start c .args .transitions .now) (start c .args .initial .now)
+long : (c : tie.Else1)
+    → Long (start c .args .states .now) (start c .args .transitions .now) (start c .args .initial .now)
 long c = tables-long _ _ _ (c .before .tables-fit .ensures) (c .if1 .left)
 
 ready : (c : tie.Else3)
@@ -47,7 +48,8 @@ counts-fit-requires c κs = search needs
 
 returns-3 : tie.Need-returns-3
 returns-3 c =
-    counts-refused _ _ _ _ _ (long (c .before .before .before)) (omega arith) (c .before .counts-fit .ensures) (c .if3 .taken)
+    counts-refused _ _ _ _ _ (long (c .before .before .before)) (omega arith) (c .before .counts-fit .ensures)
+    (c .if3 .taken)
 
 check-records-requires : tie.Need-check-records-requires
 check-records-requires c κs = has-records (ready c)

@@ -32,9 +32,11 @@ same-length c = search needs
 
 returns : tie.Need-returns
 returns c =
-    let first = c .before .before .before .before .before .before .before .before .before .before in
+    let second = c .before .before .before .before .before .before in
+    let first = second .before .before .before .before in
     let a = first .before .before .before .args in
-    contents-stored (countsOf (a .states) (a .transitions) (a .initial)) (a .image .now) (first .write-entry .ensures) (c .before .before .before .before .before .before .write-entry2 .ensures) (c .before .before .write-entry3 .ensures)
+    contents-stored (countsOf (a .states) (a .transitions) (a .initial)) (a .image .now)
+    (first .write-entry .ensures) (second .write-entry2 .ensures) (c .before .before .write-entry3 .ensures)
 
 pub write-contents-spec : {M : Type 1} → statement M
 write-contents-spec =

@@ -25,9 +25,11 @@ same-length c = search needs
 
 returns : tie.Need-returns
 returns c =
-    let first = c .before .before .before .before .before .before .before .before .before .before in
+    let second = c .before .before .before .before .before .before in
+    let first = second .before .before .before .before in
     let a = first .before .before .before .args in
-    entry-stored (a .image .now) (a .at) (a .kind) (a .count) (a .offset) (first .put-number .ensures) (c .before .before .before .before .before .before .put-number2 .ensures) (c .before .before .put-number3 .ensures)
+    entry-stored (a .image .now) (a .at) (a .kind) (a .count) (a .offset)
+    (first .put-number .ensures) (second .put-number2 .ensures) (c .before .before .put-number3 .ensures)
 
 pub write-entry-spec : {M : Type 1} → statement M
 write-entry-spec =

@@ -51,11 +51,15 @@ same-length c = search needs
 
 returns : tie.Need-returns
 returns c =
-    let first = c .before .before .before .before .before .before .before .before .before .before .before .before .before .before in
+    let third = c .before .before .before .before .before .before in
+    let second = third .before .before .before .before in
+    let first = second .before .before .before .before in
     let s = first .before .before .before .before .before .before in
     let a = s .args in
-    image-stored (countsOf (a .state-count) (a .transition-count) (a .initial-count)) (a .states .now) (a .transitions .now) (a .initial .now) (a .image .now) (omega (arith, s .pre)) (omega (arith, s .pre)) (omega (arith, s .pre)) (omega (arith, s .pre))
-    (first .write-contents .ensures) (c .before .before .before .before .before .before .before .before .before .before .put .ensures) (c .before .before .before .before .before .before .put2 .ensures) (c .before .before .put3 .ensures)
+    image-stored (countsOf (a .state-count) (a .transition-count) (a .initial-count))
+    (a .states .now) (a .transitions .now) (a .initial .now) (a .image .now)
+    (omega (arith, s .pre)) (omega (arith, s .pre)) (omega (arith, s .pre)) (omega (arith, s .pre))
+    (first .write-contents .ensures) (second .put .ensures) (third .put2 .ensures) (c .before .before .put3 .ensures)
 
 pub write-image-spec : {M : Type 1} → statement M
 write-image-spec =
