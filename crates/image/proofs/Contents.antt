@@ -12,7 +12,9 @@ use Rattle.automaton.specs.Automaton.{Automaton}
 use Rattle.automaton.specs.Tables.{Counts, counts}
 use Rattle.answer.specs.Bytes.{numberAt}
 use Rattle.image.specs.Image.{transitionsAt, initialAt, imageLength, contentsBytes}
+use Rattle.image.specs.Image.{statesBody, transitionsBody, initialBody}
 use Rattle.image.specs.Reader.{countsAt, contentsCheck, recordsCheck, automatonFrom, readTables, readImage, bodiesCheck}
+use Rattle.image.specs.Lookup.{imageAutomaton}
 use Rattle.image.specs.Calls.{checks}
 use Rattle.image.specs.Memory.{Small, Sized}
 use Rattle.image.proofs.Before.{follows, Passes, refuses}
@@ -77,7 +79,7 @@ module _ (image : List ℕ) where
         let f = rw (contents .same) at e in
         rw (contents .passed, ← f)
 
-    pub image-read : bodiesCheck c image ≡ fine → readImage image ≡ accepted (automatonFrom c (drop contentsBytes image) (drop (transitionsAt c) image) (drop (initialAt c) image))
+    pub image-read : bodiesCheck c image ≡ fine → readImage image ≡ accepted (automatonFrom c (statesBody image) (transitionsBody c image) (initialBody c image))
     unfolding readImage readTables
     image-read e =
         let f = rw (contents .same) at e in
@@ -85,13 +87,13 @@ module _ (image : List ℕ) where
 
     pub image-accepted : bodiesCheck c image ≡ fine → accepted c ≡ checks image
     unfolding checks
-    image-accepted e = rw (image-read e, counts-back c (drop contentsBytes image) (drop (transitionsAt c) image) (drop (initialAt c) image) e)
+    image-accepted e = rw (image-read e, counts-back c (statesBody image) (transitionsBody c image) (initialBody c image) e)
 
 -- an image that is read says what its contents and its bodies are
 pub record Read (image : List ℕ) (a : Automaton) : Type 0 where
   pub contents : contentsCheck image ≡ fine
   pub bodies : bodiesCheck (countsAt image) image ≡ fine
-  pub automaton : a ≡ automatonFrom (countsAt image) (drop contentsBytes image) (drop (transitionsAt (countsAt image)) image) (drop (initialAt (countsAt image)) image)
+  pub automaton : a ≡ imageAutomaton image
 
 pub read-of : (image : List ℕ) (a : Automaton) → readImage image ≡ accepted a → Read image a
 unfolding readImage readTables
@@ -114,7 +116,7 @@ checks-of image c e = go (readImage image) refl e
     go : (r : Result Automaton) → readImage image ≡ r → accepted c ≡ andThen r (λ a. accepted (counts a)) → Checks image c
     go (accepted a) p e =
         let parts = read-of image a p in
-        let back = counts-back (countsAt image) (drop contentsBytes image) (drop (transitionsAt (countsAt image)) image) (drop (initialAt (countsAt image)) image) (parts .bodies) in
+        let back = counts-back (countsAt image) (statesBody image) (transitionsBody (countsAt image) image) (initialBody (countsAt image) image) (parts .bodies) in
         let counted : c ≡ counts a = cc in
         record { automaton = a; read = p; same = counted ∙ ap counts (parts .automaton) ∙ back }
     go (refused number place) p e = never-both (sym e)

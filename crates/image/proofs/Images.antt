@@ -14,6 +14,7 @@ use Rattle.automaton.specs.Automaton.{Automaton}
 use Rattle.answer.specs.Bytes.{twoBytes, numberAt}
 use Rattle.automaton.specs.Tables.{Counts}
 use Rattle.image.specs.Image.{entry, transitionsAt, initialAt, imageLength, contents, contentsBytes}
+use Rattle.image.specs.Image.{statesBody, transitionsBody, initialBody}
 use Rattle.image.specs.Reader.{countsAt, countsFit, contentsCheck, readTables, readBodies, readImage}
 use Rattle.image.specs.Memory.{joinedBodies}
 use Rattle.image.proofs.Contents.{Contents}
@@ -107,13 +108,13 @@ module _ (image : List ℕ) (bytes : Bytes image) (fits : Contents image) where
   abbrev c : Counts
   c = countsAt image
 
-  contents-front : contents c ++ drop contentsBytes image ≡ image
+  contents-front : contents c ++ statesBody image ≡ image
   unfolding contents
   contents-front =
       let size = fits .size in
-      rw (nine-together 1 (c .states) contentsBytes 2 (c .transitions) (transitionsAt c) 3 (c .initial) (initialAt c) (drop contentsBytes image), number-front image 16 contentsBytes (initialAt c) bytes refl (omega arith) (sym (fits .offset₃)), number-front image 14 16 (c .initial) bytes refl (omega arith) refl, number-front image 12 14 3 bytes refl (omega arith) (sym (fits .kind₃)), number-front image 10 12 (transitionsAt c) bytes refl (omega arith) (sym (fits .offset₂)), number-front image 8 10 (c .transitions) bytes refl (omega arith) refl, number-front image 6 8 2 bytes refl (omega arith) (sym (fits .kind₂)), number-front image 4 6 contentsBytes bytes refl (omega arith) (sym (fits .offset₁)), number-front image 2 4 (c .states) bytes refl (omega arith) refl, number-front image 0 2 1 bytes refl (omega arith) (sym (fits .kind₁)))
+      rw (nine-together 1 (c .states) contentsBytes 2 (c .transitions) (transitionsAt c) 3 (c .initial) (initialAt c) (statesBody image), number-front image 16 contentsBytes (initialAt c) bytes refl (omega arith) (sym (fits .offset₃)), number-front image 14 16 (c .initial) bytes refl (omega arith) refl, number-front image 12 14 3 bytes refl (omega arith) (sym (fits .kind₃)), number-front image 10 12 (transitionsAt c) bytes refl (omega arith) (sym (fits .offset₂)), number-front image 8 10 (c .transitions) bytes refl (omega arith) refl, number-front image 6 8 2 bytes refl (omega arith) (sym (fits .kind₂)), number-front image 4 6 contentsBytes bytes refl (omega arith) (sym (fits .offset₁)), number-front image 2 4 (c .states) bytes refl (omega arith) refl, number-front image 0 2 1 bytes refl (omega arith) (sym (fits .kind₁)))
 
-  pub whole-image : joinedBodies c (drop contentsBytes image) (drop (transitionsAt c) image) (drop (initialAt c) image) ≡ image
+  pub whole-image : joinedBodies c (statesBody image) (transitionsBody c image) (initialBody c image) ≡ image
   whole-image =
       let size = fits .size in
-      rw (take-all (2 * c .initial) (drop (initialAt c) image) (rw (length-drop (initialAt c) image) (omega arith)), part-front image (transitionsAt c) (4 * c .transitions) (initialAt c) refl, part-front image contentsBytes (4 * c .states) (transitionsAt c) refl) contents-front
+      rw (take-all (2 * c .initial) (initialBody c image) (rw (length-drop (initialAt c) image) (omega arith)), part-front image (transitionsAt c) (4 * c .transitions) (initialAt c) refl, part-front image contentsBytes (4 * c .states) (transitionsAt c) refl) contents-front

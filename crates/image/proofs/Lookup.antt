@@ -15,6 +15,7 @@ use borrow.Author.Tests.{eqb-true, eq-eqb}
 use Rattle.automaton.specs.Automaton.{Transition, State, noState, reads, Step, Accepts}
 use Rattle.sets.specs.Sets.{In}
 use Rattle.image.specs.Image.{transitionsAt, initialAt, contentsBytes, acceptingAt}
+use Rattle.image.specs.Image.{statesBody, transitionsBody, initialBody}
 use Rattle.answer.specs.Bytes.{numberAt}
 use Rattle.image.specs.Reader.{countsAt, countSum, transitionsFrom, statesFrom, numbersFrom, automatonFrom}
 use Rattle.image.proofs.Tables.{sum-first, states-length}
@@ -109,13 +110,13 @@ module _ (image : List ℕ) where
   abbrev count : ℕ
   count = countsAt image .states
 
-  automaton-state : (q : ℕ) → q < count → getD (imageAutomaton image .states) q noState ≡ stateOf (drop contentsBytes image) (drop (transitionsAt (countsAt image)) image) q
+  automaton-state : (q : ℕ) → q < count → getD (imageAutomaton image .states) q noState ≡ stateOf (statesBody image) (transitionsBody (countsAt image) image) q
   unfolding automatonFrom
-  automaton-state q lt = state-at count (drop contentsBytes image) (drop (transitionsAt (countsAt image)) image) q lt
+  automaton-state q lt = state-at count (statesBody image) (transitionsBody (countsAt image) image) q lt
 
   pub automaton-states : length (imageAutomaton image .states) ≡ count
   unfolding automatonFrom
-  automaton-states = states-length count (drop contentsBytes image) (drop (transitionsAt (countsAt image)) image)
+  automaton-states = states-length count (statesBody image) (transitionsBody (countsAt image) image)
 
   automaton-none : (q : ℕ) → count ≤ q → getD (imageAutomaton image .states) q noState ≡ noState
   automaton-none q le = List·getD-eq-default (imageAutomaton image .states) noState (omega (arith, automaton-states))
@@ -127,10 +128,10 @@ module _ (image : List ℕ) where
     pub takes : reads (recordAt image (recordsAt image q + 4 * index)) x ≡ true
     pub reaches : t ≡ numberAt image (recordsAt image q + 4 * index + 2)
 
-  record-offset : (q i : ℕ) → recordAt (drop (4 * countSum (drop contentsBytes image) q) (drop (transitionsAt (countsAt image)) image)) (4 * i) ≡ recordAt image (recordsAt image q + 4 * i)
+  record-offset : (q i : ℕ) → recordAt (drop (4 * countSum (statesBody image) q) (transitionsBody (countsAt image) image)) (4 * i) ≡ recordAt image (recordsAt image q + 4 * i)
   record-offset q i =
-      record-drop (4 * countSum (drop contentsBytes image) q) (drop (transitionsAt (countsAt image)) image) (4 * i)
-      ∙ record-drop (transitionsAt (countsAt image)) image (4 * countSum (drop contentsBytes image) q + 4 * i)
+      record-drop (4 * countSum (statesBody image) q) (transitionsBody (countsAt image) image) (4 * i)
+      ∙ record-drop (transitionsAt (countsAt image)) image (4 * countSum (statesBody image) q + 4 * i)
       ∙ ap (recordAt image) (omega arith)
 
   pub step-inside : (q x t : ℕ) → Step (imageAutomaton image) q x t → q < count
@@ -144,7 +145,7 @@ module _ (image : List ℕ) where
   step-taken q x t step = go step (step-inside q x t step)
     where
       made : (s : Transition) → reads s x ≡ true → t ≡ s .target
-          → (i : ℕ) × (i < numberAt (drop contentsBytes image) (4 * q)) × (s ≡ recordAt (drop (4 * countSum (drop contentsBytes image) q) (drop (transitionsAt (countsAt image)) image)) (4 * i)) → Taken q x t
+          → (i : ℕ) × (i < numberAt (statesBody image) (4 * q)) × (s ≡ recordAt (drop (4 * countSum (statesBody image) q) (transitionsBody (countsAt image) image)) (4 * i)) → Taken q x t
       made s r e (i, lt, f) =
           let g : s ≡ recordAt image (recordsAt image q + 4 * i) = f ∙ record-offset q i in
           record {
@@ -161,13 +162,13 @@ module _ (image : List ℕ) where
   taken-step q x t lt h = (
     recordAt image (recordsAt image q + 4 * h .index),
     subst (λ (st : State). In (recordAt image (recordsAt image q + 4 * h .index)) (st .transitions)) (sym (automaton-state q lt))
-        (rw (record-offset q (h .index)) at (entry-listed every-record (numberAt (drop contentsBytes image) (4 * q)) (drop (4 * countSum (drop contentsBytes image) q) (drop (transitionsAt (countsAt image)) image)) (h .index) (rw (number-drop contentsBytes image (4 * q)) (h .below)))),
+        (rw (record-offset q (h .index)) at (entry-listed every-record (numberAt (statesBody image) (4 * q)) (drop (4 * countSum (statesBody image) q) (transitionsBody (countsAt image) image)) (h .index) (rw (number-drop contentsBytes image (4 * q)) (h .below)))),
     h .takes,
     h .reaches,
   )
 
   -- the accepting byte of state q
-  byte-offset : (q : ℕ) → getD (drop contentsBytes image) (4 * q + 2) 0 ≡ getD image (acceptingAt + 4 * q) 0
+  byte-offset : (q : ℕ) → getD (statesBody image) (4 * q + 2) 0 ≡ getD image (acceptingAt + 4 * q) 0
   byte-offset q = getD-drop contentsBytes image (4 * q + 2) 0 ∙ ap (λ (i : ℕ). getD image i 0) (omega arith)
 
   pub accepts-inside : (q : ℕ) → Accepts (imageAutomaton image) q → q < count
@@ -182,40 +183,40 @@ module _ (image : List ℕ) where
 
   pub accepts-byte : (q : ℕ) → Accepts (imageAutomaton image) q → AcceptingByte image q
   accepts-byte q h =
-      sym (byte-offset q) ∙ eqb-true (getD (drop contentsBytes image) (4 * q + 2) 0) 1 (subst (λ (st : State). st .accepting ≡ true) (automaton-state q (accepts-inside q h)) h)
+      sym (byte-offset q) ∙ eqb-true (getD (statesBody image) (4 * q + 2) 0) 1 (subst (λ (st : State). st .accepting ≡ true) (automaton-state q (accepts-inside q h)) h)
 
   pub byte-accepts : (q : ℕ) → q < count → AcceptingByte image q → Accepts (imageAutomaton image) q
   byte-accepts q lt e =
-      subst (λ (st : State). st .accepting ≡ true) (sym (automaton-state q lt)) (eq-eqb (getD (drop contentsBytes image) (4 * q + 2) 0) 1 (byte-offset q ∙ e))
+      subst (λ (st : State). st .accepting ≡ true) (sym (automaton-state q lt)) (eq-eqb (getD (statesBody image) (4 * q + 2) 0) 1 (byte-offset q ∙ e))
 
   -- the initial numbers
   pub initial-number : (q : ℕ) → In q (imageAutomaton image .initial) → (i : ℕ) × (i < countsAt image .initial) × (q ≡ numberAt image (initialAt (countsAt image) + 2 * i))
   unfolding automatonFrom
-  initial-number q h = go (listed-entry every-number (countsAt image .initial) (drop (initialAt (countsAt image)) image) q h)
+  initial-number q h = go (listed-entry every-number (countsAt image .initial) (initialBody (countsAt image) image) q h)
     where
-      go : (i : ℕ) × (i < countsAt image .initial) × (q ≡ numberAt (drop (initialAt (countsAt image)) image) (2 * i)) → (i : ℕ) × (i < countsAt image .initial) × (q ≡ numberAt image (initialAt (countsAt image) + 2 * i))
+      go : (i : ℕ) × (i < countsAt image .initial) × (q ≡ numberAt (initialBody (countsAt image) image) (2 * i)) → (i : ℕ) × (i < countsAt image .initial) × (q ≡ numberAt image (initialAt (countsAt image) + 2 * i))
       go (i, lt, e) = (i, lt, e ∙ number-drop (initialAt (countsAt image)) image (2 * i))
 
   pub number-initial : (i : ℕ) → i < countsAt image .initial → In (numberAt image (initialAt (countsAt image) + 2 * i)) (imageAutomaton image .initial)
   unfolding automatonFrom
-  number-initial i lt = rw (number-drop (initialAt (countsAt image)) image (2 * i)) at (entry-listed every-number (countsAt image .initial) (drop (initialAt (countsAt image)) image) i lt)
+  number-initial i lt = rw (number-drop (initialAt (countsAt image)) image (2 * i)) at (entry-listed every-number (countsAt image .initial) (initialBody (countsAt image) image) i lt)
 
   -- what the checks say of these bytes
   module _ (fine : Readable image) where
     -- a record of state q lies among all records, and its target is a state
-    pub record-inside : (q i : ℕ) → q < count → i < numberAt image (contentsBytes + 4 * q) → countSum (drop contentsBytes image) q + i < countsAt image .transitions
+    pub record-inside : (q i : ℕ) → q < count → i < numberAt image (contentsBytes + 4 * q) → countSum (statesBody image) q + i < countsAt image .transitions
     unfolding countSum
     record-inside q i lq li =
-        omega (arith, count-up (drop contentsBytes image) (suc q) count lq, fine .sum, number-drop contentsBytes image (4 * q))
+        omega (arith, count-up (statesBody image) (suc q) count lq, fine .sum, number-drop contentsBytes image (4 * q))
 
     pub records-end : (q : ℕ) → q < count → recordsAt image q + 4 * numberAt image (contentsBytes + 4 * q) ≤ length image
     unfolding countSum
-    records-end q lq = omega (arith, count-up (drop contentsBytes image) (suc q) count lq, fine .sum, fine .size, number-drop contentsBytes image (4 * q))
+    records-end q lq = omega (arith, count-up (statesBody image) (suc q) count lq, fine .sum, fine .size, number-drop contentsBytes image (4 * q))
 
     pub target-inside : (q i : ℕ) → q < count → i < numberAt image (contentsBytes + 4 * q) → numberAt image (recordsAt image q + 4 * i + 2) < count
     target-inside q i lq li =
-        let e : transitionsAt (countsAt image) + (4 * (countSum (drop contentsBytes image) q + i) + 2) ≡ recordsAt image q + 4 * i + 2 = omega arith in
-        subst (λ (j : ℕ). numberAt image j < count) e (rw (number-drop (transitionsAt (countsAt image)) image (4 * (countSum (drop contentsBytes image) q + i) + 2)) at (fine .targets (countSum (drop contentsBytes image) q + i) (record-inside q i lq li)))
+        let e : transitionsAt (countsAt image) + (4 * (countSum (statesBody image) q + i) + 2) ≡ recordsAt image q + 4 * i + 2 = omega arith in
+        subst (λ (j : ℕ). numberAt image j < count) e (rw (number-drop (transitionsAt (countsAt image)) image (4 * (countSum (statesBody image) q + i) + 2)) at (fine .targets (countSum (statesBody image) q + i) (record-inside q i lq li)))
 
     pub step-target : (q x t : ℕ) → Step (imageAutomaton image) q x t → t < count
     step-target q x t step =

@@ -17,6 +17,7 @@ use Rattle.automaton.specs.Records.{stateRecords, transitionRecords, initialRec
 use Rattle.automaton.specs.Tables.{Counts, counts, Outcome, outcome, lengthsFit, tableCheck}
 use Rattle.answer.specs.Bytes.{filled}
 use Rattle.image.specs.Image.{transitionsAt, initialAt, imageBytes, contentsBytes, largestImage}
+use Rattle.image.specs.Image.{statesBody, transitionsBody, initialBody}
 use Rattle.image.specs.Reader.{countsAt, countsFit, recordsCheck, readTables, bodiesCheck}
 use Rattle.image.specs.Calls.{Buffer, buffer, written, writes, loaded, readInto, checks}
 use Rattle.image.specs.Memory.{joinedOver, HasRecords, Loads, Small, Long}
@@ -160,7 +161,7 @@ filled-long s t i x y z long = record {
 
 -- the bodies of an image, as three tables
 pub body-passed : (image : List ℕ) → Contents image → Bytes image → bodiesCheck (countsAt image) image ≡ fine
-    → Passed (countsAt image) (drop contentsBytes image) (drop (transitionsAt (countsAt image)) image) (drop (initialAt (countsAt image)) image)
+    → Passed (countsAt image) (statesBody image) (transitionsBody (countsAt image) image) (initialBody (countsAt image) image)
 body-passed image contents bytes checked =
     let size = contents .size in
     record {
