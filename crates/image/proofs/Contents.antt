@@ -79,7 +79,9 @@ module _ (image : List ℕ) where
         let f = rw (contents .same) at e in
         rw (contents .passed, ← f)
 
-    pub image-read : bodiesCheck c image ≡ fine → readImage image ≡ accepted (automatonFrom c (statesBody image) (transitionsBody c image) (initialBody c image))
+    pub image-read : bodiesCheck c image ≡ fine
+        → readImage image
+        ≡ accepted (automatonFrom c (statesBody image) (transitionsBody c image) (initialBody c image))
     unfolding readImage readTables
     image-read e =
         let f = rw (contents .same) at e in
@@ -87,7 +89,7 @@ module _ (image : List ℕ) where
 
     pub image-accepted : bodiesCheck c image ≡ fine → accepted c ≡ checks image
     unfolding checks
-    image-accepted e = rw (image-read e, counts-back c (statesBody image) (transitionsBody c image) (initialBody c image) e)
+    image-accepted e = rw (image-read e, counts-back c _ _ _ e)
 
 -- an image that is read says what its contents and its bodies are
 pub record Read (image : List ℕ) (a : Automaton) : Type 0 where
@@ -116,7 +118,7 @@ checks-of image c e = go (readImage image) refl e
     go : (r : Result Automaton) → readImage image ≡ r → accepted c ≡ andThen r (λ a. accepted (counts a)) → Checks image c
     go (accepted a) p e =
         let parts = read-of image a p in
-        let back = counts-back (countsAt image) (statesBody image) (transitionsBody (countsAt image) image) (initialBody (countsAt image) image) (parts .bodies) in
+        let back = counts-back (countsAt image) _ _ _ (parts .bodies) in
         let counted : c ≡ counts a = cc in
         record { automaton = a; read = p; same = counted ∙ ap counts (parts .automaton) ∙ back }
     go (refused number place) p e = never-both (sym e)

@@ -94,10 +94,19 @@ number-front : (xs : List ℕ) (k m n : ℕ) → Bytes xs → m ≡ suc (suc k) 
 number-front xs k m n bytes after room e =
     rw (e, after, two-back (getD xs k 0) (getD xs (k + 1) 0) (bytes k), add-one, drop-cons xs k 0 (omega arith), drop-cons xs (suc k) 0 (omega arith))
 
-nine-together : (a b d e f g h j k : ℕ) (rest : List ℕ)
-    → (entry a b d ++ (entry e f g ++ entry h j k)) ++ rest ≡ twoBytes a ++ (twoBytes b ++ (twoBytes d ++ (twoBytes e ++ (twoBytes f ++ (twoBytes g ++ (twoBytes h ++ (twoBytes j ++ (twoBytes k ++ rest))))))))
+-- and an entry of the contents
+entry-front : (xs : List ℕ) (k kind count offset : ℕ) → Bytes xs → k + 6 ≤ length xs → kind ≡ numberAt xs k
+    → count ≡ numberAt xs (k + 2) → offset ≡ numberAt xs (k + 4)
+    → entry kind count offset ++ drop (k + 6) xs ≡ drop k xs
 unfolding entry
-nine-together a b d e f g h j k rest = simp append-assoc
+entry-front xs k kind count offset bytes room e f g =
+    rw (
+      append-assoc,
+      append-assoc,
+      number-front xs (k + 4) (k + 6) offset bytes (omega arith) room g,
+      number-front xs (k + 2) (k + 4) count bytes (omega arith) (omega arith) f,
+      number-front xs k (k + 2) kind bytes (omega arith) (omega arith) e,
+    )
 
 -- a part and what stands behind it
 part-front : (xs : List ℕ) (a n m : ℕ) → a + n ≡ m → take n (drop a xs) ++ drop m xs ≡ drop a xs
@@ -112,9 +121,20 @@ module _ (image : List ℕ) (bytes : Bytes image) (fits : Contents image) where
   unfolding contents
   contents-front =
       let size = fits .size in
-      rw (nine-together 1 (c .states) contentsBytes 2 (c .transitions) (transitionsAt c) 3 (c .initial) (initialAt c) (statesBody image), number-front image 16 contentsBytes (initialAt c) bytes refl (omega arith) (sym (fits .offset₃)), number-front image 14 16 (c .initial) bytes refl (omega arith) refl, number-front image 12 14 3 bytes refl (omega arith) (sym (fits .kind₃)), number-front image 10 12 (transitionsAt c) bytes refl (omega arith) (sym (fits .offset₂)), number-front image 8 10 (c .transitions) bytes refl (omega arith) refl, number-front image 6 8 2 bytes refl (omega arith) (sym (fits .kind₂)), number-front image 4 6 contentsBytes bytes refl (omega arith) (sym (fits .offset₁)), number-front image 2 4 (c .states) bytes refl (omega arith) refl, number-front image 0 2 1 bytes refl (omega arith) (sym (fits .kind₁)))
+      let first = entry-front image 0 1 (c .states) contentsBytes bytes (omega arith)
+      (sym (fits .kind₁)) refl (sym (fits .offset₁)) in
+      let second = entry-front image 6 2 (c .transitions) (transitionsAt c) bytes (omega arith)
+      (sym (fits .kind₂)) refl (sym (fits .offset₂)) in
+      let third = entry-front image 12 3 (c .initial) (initialAt c) bytes (omega arith)
+      (sym (fits .kind₃)) refl (sym (fits .offset₃)) in
+      rw (append-assoc, append-assoc, third, second, first)
 
   pub whole-image : joinedBodies c (statesBody image) (transitionsBody c image) (initialBody c image) ≡ image
   whole-image =
       let size = fits .size in
-      rw (take-all (2 * c .initial) (initialBody c image) (rw (length-drop (initialAt c) image) (omega arith)), part-front image (transitionsAt c) (4 * c .transitions) (initialAt c) refl, part-front image contentsBytes (4 * c .states) (transitionsAt c) refl) contents-front
+      let room : length (initialBody c image) ≤ 2 * c .initial = rw (length-drop (initialAt c) image) (omega arith) in
+      rw (
+        take-all (2 * c .initial) (initialBody c image) room,
+        part-front image (transitionsAt c) (4 * c .transitions) (initialAt c) refl,
+        part-front image contentsBytes (4 * c .states) (transitionsAt c) refl,
+      ) contents-front

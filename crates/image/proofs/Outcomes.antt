@@ -161,7 +161,8 @@ filled-long s t i x y z long = record {
 
 -- the bodies of an image, as three tables
 pub body-passed : (image : List ℕ) → Contents image → Bytes image → bodiesCheck (countsAt image) image ≡ fine
-    → Passed (countsAt image) (statesBody image) (transitionsBody (countsAt image) image) (initialBody (countsAt image) image)
+    → let c = countsAt image in
+    Passed c (statesBody image) (transitionsBody c image) (initialBody c image)
 body-passed image contents bytes checked =
     let size = contents .size in
     record {
