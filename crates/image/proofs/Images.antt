@@ -35,18 +35,12 @@ module _ (c : Counts) (s t i : List ℕ) where
   contents-again : countsFit c ≡ true → length row ≡ imageLength c → contentsCheck row ≡ fine
   unfolding contentsCheck contents entry twoBytes
   contents-again fit size =
-      rw (
-        number-read (c .states),
-        number-read (c .transitions),
-        number-read (c .initial),
-        number-read (transitionsAt c),
-        number-read (initialAt c),
-        fit,
-        eq-eqb (transitionsAt c) (transitionsAt c) refl,
-        eq-eqb (initialAt c) (initialAt c) refl,
-        eq-eqb (length row) (imageLength c) size,
-        le-leb contentsBytes (length row) (rw size (omega arith)),
-      )
+      let at₂ = eq-eqb (transitionsAt c) (transitionsAt c) refl in
+      let at₃ = eq-eqb (initialAt c) (initialAt c) refl in
+      let long = le-leb contentsBytes (length row) (rw size (omega arith)) in
+      rw (number-read (c .states), number-read (c .transitions), number-read (c .initial))
+      (rw (number-read (transitionsAt c), number-read (initialAt c), fit)
+      (rw (at₂, at₃, eq-eqb (length row) (imageLength c) size, long)))
 
   bodies-again : drop contentsBytes row ≡ s ++ (t ++ i)
   unfolding contents entry twoBytes
@@ -100,13 +94,10 @@ entry-front : (xs : List ℕ) (k kind count offset : ℕ) → Bytes xs → k + 6
     → entry kind count offset ++ drop (k + 6) xs ≡ drop k xs
 unfolding entry
 entry-front xs k kind count offset bytes room e f g =
-    rw (
-      append-assoc,
-      append-assoc,
-      number-front xs (k + 4) (k + 6) offset bytes (omega arith) room g,
-      number-front xs (k + 2) (k + 4) count bytes (omega arith) (omega arith) f,
-      number-front xs k (k + 2) kind bytes (omega arith) (omega arith) e,
-    )
+    let third = number-front xs (k + 4) (k + 6) offset bytes (omega arith) room g in
+    let second = number-front xs (k + 2) (k + 4) count bytes (omega arith) (omega arith) f in
+    let first = number-front xs k (k + 2) kind bytes (omega arith) (omega arith) e in
+    rw (append-assoc, append-assoc, third, second, first)
 
 -- a part and what stands behind it
 part-front : (xs : List ℕ) (a n m : ℕ) → a + n ≡ m → take n (drop a xs) ++ drop m xs ≡ drop a xs
@@ -133,8 +124,6 @@ module _ (image : List ℕ) (bytes : Bytes image) (fits : Contents image) where
   whole-image =
       let size = fits .size in
       let room : length (initialBody c image) ≤ 2 * c .initial = rw (length-drop (initialAt c) image) (omega arith) in
-      rw (
-        take-all (2 * c .initial) (initialBody c image) room,
-        part-front image (transitionsAt c) (4 * c .transitions) (initialAt c) refl,
-        part-front image contentsBytes (4 * c .states) (transitionsAt c) refl,
-      ) contents-front
+      let transitions = part-front image (transitionsAt c) (4 * c .transitions) (initialAt c) refl in
+      let states = part-front image contentsBytes (4 * c .states) (transitionsAt c) refl in
+      rw (take-all (2 * c .initial) (initialBody c image) room, transitions, states) contents-front

@@ -195,16 +195,6 @@ module _ (image s t i : List ℕ) where
         let found = checks-of image c e in
         let parts = read-of image (found .automaton) (found .read) in
         let passed = body-passed image (contents-fine image (parts .contents)) bytes (parts .bodies) in
-        rw (
-          loads .states-are,
-          loads .transitions-are,
-          loads .initial-are,
-          fine-long s t i long,
-          found .read,
-          parts .automaton,
-          counts-back _ _ _ _ (parts .bodies),
-          states-back _ _ _ _ passed,
-          transitions-back _ _ _ _ passed,
-          initial-back _ _ _ _ passed,
-          found .same,
-        )
+        rw (loads .states-are, loads .transitions-are, loads .initial-are, fine-long s t i long, found .read)
+        (rw (parts .automaton, counts-back _ _ _ _ (parts .bodies), states-back _ _ _ _ passed)
+        (rw (transitions-back _ _ _ _ passed, initial-back _ _ _ _ passed, found .same)))

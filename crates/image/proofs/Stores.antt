@@ -43,16 +43,9 @@ part-loaded table image xs ys a n room le e f =
     let bytes = take n (drop a image) in
     let size : length bytes ≡ n = length-take-le n (drop a image) (rw (length-drop a image) (omega arith)) in
     let whole : xs ≡ bytes ++ drop n table = rw (part-whole image a) at e in
-    part-back xs ys n
-    ∙ rw (
-      f,
-      part-whole xs n,
-      whole,
-      take-at bytes (drop n table) n size,
-      drop-at bytes (drop n table) n size,
-      length-drop n table,
-      size,
-    )
+    let front = take-at bytes (drop n table) n size in
+    let behind = drop-at bytes (drop n table) n size in
+    part-back xs ys n ∙ rw (f, part-whole xs n, whole, front, behind, length-drop n table, size)
 
 -- a run of stores, and another right behind it
 pub sets-sets : (vs ws xs : List ℕ) (i j : ℕ) → j ≡ i + length vs → sets (sets xs i vs) j ws ≡ sets xs i (vs ++ ws)

@@ -82,13 +82,8 @@ module _ {image : List ℕ} {c : Counts} (read : Opened image c) where
       ≡ andThen (require (countsFit c && (offsets && eqb (length image) (imageLength c))) 10 0) (λ _. accepted c)
   unfolding contentsCheck
   decided =
-      rw (
-        le-leb contentsBytes (length image) (read .long),
-        read .kinds,
-        ← read .states,
-        ← read .transitions,
-        ← read .initial,
-      )
+      rw (le-leb contentsBytes (length image) (read .long), read .kinds)
+      (rw (← read .states, ← read .transitions, ← read .initial))
 
   pub counts-wrong : {t : Bool} → t ≡ countsFit c → not t ≡ true → refused 10 0 ≡ contentsAnswer image
   counts-wrong {t} e f = rw (decided, ← e, not-true t f)
