@@ -20,7 +20,7 @@ ghost use Rattle.answer.specs.Result.{accepted, andThen, require, lowest, answe
 ghost use Rattle.automaton.specs.Limits.{maxStates};
 ghost use Rattle.automaton.specs.Tables.{outcome, countsOf, lengthsFit};
 ghost use Rattle.answer.specs.Bytes.{filled, numberAt};
-ghost use Rattle.image.specs.Image.{entry, entryBytes, contents, contentsBytes, largestImage};
+ghost use Rattle.image.specs.Image.{entry, entryBytes, contentsBytes, largestImage};
 ghost use Rattle.image.specs.Reader.{countsAt, countsFit, entriesHave, contentsCheck, stateCheck, countSum};
 ghost use Rattle.image.specs.Reader.{transitionRecordCheck, initialCheck, recordsCheck, bodiesCheck};
 ghost use Rattle.image.specs.Calls.{writeAnswer, buffer, writes, readAnswer, readInto, checks};
@@ -324,10 +324,12 @@ fn load_bodies(
         (now (states .entry)) (now (transitions .entry)) (now (initial .entry))
         (now (states .exit)) (now (transitions .exit)) (now (initial .exit)) ⌝ }
 {
-    let transitions_at = CONTENTS_BYTES + 4 * state_count;
-    let initial_at = transitions_at + 4 * transition_count;
-    load(states, image, CONTENTS_BYTES, 4 * state_count);
-    load(transitions, image, transitions_at, 4 * transition_count);
+    let states_size = 4 * state_count;
+    let transitions_size = 4 * transition_count;
+    let transitions_at = CONTENTS_BYTES + states_size;
+    let initial_at = transitions_at + transitions_size;
+    load(states, image, CONTENTS_BYTES, states_size);
+    load(transitions, image, transitions_at, transitions_size);
     load(initial, image, initial_at, 2 * initial_count);
 }
 
@@ -365,19 +367,6 @@ fn write_entry(image: &mut [u8], at: usize, kind: usize, count: usize, offset: u
     answer::put_number(image, at + 4, offset);
 }
 
-// The table of contents at the start.
-fn write_contents(image: &mut [u8], states: usize, transitions: usize, initial: usize)
-    requires { ⌜ (contentsBytes ≤ length (now image)) × Small (countsOf states transitions initial) ⌝ }
-    ensures { λ _. ⌜ now (image .exit)
-        ≡ sets (now (image .entry)) 0 (contents (countsOf states transitions initial)) ⌝ }
-{
-    let transitions_at = CONTENTS_BYTES + 4 * states;
-    let initial_at = transitions_at + 4 * transitions;
-    write_entry(image, 0, 1, states, CONTENTS_BYTES);
-    write_entry(image, TRANSITIONS_ENTRY, 2, transitions, transitions_at);
-    write_entry(image, INITIAL_ENTRY, 3, initial, initial_at);
-}
-
 // The first n bytes of source from byte `at` of an image on.
 fn put(image: &mut [u8], at: usize, source: &[u8], n: usize)
     requires { ⌜ (at + n ≤ length (now image)) × (n ≤ length (now source)) ⌝ }
@@ -402,13 +391,25 @@ fn write_image(
         ≡ joinedOver (countsOf «state_count» «transition_count» «initial_count»)
         (now (states .entry)) (now (transitions .entry)) (now (initial .entry)) (now (image .entry)) ⌝ }
 {
-    let transitions_at = CONTENTS_BYTES + 4 * state_count;
-    let initial_at = transitions_at + 4 * transition_count;
-    write_contents(image, state_count, transition_count, initial_count);
-    put(image, CONTENTS_BYTES, states, 4 * state_count);
-    put(image, transitions_at, transitions, 4 * transition_count);
-    put(image, initial_at, initial, 2 * initial_count);
-    initial_at + 2 * initial_count
+    let states_size = 4 * state_count;
+    let transitions_size = 4 * transition_count;
+    let initial_size = 2 * initial_count;
+    let transitions_at = CONTENTS_BYTES + states_size;
+    let initial_at = transitions_at + transitions_size;
+    let end = initial_at + initial_size;
+    write_entry(image, 0, 1, state_count, CONTENTS_BYTES);
+    write_entry(
+        image,
+        TRANSITIONS_ENTRY,
+        2,
+        transition_count,
+        transitions_at,
+    );
+    write_entry(image, INITIAL_ENTRY, 3, initial_count, initial_at);
+    put(image, CONTENTS_BYTES, states, states_size);
+    put(image, transitions_at, transitions, transitions_size);
+    put(image, initial_at, initial, initial_size);
+    end
 }
 
 // 25, then 10 to 13 of the tables; on acceptance the image's length.
