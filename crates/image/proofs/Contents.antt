@@ -2,22 +2,23 @@
 use mathlib.Core.Path.{_≡_, refl, sym, ap, _∙_}
 use mathlib.Core.Bool.{and-eq-true-iff}
 use mathlib.Core.List.{List}
-use Prim.Native.Nat.{ℕ, _-_, _*_}
-use native.Mathlib.Omega.{arith}
-use lib.ListN.{length, take, drop, length-drop}
-use lib.Seq.{take-all}
+use Prim.Native.Nat.{ℕ, _-_}
+use lib.ListN.{length, take, drop}
 use lib.Dec.{leb}
 use borrow.Author.Tests.{eqb-true}
 use Rattle.answer.specs.Result.{Result, accepted, refused, andThen, Check, fine}
 use Rattle.answer.proofs.Results.{never-both, require-fine}
 use Rattle.automaton.specs.Automaton.{Automaton}
 use Rattle.automaton.specs.Tables.{Counts, counts}
-use Rattle.answer.specs.Bytes.{filled, numberAt}
+use Rattle.answer.specs.Bytes.{numberAt}
 use Rattle.image.specs.Image.{transitionsAt, initialAt, imageLength, contentsBytes}
+use Rattle.image.specs.Image.{statesBody, transitionsBody, initialBody}
 use Rattle.image.specs.Reader.{countsAt, contentsCheck, recordsCheck, automatonFrom, readTables, readImage, bodiesCheck}
+use Rattle.image.specs.Lookup.{imageAutomaton}
 use Rattle.image.specs.Calls.{checks}
-use Rattle.image.specs.Memory.{Loads, Small}
+use Rattle.image.specs.Memory.{Small, Sized}
 use Rattle.image.proofs.Before.{follows, Passes, refuses}
+use Rattle.image.proofs.Stores.{part-whole}
 use Rattle.image.proofs.Tests.{counts-small}
 use Rattle.image.proofs.Tables.{counts-back}
 
@@ -54,25 +55,12 @@ contents-fine image e =
       size = eqb-true (length image) (imageLength (countsAt image)) (size .1);
     }
 
--- a part that goes to the end is what is left there
-part-whole : (image : List ℕ) (a : ℕ) → take (length image - a) (drop a image) ≡ drop a image
-part-whole image a = take-all (length image - a) (drop a image) (rw (length-drop a image) (omega arith))
-
+-- parts that go to the end are what is left there
 pub parts-whole : (c : Counts) (image : List ℕ) (a b d : ℕ) {r : Check} → r ≡ recordsCheck c (take (length image - a) (drop a image)) (take (length image - b) (drop b image)) (take (length image - d) (drop d image))
     → r ≡ recordsCheck c (drop a image) (drop b image) (drop d image)
 parts-whole c image a b d e = rw (part-whole image a, part-whole image b, part-whole image d) at e
 
-pub parts-loaded : (image : List ℕ) (c : Counts) (s t i : List ℕ) {s₁ t₁ i₁ : List ℕ} → s₁ ≡ filled s (take (4 * c .states) (take (length image - contentsBytes) (drop contentsBytes image)))
-    → t₁ ≡ filled t (take (4 * c .transitions) (take (length image - transitionsAt c) (drop (transitionsAt c) image)))
-    → i₁ ≡ filled i (take (2 * c .initial) (take (length image - initialAt c) (drop (initialAt c) image))) → Loads image c s t i s₁ t₁ i₁
-parts-loaded image c s t i es et ei =
-    record { states-are = rw (part-whole image contentsBytes) at es; transitions-are = rw (part-whole image (transitionsAt c)) at et; initial-are = rw (part-whole image (initialAt c)) at ei }
-
 -- what the code knows of an image that 10 does not refuse
-pub record Sized (c : Counts) (image : List ℕ) : Type 0 where
-  pub small : Small c
-  pub size : length image ≡ imageLength c
-
 pub sized : {c : Counts} {image : List ℕ} → Passes (contentsCheck image) c (countsAt image) → Sized c image
 sized {c} {image} contents =
     let fits = contents-fine image (contents .passed) in
@@ -91,7 +79,9 @@ module _ (image : List ℕ) where
         let f = rw (contents .same) at e in
         rw (contents .passed, ← f)
 
-    pub image-read : bodiesCheck c image ≡ fine → readImage image ≡ accepted (automatonFrom c (drop contentsBytes image) (drop (transitionsAt c) image) (drop (initialAt c) image))
+    pub image-read : bodiesCheck c image ≡ fine
+        → readImage image
+        ≡ accepted (automatonFrom c (statesBody image) (transitionsBody c image) (initialBody c image))
     unfolding readImage readTables
     image-read e =
         let f = rw (contents .same) at e in
@@ -99,13 +89,13 @@ module _ (image : List ℕ) where
 
     pub image-accepted : bodiesCheck c image ≡ fine → accepted c ≡ checks image
     unfolding checks
-    image-accepted e = rw (image-read e, counts-back c (drop contentsBytes image) (drop (transitionsAt c) image) (drop (initialAt c) image) e)
+    image-accepted e = rw (image-read e, counts-back c _ _ _ e)
 
 -- an image that is read says what its contents and its bodies are
 pub record Read (image : List ℕ) (a : Automaton) : Type 0 where
   pub contents : contentsCheck image ≡ fine
   pub bodies : bodiesCheck (countsAt image) image ≡ fine
-  pub automaton : a ≡ automatonFrom (countsAt image) (drop contentsBytes image) (drop (transitionsAt (countsAt image)) image) (drop (initialAt (countsAt image)) image)
+  pub automaton : a ≡ imageAutomaton image
 
 pub read-of : (image : List ℕ) (a : Automaton) → readImage image ≡ accepted a → Read image a
 unfolding readImage readTables
@@ -128,7 +118,7 @@ checks-of image c e = go (readImage image) refl e
     go : (r : Result Automaton) → readImage image ≡ r → accepted c ≡ andThen r (λ a. accepted (counts a)) → Checks image c
     go (accepted a) p e =
         let parts = read-of image a p in
-        let back = counts-back (countsAt image) (drop contentsBytes image) (drop (transitionsAt (countsAt image)) image) (drop (initialAt (countsAt image)) image) (parts .bodies) in
+        let back = counts-back (countsAt image) _ _ _ (parts .bodies) in
         let counted : c ≡ counts a = cc in
         record { automaton = a; read = p; same = counted ∙ ap counts (parts .automaton) ∙ back }
     go (refused number place) p e = never-both (sym e)

@@ -1,13 +1,12 @@
 -- The reader accepts the image of a well-formed automaton and gives the same automaton: the contents pass 10, the
 -- records pass 11 to 13, and they read back. Assumes nothing.
 use Prim.Native.Nat.{ℕ, zero, suc, _+_, _*_, _≤_, _<_}
-use mathlib.Core.Path.{_≡_, refl, sym, _∙_, ap, subst}
+use mathlib.Core.Path.{_≡_, refl, _∙_, ap}
 use mathlib.Core.Logic.{_⊎_, inl, inr}
 use mathlib.Core.List.{List, [], _∷_, _++_, append-nil}
 use mathlib.Core.Bool.{Bool, true, false, cond}
 use native.Mathlib.Omega.{arith}
-use lib.ListN.{getD, length, drop, length-append}
-use lib.Seq.{drop-at, drop-drop}
+use lib.ListN.{getD, length, length-append}
 use lib.Dec.{leb}
 use lib.Bits.{bitAnd}
 use borrow.Author.Tests.{lt-ltb, le-leb, eq-eqb}
@@ -17,13 +16,15 @@ use Rattle.sets.specs.Sets.{In}
 use Rattle.automaton.specs.Limits.{maxStates, maxOfState, maxTransitions, maxInitial}
 use Rattle.automaton.specs.Records.{records, stateRecord, transitionRecord, stateRecords, transitionRecords, initialRecords}
 use Rattle.answer.specs.Bytes.{twoBytes, numberAt}
-use Rattle.automaton.specs.Tables.{Counts, counts, transitionCount}
-use Rattle.image.specs.Image.{entry, transitionsAt, initialAt, imageLength, contents, imageBytes, contentsBytes}
-use Rattle.image.specs.Reader.{countsAt, countsFit, contentsCheck, stateCheck, sumCheck, transitionRecordCheck, initialCheck, recordsCheck, automatonFrom, readTables, readImage}
+use Rattle.automaton.specs.Tables.{counts, transitionCount}
+use Rattle.image.specs.Image.{imageBytes}
+use Rattle.image.specs.Reader.{countsFit, stateCheck, sumCheck, transitionRecordCheck, initialCheck}
+use Rattle.image.specs.Reader.{recordsCheck, automatonFrom, readTables, readImage}
 use Rattle.sets.proofs.Members.{at-in, append-in}
 use Rattle.automaton.proofs.WellFormed.{WellFormed, few-together}
 use Rattle.automaton.proofs.Records.{records-append, byte-at, number-at, number-length, transition-length, state-byte-at, state-number-at}
-use Rattle.image.proofs.Sizes.{states-size, transitions-size, image-size}
+use Rattle.image.proofs.Sizes.{states-size, transitions-size, initial-size}
+use Rattle.image.proofs.Images.{row-read}
 use Rattle.image.proofs.ReadRecords.{number-read, numbers-read, states-read, counts-add}
 
 -- checks that are fine each are fine together
@@ -56,68 +57,15 @@ together-in t (s ∷ ss) m = go (append-in t (s .transitions) (together ss) m) (
     go (inl h) ih = (s, inl refl, h)
     go (inr h) ih = let (u, n, k) = ih h in (u, inr n, k)
 
--- the numbers in the contents of an image with these counts, and its length
-record Contents (c : Counts) (image : List ℕ) : Type 0 where
-  states-kind : numberAt image 0 ≡ 1
-  states-count : numberAt image 2 ≡ c .states
-  states-offset : numberAt image 4 ≡ contentsBytes
-  transitions-kind : numberAt image 6 ≡ 2
-  transitions-count : numberAt image 8 ≡ c .transitions
-  transitions-offset : numberAt image 10 ≡ transitionsAt c
-  initial-kind : numberAt image 12 ≡ 3
-  initial-count : numberAt image 14 ≡ c .initial
-  initial-offset : numberAt image 16 ≡ initialAt c
-  size : length image ≡ imageLength c
-
-contents-counts : (c : Counts) (image : List ℕ) → Contents c image → countsAt image ≡ c
-contents-counts c image h = λ i. record { states = h .states-count i; transitions = h .transitions-count i; initial = h .initial-count i }
-
-contents-pass : (c : Counts) (image : List ℕ) → Contents c image → countsFit c ≡ true → contentsCheck image ≡ fine
-unfolding contentsCheck
-contents-pass c image h fit =
-    rw (h .states-kind, h .states-count, h .states-offset, h .transitions-kind, h .transitions-count, h .transitions-offset, h .initial-kind, h .initial-count, h .initial-offset, h .size, le-leb contentsBytes (imageLength c) (omega arith), fit, eq-eqb (transitionsAt c) (transitionsAt c) refl, eq-eqb (initialAt c) (initialAt c) refl, eq-eqb (imageLength c) (imageLength c) refl)
-
 zero-or-one : (b : Bool) → leb (cond b 1 0) 1 ≡ true
 zero-or-one true = refl
 zero-or-one false = refl
 
--- any automaton: its contents, where its bodies stand, and what is read from them
+-- any automaton: its transition records, and what is read from its records
 module _ (a : Automaton) where
   transitions-are : transitionRecords a ≡ records transitionRecord (together (a .states))
   unfolding transitionRecords
   transitions-are = together-records (a .states)
-
-  image-contents : Contents (counts a) (imageBytes a)
-  unfolding imageBytes contents entry twoBytes
-  image-contents = record {
-    states-kind = refl;
-    states-count = number-read (length (a .states));
-    states-offset = refl;
-    transitions-kind = refl;
-    transitions-count = number-read (transitionCount (a .states));
-    transitions-offset = number-read (transitionsAt (counts a));
-    initial-kind = refl;
-    initial-count = number-read (length (a .initial));
-    initial-offset = number-read (initialAt (counts a));
-    size = image-size a;
-  }
-
-  states-body : drop contentsBytes (imageBytes a) ≡ stateRecords a ++ (transitionRecords a ++ initialRecords a)
-  unfolding imageBytes contents entry twoBytes
-  states-body = refl
-
-  transitions-body : drop (transitionsAt (counts a)) (imageBytes a) ≡ transitionRecords a ++ initialRecords a
-  transitions-body =
-      sym (drop-drop (4 * length (a .states)) contentsBytes (imageBytes a))
-      ∙ ap (drop (4 * length (a .states))) states-body
-      ∙ drop-at (stateRecords a) (transitionRecords a ++ initialRecords a) (4 * length (a .states)) (states-size a)
-
-  initial-body : drop (initialAt (counts a)) (imageBytes a) ≡ initialRecords a ++ []
-  initial-body =
-      sym (drop-drop (4 * transitionCount (a .states)) (transitionsAt (counts a)) (imageBytes a))
-      ∙ ap (drop (4 * transitionCount (a .states))) transitions-body
-      ∙ drop-at (transitionRecords a) (initialRecords a) (4 * transitionCount (a .states)) (transitions-size a)
-      ∙ sym (append-nil (initialRecords a))
 
   -- whatever follows each body
   automaton-read : (s t i : List ℕ) → automatonFrom (counts a) (stateRecords a ++ s) (transitionRecords a ++ t) (initialRecords a ++ i) ≡ a
@@ -209,14 +157,11 @@ module _ (a : Automaton) (formed : WellFormed a) where
     unfolding readTables
     tables-read = rw records-fine (ap accepted (automaton-read a s t i))
 
-  bodies-read : readTables (counts a) (drop contentsBytes (imageBytes a)) (drop (transitionsAt (counts a)) (imageBytes a)) (drop (initialAt (counts a)) (imageBytes a)) ≡ accepted a
-  bodies-read = rw (states-body a, transitions-body a, initial-body a) (tables-read (transitionRecords a ++ initialRecords a) (initialRecords a) [])
-
 -- what the reader makes of an automaton's image is that automaton
 pub image-accepted : (a : Automaton) → WellFormed a → readImage (imageBytes a) ≡ accepted a
-unfolding readImage
+unfolding imageBytes
 image-accepted a formed =
-    let there = image-contents a in
-    rw (contents-pass (counts a) (imageBytes a) there (counts-fit a formed))
-    (subst (λ (c : Counts). readTables c (drop contentsBytes (imageBytes a)) (drop (transitionsAt c) (imageBytes a)) (drop (initialAt c) (imageBytes a)) ≡ accepted a)
-    (sym (contents-counts (counts a) (imageBytes a) there)) (bodies-read a formed))
+    row-read (counts a) (stateRecords a) (transitionRecords a) (initialRecords a)
+    (states-size a) (transitions-size a) (initial-size a) (counts-fit a formed)
+    ∙ (rw (append-nil (initialRecords a)) at
+    (tables-read a formed (transitionRecords a ++ initialRecords a) (initialRecords a) []))

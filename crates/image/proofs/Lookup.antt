@@ -13,12 +13,14 @@ use lib.Seq.{getD-drop, drop-drop}
 use lib.Dec.{eqb}
 use borrow.Author.Tests.{eqb-true, eq-eqb}
 use Rattle.automaton.specs.Automaton.{Transition, State, noState, reads, Step, Accepts}
+use Rattle.automaton.specs.Tables.{Counts}
 use Rattle.sets.specs.Sets.{In}
 use Rattle.image.specs.Image.{transitionsAt, initialAt, contentsBytes, acceptingAt}
+use Rattle.image.specs.Image.{statesBody, transitionsBody, initialBody}
 use Rattle.answer.specs.Bytes.{numberAt}
 use Rattle.image.specs.Reader.{countsAt, countSum, transitionsFrom, statesFrom, numbersFrom, automatonFrom}
 use Rattle.image.proofs.Tables.{sum-first, states-length}
-use Rattle.image.specs.Lookup.{imageAutomaton, AcceptingByte, recordAt, recordsAt, Readable}
+use Rattle.image.specs.Lookup.{imageAutomaton, AcceptingByte, recordAt, recordsAt, transitionCountOf, Readable}
 
 pub number-drop : (d : ℕ) (bytes : List ℕ) (i : ℕ) → numberAt (drop d bytes) i ≡ numberAt bytes (d + i)
 number-drop d bytes i = simp (getD-drop, add-assoc)
@@ -106,45 +108,62 @@ state-at (suc n) states transitions (suc q) lt =
     same e f g = rw (e, f, g)
 
 module _ (image : List ℕ) where
-  abbrev count : ℕ
-  count = countsAt image .states
+  abbrev counted : Counts
+  counted = countsAt image
 
-  automaton-state : (q : ℕ) → q < count → getD (imageAutomaton image .states) q noState ≡ stateOf (drop contentsBytes image) (drop (transitionsAt (countsAt image)) image) q
+  abbrev count : ℕ
+  count = counted .states
+
+  abbrev states : List ℕ
+  states = statesBody image
+
+  abbrev transitions : List ℕ
+  transitions = transitionsBody counted image
+
+  automaton-state : (q : ℕ) → q < count → getD (imageAutomaton image .states) q noState ≡ stateOf states transitions q
   unfolding automatonFrom
-  automaton-state q lt = state-at count (drop contentsBytes image) (drop (transitionsAt (countsAt image)) image) q lt
+  automaton-state q lt = state-at count states transitions q lt
 
   pub automaton-states : length (imageAutomaton image .states) ≡ count
   unfolding automatonFrom
-  automaton-states = states-length count (drop contentsBytes image) (drop (transitionsAt (countsAt image)) image)
+  automaton-states = states-length count states transitions
 
   automaton-none : (q : ℕ) → count ≤ q → getD (imageAutomaton image .states) q noState ≡ noState
   automaton-none q le = List·getD-eq-default (imageAutomaton image .states) noState (omega (arith, automaton-states))
 
-  -- a transition of state q that reads x and leads to t, as a record among those of q
-  pub record Taken (q x t : ℕ) : Type 0 where
-    pub index : ℕ
-    pub below : index < numberAt image (contentsBytes + 4 * q)
-    pub takes : reads (recordAt image (recordsAt image q + 4 * index)) x ≡ true
-    pub reaches : t ≡ numberAt image (recordsAt image q + 4 * index + 2)
-
-  record-offset : (q i : ℕ) → recordAt (drop (4 * countSum (drop contentsBytes image) q) (drop (transitionsAt (countsAt image)) image)) (4 * i) ≡ recordAt image (recordsAt image q + 4 * i)
-  record-offset q i =
-      record-drop (4 * countSum (drop contentsBytes image) q) (drop (transitionsAt (countsAt image)) image) (4 * i)
-      ∙ record-drop (transitionsAt (countsAt image)) image (4 * countSum (drop contentsBytes image) q + 4 * i)
-      ∙ ap (recordAt image) (omega arith)
-
-  pub step-inside : (q x t : ℕ) → Step (imageAutomaton image) q x t → q < count
-  step-inside q x t (s, h, r, e) = go (decLt q count)
+  -- what does not hold of no state holds only of states
+  inside : (P : State → Type 0) → (P noState → ⊥) → (q : ℕ) → P (getD (imageAutomaton image .states) q noState)
+      → q < count
+  inside P none q h = go (decLt q count)
     where
       go : Dec (q < count) → q < count
       go (yes l) = l
-      go (no l) = absurd (subst (λ (st : State). In s (st .transitions)) (automaton-none q (omega arith)) h)
+      go (no l) = absurd (none (subst P (automaton-none q (omega arith)) h))
+
+  -- a transition of state q that reads x and leads to t, as a record among those of q
+  pub record Taken (q x t : ℕ) : Type 0 where
+    pub index : ℕ
+    pub below : index < transitionCountOf image q
+    pub takes : reads (recordAt image (recordsAt image q + 4 * index)) x ≡ true
+    pub reaches : t ≡ numberAt image (recordsAt image q + 4 * index + 2)
+
+  abbrev recordsOf : ℕ → List ℕ
+  recordsOf q = drop (4 * countSum states q) transitions
+
+  record-offset : (q i : ℕ) → recordAt (recordsOf q) (4 * i) ≡ recordAt image (recordsAt image q + 4 * i)
+  record-offset q i =
+      record-drop (4 * countSum states q) transitions (4 * i)
+      ∙ record-drop (transitionsAt counted) image (4 * countSum states q + 4 * i)
+      ∙ ap (recordAt image) (omega arith)
+
+  pub step-inside : (q x t : ℕ) → Step (imageAutomaton image) q x t → q < count
+  step-inside q x t (s, h, r, e) = inside (λ st. In s (st .transitions)) (λ none. none) q h
 
   pub step-taken : (q x t : ℕ) → Step (imageAutomaton image) q x t → Taken q x t
   step-taken q x t step = go step (step-inside q x t step)
     where
       made : (s : Transition) → reads s x ≡ true → t ≡ s .target
-          → (i : ℕ) × (i < numberAt (drop contentsBytes image) (4 * q)) × (s ≡ recordAt (drop (4 * countSum (drop contentsBytes image) q) (drop (transitionsAt (countsAt image)) image)) (4 * i)) → Taken q x t
+          → (i : ℕ) × (i < numberAt states (4 * q)) × (s ≡ recordAt (recordsOf q) (4 * i)) → Taken q x t
       made s r e (i, lt, f) =
           let g : s ≡ recordAt image (recordsAt image q + 4 * i) = f ∙ record-offset q i in
           record {
@@ -155,78 +174,88 @@ module _ (image : List ℕ) where
           }
 
       go : Step (imageAutomaton image) q x t → q < count → Taken q x t
-      go (s, h, r, e) lt = made s r e (listed-entry every-record _ _ s (subst (λ (st : State). In s (st .transitions)) (automaton-state q lt) h))
+      go (s, h, r, e) lt =
+          let among = subst (λ (st : State). In s (st .transitions)) (automaton-state q lt) h in
+          made s r e (listed-entry every-record _ _ s among)
 
   pub taken-step : (q x t : ℕ) → q < count → Taken q x t → Step (imageAutomaton image) q x t
-  taken-step q x t lt h = (
-    recordAt image (recordsAt image q + 4 * h .index),
-    subst (λ (st : State). In (recordAt image (recordsAt image q + 4 * h .index)) (st .transitions)) (sym (automaton-state q lt))
-        (rw (record-offset q (h .index)) at (entry-listed every-record (numberAt (drop contentsBytes image) (4 * q)) (drop (4 * countSum (drop contentsBytes image) q) (drop (transitionsAt (countsAt image)) image)) (h .index) (rw (number-drop contentsBytes image (4 * q)) (h .below)))),
-    h .takes,
-    h .reaches,
-  )
+  taken-step q x t lt h =
+      let s = recordAt image (recordsAt image q + 4 * h .index) in
+      let below : h .index < numberAt states (4 * q) = rw (number-drop contentsBytes image (4 * q)) (h .below) in
+      let among = rw (record-offset q (h .index)) at
+      (entry-listed every-record (numberAt states (4 * q)) (recordsOf q) (h .index) below) in
+      (s, subst (λ (st : State). In s (st .transitions)) (sym (automaton-state q lt)) among, h .takes, h .reaches)
 
   -- the accepting byte of state q
-  byte-offset : (q : ℕ) → getD (drop contentsBytes image) (4 * q + 2) 0 ≡ getD image (acceptingAt + 4 * q) 0
+  byte-offset : (q : ℕ) → getD states (4 * q + 2) 0 ≡ getD image (acceptingAt + 4 * q) 0
   byte-offset q = getD-drop contentsBytes image (4 * q + 2) 0 ∙ ap (λ (i : ℕ). getD image i 0) (omega arith)
 
   pub accepts-inside : (q : ℕ) → Accepts (imageAutomaton image) q → q < count
-  accepts-inside q h = go (decLt q count)
-    where
-      go : Dec (q < count) → q < count
-      go (yes l) = l
-      go (no l) =
-          let f : noState .accepting ≡ true = subst (λ (st : State). st .accepting ≡ true) (automaton-none q (omega arith)) h in
-          let z : _≡_ {A = ℕ} 0 1 = cc in
-          omega arith
+  accepts-inside q h = inside (λ st. st .accepting ≡ true) (λ e. let z : _≡_ {A = ℕ} 0 1 = cc in omega arith) q h
 
   pub accepts-byte : (q : ℕ) → Accepts (imageAutomaton image) q → AcceptingByte image q
   accepts-byte q h =
-      sym (byte-offset q) ∙ eqb-true (getD (drop contentsBytes image) (4 * q + 2) 0) 1 (subst (λ (st : State). st .accepting ≡ true) (automaton-state q (accepts-inside q h)) h)
+      let here = subst (λ (st : State). st .accepting ≡ true) (automaton-state q (accepts-inside q h)) h in
+      sym (byte-offset q) ∙ eqb-true (getD states (4 * q + 2) 0) 1 here
 
   pub byte-accepts : (q : ℕ) → q < count → AcceptingByte image q → Accepts (imageAutomaton image) q
   byte-accepts q lt e =
-      subst (λ (st : State). st .accepting ≡ true) (sym (automaton-state q lt)) (eq-eqb (getD (drop contentsBytes image) (4 * q + 2) 0) 1 (byte-offset q ∙ e))
+      let here = eq-eqb (getD states (4 * q + 2) 0) 1 (byte-offset q ∙ e) in
+      subst (λ (st : State). st .accepting ≡ true) (sym (automaton-state q lt)) here
 
   -- the initial numbers
-  pub initial-number : (q : ℕ) → In q (imageAutomaton image .initial) → (i : ℕ) × (i < countsAt image .initial) × (q ≡ numberAt image (initialAt (countsAt image) + 2 * i))
-  unfolding automatonFrom
-  initial-number q h = go (listed-entry every-number (countsAt image .initial) (drop (initialAt (countsAt image)) image) q h)
-    where
-      go : (i : ℕ) × (i < countsAt image .initial) × (q ≡ numberAt (drop (initialAt (countsAt image)) image) (2 * i)) → (i : ℕ) × (i < countsAt image .initial) × (q ≡ numberAt image (initialAt (countsAt image) + 2 * i))
-      go (i, lt, e) = (i, lt, e ∙ number-drop (initialAt (countsAt image)) image (2 * i))
+  abbrev initial : List ℕ
+  initial = initialBody counted image
 
-  pub number-initial : (i : ℕ) → i < countsAt image .initial → In (numberAt image (initialAt (countsAt image) + 2 * i)) (imageAutomaton image .initial)
+  abbrev pub InitialAt : ℕ → Type 0
+  InitialAt q = (i : ℕ) × (i < counted .initial) × (q ≡ numberAt image (initialAt counted + 2 * i))
+
+  pub initial-number : (q : ℕ) → In q (imageAutomaton image .initial) → InitialAt q
   unfolding automatonFrom
-  number-initial i lt = rw (number-drop (initialAt (countsAt image)) image (2 * i)) at (entry-listed every-number (countsAt image .initial) (drop (initialAt (countsAt image)) image) i lt)
+  initial-number q h = go (listed-entry every-number (counted .initial) initial q h)
+    where
+      go : (i : ℕ) × (i < counted .initial) × (q ≡ numberAt initial (2 * i)) → InitialAt q
+      go (i, lt, e) = (i, lt, e ∙ number-drop (initialAt counted) image (2 * i))
+
+  pub number-initial : (i : ℕ) → i < counted .initial
+      → In (numberAt image (initialAt counted + 2 * i)) (imageAutomaton image .initial)
+  unfolding automatonFrom
+  number-initial i lt =
+      rw (number-drop (initialAt counted) image (2 * i)) at (entry-listed every-number (counted .initial) initial i lt)
 
   -- what the checks say of these bytes
   module _ (fine : Readable image) where
     -- a record of state q lies among all records, and its target is a state
-    pub record-inside : (q i : ℕ) → q < count → i < numberAt image (contentsBytes + 4 * q) → countSum (drop contentsBytes image) q + i < countsAt image .transitions
+    pub record-inside : (q i : ℕ) → q < count → i < transitionCountOf image q
+        → countSum states q + i < counted .transitions
     unfolding countSum
     record-inside q i lq li =
-        omega (arith, count-up (drop contentsBytes image) (suc q) count lq, fine .sum, number-drop contentsBytes image (4 * q))
+        omega (arith, count-up states (suc q) count lq, fine .sum, number-drop contentsBytes image (4 * q))
 
-    pub records-end : (q : ℕ) → q < count → recordsAt image q + 4 * numberAt image (contentsBytes + 4 * q) ≤ length image
+    pub records-end : (q : ℕ) → q < count → recordsAt image q + 4 * transitionCountOf image q ≤ length image
     unfolding countSum
-    records-end q lq = omega (arith, count-up (drop contentsBytes image) (suc q) count lq, fine .sum, fine .size, number-drop contentsBytes image (4 * q))
+    records-end q lq =
+        omega (arith, count-up states (suc q) count lq, fine .sum, fine .size, number-drop contentsBytes image (4 * q))
 
-    pub target-inside : (q i : ℕ) → q < count → i < numberAt image (contentsBytes + 4 * q) → numberAt image (recordsAt image q + 4 * i + 2) < count
+    pub target-inside : (q i : ℕ) → q < count → i < transitionCountOf image q
+        → numberAt image (recordsAt image q + 4 * i + 2) < count
     target-inside q i lq li =
-        let e : transitionsAt (countsAt image) + (4 * (countSum (drop contentsBytes image) q + i) + 2) ≡ recordsAt image q + 4 * i + 2 = omega arith in
-        subst (λ (j : ℕ). numberAt image j < count) e (rw (number-drop (transitionsAt (countsAt image)) image (4 * (countSum (drop contentsBytes image) q + i) + 2)) at (fine .targets (countSum (drop contentsBytes image) q + i) (record-inside q i lq li)))
+        let k = countSum states q + i in
+        let e : transitionsAt counted + (4 * k + 2) ≡ recordsAt image q + 4 * i + 2 = omega arith in
+        let below = fine .targets k (record-inside q i lq li) in
+        subst (λ (j : ℕ). numberAt image j < count) e
+        (rw (number-drop (transitionsAt counted) image (4 * k + 2)) at below)
 
     pub step-target : (q x t : ℕ) → Step (imageAutomaton image) q x t → t < count
     step-target q x t step =
         let h = step-taken q x t step in
         rw (h .reaches) (target-inside q (h .index) (step-inside q x t step) (h .below))
 
-    pub initial-inside : (i : ℕ) → i < countsAt image .initial → numberAt image (initialAt (countsAt image) + 2 * i) < count
-    initial-inside i lt = rw (number-drop (initialAt (countsAt image)) image (2 * i)) at (fine .starts i lt)
+    pub initial-inside : (i : ℕ) → i < counted .initial → numberAt image (initialAt counted + 2 * i) < count
+    initial-inside i lt = rw (number-drop (initialAt counted) image (2 * i)) at (fine .starts i lt)
 
     pub initial-state : (q : ℕ) → In q (imageAutomaton image .initial) → q < count
     initial-state q h = go (initial-number q h)
       where
-        go : (i : ℕ) × (i < countsAt image .initial) × (q ≡ numberAt image (initialAt (countsAt image) + 2 * i)) → q < count
+        go : InitialAt q → q < count
         go (i, lt, e) = rw e (initial-inside i lt)

@@ -9,7 +9,7 @@ use lib.ListN.{length, take, drop, replicate, length-append, length-drop, length
 use lib.Seq.{take-append-seam}
 use lib.Dec.{leb}
 use borrow.Author.Tests.{leb-true, le-leb, lt-leb, not-true, not-false}
-use Rattle.answer.specs.Result.{Result, accepted, refused, fine}
+use Rattle.answer.specs.Result.{Result, Check, accepted, refused, fine}
 use Rattle.answer.proofs.Results.{never-both, require-fine}
 use Rattle.automaton.specs.Automaton.{Automaton}
 use Rattle.automaton.specs.Limits.{statesBytes, transitionsBytes, initialBytes}
@@ -17,10 +17,11 @@ use Rattle.automaton.specs.Records.{stateRecords, transitionRecords, initialRec
 use Rattle.automaton.specs.Tables.{Counts, counts, Outcome, outcome, lengthsFit, tableCheck}
 use Rattle.answer.specs.Bytes.{filled}
 use Rattle.image.specs.Image.{transitionsAt, initialAt, imageBytes, contentsBytes, largestImage}
+use Rattle.image.specs.Image.{statesBody, transitionsBody, initialBody}
 use Rattle.image.specs.Reader.{countsAt, countsFit, recordsCheck, readTables, bodiesCheck}
 use Rattle.image.specs.Calls.{Buffer, buffer, written, writes, loaded, readInto, checks}
-use Rattle.image.specs.Memory.{joinedOver, Loads, Small, Long}
-use Rattle.image.proofs.Tests.{counts-small}
+use Rattle.image.specs.Memory.{joinedOver, HasRecords, Loads, Small, Long}
+use Rattle.image.proofs.Tests.{small-fits}
 use Rattle.image.proofs.Tables.{Bytes, drop-bytes, Passed, counts-back, states-back, transitions-back, initial-back, image-back, image-length}
 use Rattle.image.proofs.Contents.{Contents, contents-fine, read-of, checks-of, checks-refused}
 
@@ -31,10 +32,6 @@ module _ (s t i : List ℕ) where
   tables-short : {r : Bool} → r ≡ sizes → not r ≡ true → tableCheck s t i ≡ refused 25 0
   unfolding tableCheck
   tables-short {r} e f = rw (← e, not-true r f)
-
-  tables-fine : {r : Bool} → r ≡ sizes → not r ≡ false → tableCheck s t i ≡ fine
-  unfolding tableCheck
-  tables-fine {r} e f = rw (← e, not-false r f)
 
   pub long-fine : tableCheck s t i ≡ fine → Long s t i
   unfolding tableCheck
@@ -48,7 +45,8 @@ module _ (s t i : List ℕ) where
   fine-long long = rw (le-leb statesBytes (length s) (long .states), le-leb transitionsBytes (length t) (long .transitions), le-leb initialBytes (length i) (long .initial))
 
   pub tables-long : {r : Bool} → r ≡ sizes → not r ≡ false → Long s t i
-  tables-long e f = long-fine (tables-fine e f)
+  unfolding tableCheck
+  tables-long {r} e f = long-fine (rw (← e, not-false r f))
 
   -- such tables have room for the records of counts that fit
   pub long-passed : (c : Counts) → Small c → Long s t i → Bytes s → Bytes t → Bytes i → recordsCheck c s t i ≡ fine → Passed c s t i
@@ -63,32 +61,52 @@ module _ (s t i : List ℕ) where
   }
 
 -- the writer, its tests in their order
-module _ (c : Counts) (s t i image : List ℕ) {r : Bool} (fit : r ≡ lengthsFit (length s) (length t) (length i)) where
-  pub write-short : not r ≡ true → buffer (refused 25 0) image ≡ writes c s t i image
+module _ (c : Counts) (s t i image : List ℕ) where
+  pub write-short : {r : Bool} → r ≡ lengthsFit (length s) (length t) (length i) → not r ≡ true
+      → buffer (refused 25 0) image ≡ writes c s t i image
   unfolding writes
-  write-short f = rw (tables-short s t i fit f)
+  write-short fit f = rw (tables-short s t i fit f)
 
-  module _ (long : not r ≡ false) where
-    pub buffer-short : length image < largestImage → buffer (refused 25 0) image ≡ writes c s t i image
-    unfolding writes
-    buffer-short lt = rw (tables-fine s t i fit long, lt-leb largestImage (length image) lt)
+  pub buffer-short : Long s t i → length image < largestImage → buffer (refused 25 0) image ≡ writes c s t i image
+  unfolding writes
+  buffer-short long lt = rw (fine-long s t i long, lt-leb largestImage (length image) lt)
 
-    module _ (room : largestImage ≤ length image) {q : Bool} (counted : q ≡ countsFit c) where
-      pub counts-refused : not q ≡ true → buffer (refused 10 0) image ≡ writes c s t i image
-      unfolding writes
-      counts-refused f = rw (tables-fine s t i fit long, le-leb largestImage (length image) room, ← counted, not-true q f)
+  pub counts-refused : Long s t i → largestImage ≤ length image → {q : Bool} → q ≡ countsFit c → not q ≡ true
+      → buffer (refused 10 0) image ≡ writes c s t i image
+  unfolding writes
+  counts-refused long room {q} e f =
+      rw (fine-long s t i long, le-leb largestImage (length image) room, ← e, not-true q f)
 
-      module _ (few : not q ≡ false) where
-        pub records-refused : {number place : ℕ} → refused number place ≡ recordsCheck c s t i → buffer (refused number place) image ≡ writes c s t i image
-        unfolding writes readTables
-        records-refused e = rw (tables-fine s t i fit long, le-leb largestImage (length image) room, ← counted, not-false q few, ← e)
+-- the tables and the buffer are long enough, and the counts fit
+pub record Ready (c : Counts) (s t i image : List ℕ) : Type 0 where
+  pub small : Small c
+  pub long : Long s t i
+  pub room : largestImage ≤ length image
 
-        pub write-accepted : {w : Buffer} → Bytes s → Bytes t → Bytes i → recordsCheck c s t i ≡ fine → w ≡ joinedOver c s t i image → w ≡ writes c s t i image
-        unfolding writes readTables
-        write-accepted bs bt bi checked e =
-            let small = counts-small c (sym counted ∙ not-false q few) in
-            let passed = long-passed s t i c small (tables-long s t i fit long) bs bt bi checked in
-            e ∙ rw (tables-fine s t i fit long, le-leb largestImage (length image) room, ← counted, not-false q few, checked, image-back c s t i passed, image-length c s t i passed)
+module _ {c : Counts} {s t i image : List ℕ} (ready : Ready c s t i image) where
+  pub has-records : HasRecords c s t i
+  has-records =
+      let small = ready .small in
+      let long = ready .long in
+      (small .states, omega arith, omega arith, omega arith)
+
+  decided : writes c s t i image ≡ written (readTables c s t i) image
+  unfolding writes
+  decided =
+      rw (fine-long s t i (ready .long), le-leb largestImage (length image) (ready .room), small-fits c (ready .small))
+
+  pub records-refused : {r : Check} {number place : ℕ} → r ≡ recordsCheck c s t i → r ≡ refused number place
+      → buffer (refused number place) image ≡ writes c s t i image
+  unfolding readTables
+  records-refused e told = rw (decided, ← e, told)
+
+  pub write-accepted : {r : Check} {w : Buffer} → Bytes s → Bytes t → Bytes i → r ≡ recordsCheck c s t i → r ≡ fine
+      → w ≡ joinedOver c s t i image → w ≡ writes c s t i image
+  unfolding readTables
+  write-accepted bs bt bi known told e =
+      let checked = sym known ∙ told in
+      let passed = long-passed s t i c (ready .small) (ready .long) bs bt bi checked in
+      e ∙ rw (decided, checked, image-back c s t i passed, image-length c s t i passed)
 
 -- what is written when a length is answered
 pub record Writes (r : Result Automaton) (n : ℕ) (before after : List ℕ) : Type 0 where
@@ -143,7 +161,8 @@ filled-long s t i x y z long = record {
 
 -- the bodies of an image, as three tables
 pub body-passed : (image : List ℕ) → Contents image → Bytes image → bodiesCheck (countsAt image) image ≡ fine
-    → Passed (countsAt image) (drop contentsBytes image) (drop (transitionsAt (countsAt image)) image) (drop (initialAt (countsAt image)) image)
+    → let c = countsAt image in
+    Passed c (statesBody image) (transitionsBody c image) (initialBody c image)
 body-passed image contents bytes checked =
     let size = contents .size in
     record {
@@ -157,20 +176,25 @@ body-passed image contents bytes checked =
     }
 
 -- the reader, its tests in their order
-module _ (image s t i : List ℕ) {r : Bool} (fit : r ≡ lengthsFit (length s) (length t) (length i)) where
-  pub read-short : not r ≡ true → outcome (refused 25 0) s t i ≡ readInto image s t i
+module _ (image s t i : List ℕ) where
+  pub read-short : {r : Bool} → r ≡ lengthsFit (length s) (length t) (length i) → not r ≡ true
+      → outcome (refused 25 0) s t i ≡ readInto image s t i
   unfolding readInto
-  read-short f = rw (tables-short s t i fit f)
+  read-short fit f = rw (tables-short s t i fit f)
 
-  module _ (long : not r ≡ false) where
-    pub read-refused : {answer : Result Counts} {number place : ℕ} → answer ≡ refused number place → answer ≡ checks image → outcome answer s t i ≡ readInto image s t i
+  module _ (long : Long s t i) where
+    pub read-refused : {answer : Result Counts} {number place : ℕ} → answer ≡ refused number place
+        → answer ≡ checks image → outcome answer s t i ≡ readInto image s t i
     unfolding readInto
-    read-refused told e = rw (tables-fine s t i fit long, checks-refused image (sym told ∙ e), told)
+    read-refused told e = rw (fine-long s t i long, checks-refused image (sym told ∙ e), told)
 
-    pub read-accepted : {c : Counts} {s₁ t₁ i₁ : List ℕ} → Bytes image → accepted c ≡ checks image → Loads image c s t i s₁ t₁ i₁ → outcome (accepted c) s₁ t₁ i₁ ≡ readInto image s t i
+    pub read-accepted : {c : Counts} {s₁ t₁ i₁ : List ℕ} → Bytes image → accepted c ≡ checks image
+        → Loads image c s t i s₁ t₁ i₁ → outcome (accepted c) s₁ t₁ i₁ ≡ readInto image s t i
     unfolding readInto
     read-accepted {c} bytes e loads =
         let found = checks-of image c e in
         let parts = read-of image (found .automaton) (found .read) in
         let passed = body-passed image (contents-fine image (parts .contents)) bytes (parts .bodies) in
-        rw (loads .states-are, loads .transitions-are, loads .initial-are, tables-fine s t i fit long, found .read, parts .automaton, counts-back _ _ _ _ (parts .bodies), states-back _ _ _ _ passed, transitions-back _ _ _ _ passed, initial-back _ _ _ _ passed, found .same)
+        rw (loads .states-are, loads .transitions-are, loads .initial-are, fine-long s t i long, found .read)
+        (rw (parts .automaton, counts-back _ _ _ _ (parts .bodies), states-back _ _ _ _ passed)
+        (rw (transitions-back _ _ _ _ passed, initial-back _ _ _ _ passed, found .same)))

@@ -11,7 +11,7 @@ use Rattle.automaton.specs.Automaton.{Automaton}
 use Rattle.automaton.specs.Records.{stateRecords, transitionRecords, initialRecords}
 use Rattle.automaton.specs.Tables.{Counts, counts, outcome, tableCheck}
 use Rattle.answer.specs.Bytes.{filled}
-use Rattle.image.specs.Image.{transitionsAt, initialAt, imageBytes, contentsBytes}
+use Rattle.image.specs.Image.{imageBytes}
 use Rattle.image.specs.Reader.{countsAt, countsFit, contentsCheck, recordsCheck, automatonFrom, readTables, readImage}
 use Rattle.image.specs.Calls.{buffer, bufferCheck, writes, readInto}
 use Rattle.image.proofs.Before.{follows, passes}
@@ -88,9 +88,9 @@ module _ (image s t i : List ℕ) (a : Automaton) (bytes : Bytes image) (e : rea
   filled-read =
       let read = read-of image a e in
       let passed = body-passed image (contents-fine image (read .contents)) bytes (read .bodies) in
-      let states : stateRecords a ≡ take (4 * c .states) (drop contentsBytes image) = ap stateRecords (read .automaton) ∙ states-back _ _ _ _ passed in
-      let transitions : transitionRecords a ≡ take (4 * c .transitions) (drop (transitionsAt c) image) = ap transitionRecords (read .automaton) ∙ transitions-back _ _ _ _ passed in
-      let initial : initialRecords a ≡ take (2 * c .initial) (drop (initialAt c) image) = ap initialRecords (read .automaton) ∙ initial-back _ _ _ _ passed in
+      let states = ap stateRecords (read .automaton) ∙ states-back _ _ _ _ passed in
+      let transitions = ap transitionRecords (read .automaton) ∙ transitions-back _ _ _ _ passed in
+      let initial = ap initialRecords (read .automaton) ∙ initial-back _ _ _ _ passed in
       rw (states, transitions, initial)
       (tables-agree c _ _ _ _ _ _ (front-agrees (4 * c .states) _ _ (passed .state-room)) (front-agrees (4 * c .transitions) _ _ (passed .transition-room)) (front-agrees (2 * c .initial) _ _ (passed .initial-room)) a (follows (contentsCheck image) _ a e .answer))
 

@@ -1,16 +1,25 @@
 -- How many bytes the image of an automaton takes: those of the contents, and 4, 4 and 2 a record, so that its counts
 -- alone decide it. Assumes nothing.
-use mathlib.Core.Path.{_≡_}
-use mathlib.Core.List.{_++_}
-use Prim.Native.Nat.{_*_}
+use mathlib.Core.Path.{_≡_, refl}
+use mathlib.Core.List.{List, _++_}
+use Prim.Native.Nat.{ℕ, _*_}
 use native.Mathlib.Omega.{arith}
 use lib.ListN.{length, length-append}
 use Rattle.automaton.specs.Automaton.{Automaton}
 use Rattle.answer.specs.Bytes.{twoBytes}
 use Rattle.automaton.specs.Records.{stateRecords, transitionRecords, initialRecords}
-use Rattle.automaton.specs.Tables.{counts, transitionCount}
+use Rattle.automaton.specs.Tables.{Counts, counts, transitionCount}
 use Rattle.automaton.proofs.Records.{records-length, number-length, states-length, transitions-count}
-use Rattle.image.specs.Image.{entry, imageLength, contents, imageBytes}
+use Rattle.image.specs.Image.{entry, imageLength, contents, imageBytes, contentsBytes}
+
+pub contents-size : (c : Counts) → length (contents c) ≡ contentsBytes
+unfolding contents entry twoBytes
+contents-size c = refl
+
+-- contents and bodies in a row
+pub row-size : (c : Counts) (s t i : List ℕ) → length s ≡ 4 * c .states → length t ≡ 4 * c .transitions
+    → length i ≡ 2 * c .initial → length (contents c ++ (s ++ (t ++ i))) ≡ imageLength c
+row-size c s t i es et ei = simp (length-append, contents-size, es, et, ei) (omega arith)
 
 module _ (a : Automaton) where
   pub states-size : length (stateRecords a) ≡ 4 * length (a .states)
@@ -25,6 +34,7 @@ module _ (a : Automaton) where
   initial-size = omega (arith, records-length twoBytes 2 number-length (a .initial))
 
   pub image-size : length (imageBytes a) ≡ imageLength (counts a)
-  unfolding imageBytes contents entry twoBytes
+  unfolding imageBytes
   image-size =
-      omega (arith, length-append (stateRecords a) (transitionRecords a ++ initialRecords a), length-append (transitionRecords a) (initialRecords a), states-size, transitions-size, initial-size)
+      row-size (counts a) (stateRecords a) (transitionRecords a) (initialRecords a)
+      states-size transitions-size initial-size

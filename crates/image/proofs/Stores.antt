@@ -1,89 +1,97 @@
--- What stores leave in a slice: copies, zeros, and parts that were lent. Assumes nothing.
+-- What stores leave in a slice: runs of stores one after another, copies, zeros, and parts that were lent. Assumes
+-- nothing.
 use mathlib.Core.Path.{_≡_, refl, _∙_}
 use mathlib.Core.List.{List, [], _∷_, _++_, append-nil, append-assoc}
-use Prim.Native.Nat.{ℕ, _+_, _-_, _*_, _/_, _%_, _≤_}
+use Prim.Native.Nat.{ℕ, suc, _+_, _-_, _*_, _≤_}
+use native.Mathlib.Nat.{zero-add}
 use native.Mathlib.Omega.{arith}
-use lib.ListN.{length, take, drop, replicate, length-append, length-drop, drop-of-length-le}
+use lib.ListN.{length, take, drop, set, replicate, length-drop, drop-of-length-le}
 use lib.Seq.{sets, sets-eq, take-all, take-at, drop-at, drop-drop, length-take-le}
 use borrow.Rule.Slice.PartMut.{midOf, putMid}
 use Rattle.answer.specs.Bytes.{twoBytes, filled}
 use Rattle.automaton.specs.Tables.{Counts}
 use Rattle.answer.specs.Result.{accepted}
-use Rattle.image.specs.Image.{entry, transitionsAt, initialAt, imageLength, contents, contentsBytes}
+use Rattle.image.specs.Image.{entry, transitionsAt, initialAt, imageLength, contents, contentsBytes, entryBytes}
 use Rattle.image.specs.Calls.{buffer}
-use Rattle.image.specs.Memory.{joinedOver}
+use Rattle.image.specs.Memory.{joinedBodies, joinedOver}
+use Rattle.image.proofs.Sizes.{contents-size, row-size}
 
--- three numbers are an entry of the contents
-pub entry-stored : (xs : List ℕ) (kind count offset : ℕ) → 6 ≤ length xs → sets (sets (sets xs 0 (twoBytes kind)) 2 (twoBytes count)) 4 (twoBytes offset) ≡ entry kind count offset ++ drop 6 xs
-unfolding entry twoBytes
-entry-stored xs kind count offset le =
-    sets-eq (kind % 256 ∷ (kind / 256 ∷ (count % 256 ∷ (count / 256 ∷ (offset % 256 ∷ (offset / 256 ∷ [])))))) xs 0 le
+-- a part that goes to the end is what is left there
+pub part-whole : (xs : List ℕ) (a : ℕ) → midOf a (length xs - a) xs ≡ drop a xs
+part-whole xs a = take-all (length xs - a) (drop a xs) (rw (length-drop a xs) (omega arith))
 
--- the part from a on of what begins with p is what was there
-module _ (p rest xs : List ℕ) (a : ℕ) (size : length p ≡ a) (whole : xs ≡ p ++ rest) where
-  pub lent-part : midOf a (length xs - a) xs ≡ rest
-  lent-part = rw (whole, drop-at p rest a size) (take-all (length (p ++ rest) - a) rest (rw (length-append p rest, size) (omega arith)))
+-- and the whole, once ys came back in its place
+part-back : (xs ys : List ℕ) (a : ℕ) → putMid a (length xs - a) xs ys ≡ take a xs ++ ys
+part-back xs ys a =
+    rw (drop-of-length-le (drop a xs) {i = length xs - a} (rw (length-drop a xs) (omega arith)), append-nil)
 
-  -- and the whole, once ys came back instead
-  pub lent-back : (ys : List ℕ) → putMid a (length xs - a) xs ys ≡ p ++ ys
-  lent-back ys =
-      rw (whole, take-at p rest a size, drop-at p rest a size, drop-of-length-le rest {i = length (p ++ rest) - a} (rw (length-append p rest, size) (omega arith)), append-nil)
-
--- bs stored at the start of the part from a on, where the bytes before a are p
-pub lent-more : (p bs image xs ys : List ℕ) (a n : ℕ) → length p ≡ a → xs ≡ p ++ drop a image → ys ≡ bs ++ drop n (midOf a (length xs - a) xs)
-    → putMid a (length xs - a) xs ys ≡ (p ++ bs) ++ drop (a + n) image
-lent-more p bs image xs ys a n size whole e =
-    lent-back p (drop a image) xs a size whole ys ∙ rw (e, lent-part p (drop a image) xs a size whole, drop-drop n a image, append-assoc)
-
--- a copy, and zeros in the part behind it
-pub copied-zeroed : (table source xs ys : List ℕ) (n : ℕ) → n ≤ length table → n ≤ length source → xs ≡ take n source ++ drop n table
-    → ys ≡ replicate (length (midOf n (length xs - n) xs)) 0 → putMid n (length xs - n) xs ys ≡ filled table (take n source)
-copied-zeroed table source xs ys n room le whole e =
+-- a copy at the start of such a part
+pub part-copied : (xs source ys : List ℕ) (a n : ℕ) → a + n ≤ length xs → n ≤ length source
+    → ys ≡ take n source ++ drop n (midOf a (length xs - a) xs)
+    → putMid a (length xs - a) xs ys ≡ sets xs a (take n source)
+part-copied xs source ys a n room le e =
     let size : length (take n source) ≡ n = length-take-le n source le in
-    lent-back (take n source) (drop n table) xs n size whole ys ∙ rw (e, lent-part (take n source) (drop n table) xs n size whole, length-drop n table, size)
+    let all = sets-eq (take n source) xs a (rw size room) in
+    part-back xs ys a ∙ rw (e, part-whole xs a, drop-drop n a xs, all, size, append-assoc)
 
--- three entries, the last two in lent parts, are the contents
-pub contents-written : (c : Counts) (image xs ys zs : List ℕ) → xs ≡ entry 1 (c .states) contentsBytes ++ drop 6 image
-    → ys ≡ entry 2 (c .transitions) (transitionsAt c) ++ drop 6 (midOf 6 (length xs - 6) xs)
-    → zs ≡ entry 3 (c .initial) (initialAt c) ++ drop 6 (midOf 12 (length (putMid 6 (length xs - 6) xs ys) - 12) (putMid 6 (length xs - 6) xs ys))
-    → putMid 12 (length (putMid 6 (length xs - 6) xs ys) - 12) (putMid 6 (length xs - 6) xs ys) zs ≡ contents c ++ drop contentsBytes image
+-- a copy out of such a part, and zeros in the part behind it
+pub part-loaded : (table image xs ys : List ℕ) (a n : ℕ) → n ≤ length table → a + n ≤ length image
+    → xs ≡ take n (midOf a (length image - a) image) ++ drop n table
+    → ys ≡ replicate (length (midOf n (length xs - n) xs)) 0
+    → putMid n (length xs - n) xs ys ≡ filled table (take n (drop a image))
+part-loaded table image xs ys a n room le e f =
+    let bytes = take n (drop a image) in
+    let size : length bytes ≡ n = length-take-le n (drop a image) (rw (length-drop a image) (omega arith)) in
+    let whole : xs ≡ bytes ++ drop n table = rw (part-whole image a) at e in
+    let front = take-at bytes (drop n table) n size in
+    let behind = drop-at bytes (drop n table) n size in
+    part-back xs ys n ∙ rw (f, part-whole xs n, whole, front, behind, length-drop n table, size)
+
+-- a run of stores, and another right behind it
+pub sets-sets : (vs ws xs : List ℕ) (i j : ℕ) → j ≡ i + length vs → sets (sets xs i vs) j ws ≡ sets xs i (vs ++ ws)
+sets-sets [] ws xs i j e =
+    let f : j ≡ i = omega arith in
+    rw f
+sets-sets (v ∷ vs) ws xs i j e = sets-sets vs ws (set xs i v) (suc i) j (omega arith)
+
+-- three runs, each behind the one before
+pub three-stored : (us vs ws xs : List ℕ) (i j k : ℕ) {xs₁ xs₂ xs₃ : List ℕ} → j ≡ i + length us → k ≡ j + length vs
+    → xs₁ ≡ sets xs i us → xs₂ ≡ sets xs₁ j vs → xs₃ ≡ sets xs₂ k ws → xs₃ ≡ sets xs i (us ++ (vs ++ ws))
+three-stored us vs ws xs i j k {xs₁} second third e f g =
+    rw (g, f, sets-sets vs ws xs₁ j k third, e, sets-sets us (vs ++ ws) xs i j second)
+
+-- three numbers are an entry, and three entries the contents
+pub entry-stored : (xs : List ℕ) (at kind count offset : ℕ) {xs₁ xs₂ xs₃ : List ℕ}
+    → xs₁ ≡ sets xs at (twoBytes kind) → xs₂ ≡ sets xs₁ (at + 2) (twoBytes count)
+    → xs₃ ≡ sets xs₂ (at + 4) (twoBytes offset) → xs₃ ≡ sets xs at (entry kind count offset)
+unfolding entry twoBytes
+entry-stored xs at kind count offset e f g =
+    three-stored (twoBytes kind) (twoBytes count) (twoBytes offset) xs at (at + 2) (at + 4) refl (omega arith) e f g
+
+pub contents-stored : (c : Counts) (xs : List ℕ) {xs₁ xs₂ xs₃ : List ℕ}
+    → xs₁ ≡ sets xs 0 (entry 1 (c .states) contentsBytes)
+    → xs₂ ≡ sets xs₁ entryBytes (entry 2 (c .transitions) (transitionsAt c))
+    → xs₃ ≡ sets xs₂ (2 * entryBytes) (entry 3 (c .initial) (initialAt c)) → xs₃ ≡ sets xs 0 (contents c)
 unfolding contents entry twoBytes
-contents-written c image xs ys zs first second third =
-    let one = entry 1 (c .states) contentsBytes in
-    let two = entry 2 (c .transitions) (transitionsAt c) in
-    lent-more (one ++ two) (entry 3 (c .initial) (initialAt c)) image (putMid 6 (length xs - 6) xs ys) zs 12 6 refl (lent-more one two image xs ys 6 6 refl first second) third
+contents-stored c xs e f g = rw (g, f, e)
 
-four-together : (a b c d : List ℕ) → ((a ++ b) ++ c) ++ d ≡ a ++ (b ++ (c ++ d))
-four-together a b c d = simp append-assoc
-
--- and three copies in lent parts after them are an image over the buffer
-module _ (c : Counts) (s t i image xs ys zs ws : List ℕ) (state-room : 4 * c .states ≤ length s) (transition-room : 4 * c .transitions ≤ length t)
-    (first : xs ≡ contents c ++ drop contentsBytes image) (second : ys ≡ take (4 * c .states) s ++ drop (4 * c .states) (midOf contentsBytes (length xs - contentsBytes) xs)) where
-  abbrev us : List ℕ
-  us = putMid contentsBytes (length xs - contentsBytes) xs ys
-
-  abbrev vs : List ℕ
-  vs = putMid (transitionsAt c) (length us - transitionsAt c) us zs
-
-  contents-length : length (contents c) ≡ contentsBytes
-  unfolding contents entry twoBytes
-  contents-length = refl
-
-  states-in : us ≡ (contents c ++ take (4 * c .states) s) ++ drop (transitionsAt c) image
-  states-in = lent-more (contents c) (take (4 * c .states) s) image xs ys contentsBytes (4 * c .states) contents-length first second
-
-  states-end : length (contents c ++ take (4 * c .states) s) ≡ transitionsAt c
-  states-end = rw (length-append (contents c) (take (4 * c .states) s), contents-length, length-take-le (4 * c .states) s state-room)
-
-  module _ (third : zs ≡ take (4 * c .transitions) t ++ drop (4 * c .transitions) (midOf (transitionsAt c) (length us - transitionsAt c) us)) where
-    transitions-in : vs ≡ ((contents c ++ take (4 * c .states) s) ++ take (4 * c .transitions) t) ++ drop (initialAt c) image
-    transitions-in = lent-more (contents c ++ take (4 * c .states) s) (take (4 * c .transitions) t) image us zs (transitionsAt c) (4 * c .transitions) states-end states-in third
-
-    transitions-end : length ((contents c ++ take (4 * c .states) s) ++ take (4 * c .transitions) t) ≡ initialAt c
-    transitions-end = rw (length-append (contents c ++ take (4 * c .states) s) (take (4 * c .transitions) t), states-end, length-take-le (4 * c .transitions) t transition-room)
-
-    pub image-written : ws ≡ take (2 * c .initial) i ++ drop (2 * c .initial) (midOf (initialAt c) (length vs - initialAt c) vs)
-        → buffer (accepted (imageLength c)) (putMid (initialAt c) (length vs - initialAt c) vs ws) ≡ joinedOver c s t i image
-    image-written fourth =
-        let whole = lent-more ((contents c ++ take (4 * c .states) s) ++ take (4 * c .transitions) t) (take (2 * c .initial) i) image vs ws (initialAt c) (2 * c .initial) transitions-end transitions-in fourth in
-        rw (whole, four-together (contents c) (take (4 * c .states) s) (take (4 * c .transitions) t) (take (2 * c .initial) i))
+-- and three copies behind them an image over the buffer
+pub image-stored : (c : Counts) (s t i xs : List ℕ) {xs₁ xs₂ xs₃ xs₄ : List ℕ} → 4 * c .states ≤ length s
+    → 4 * c .transitions ≤ length t → 2 * c .initial ≤ length i → imageLength c ≤ length xs
+    → xs₁ ≡ sets xs 0 (contents c) → xs₂ ≡ sets xs₁ contentsBytes (take (4 * c .states) s)
+    → xs₃ ≡ sets xs₂ (transitionsAt c) (take (4 * c .transitions) t)
+    → xs₄ ≡ sets xs₃ (initialAt c) (take (2 * c .initial) i)
+    → buffer (accepted (imageLength c)) xs₄ ≡ joinedOver c s t i xs
+image-stored c s t i xs {xs₁} room₁ room₂ room₃ long e f g h =
+    let us = take (4 * c .states) s in
+    let vs = take (4 * c .transitions) t in
+    let ws = take (2 * c .initial) i in
+    let n₁ : length us ≡ 4 * c .states = length-take-le (4 * c .states) s room₁ in
+    let n₂ : length vs ≡ 4 * c .transitions = length-take-le (4 * c .transitions) t room₂ in
+    let n₃ : length ws ≡ 2 * c .initial = length-take-le (2 * c .initial) i room₃ in
+    let n : length (joinedBodies c s t i) ≡ imageLength c = row-size c us vs ws n₁ n₂ n₃ in
+    let bodies = three-stored us vs ws xs₁ contentsBytes (transitionsAt c) (initialAt c)
+    (omega (arith, n₁)) (omega (arith, n₂)) f g h in
+    let behind = sets-sets (contents c) (us ++ (vs ++ ws)) xs 0 contentsBytes (omega (arith, contents-size c)) in
+    let whole = sets-eq (joinedBodies c s t i) xs 0 (omega arith) in
+    rw (bodies, e, behind, whole, n, zero-add (imageLength c))

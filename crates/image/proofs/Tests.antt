@@ -8,13 +8,15 @@ use lib.ListN.{length, getD}
 use lib.Dec.{leb, eqb}
 use lib.Bits.{bitAnd}
 use borrow.Author.Tests.{leb-true, lt-ltb, le-ltb, le-leb, lt-leb, eq-eqb, ne-eqb, not-true, not-false}
-use Rattle.answer.specs.Result.{Result, accepted, refused, andThen, Check, fine, lowest}
+use Rattle.answer.specs.Result.{Result, accepted, refused, andThen, Check, fine, require, lowest}
 use Rattle.automaton.specs.Limits.{maxStates, maxOfState, maxTransitions, maxInitial}
-use Rattle.automaton.specs.Tables.{Counts, countsOf}
+use Rattle.automaton.specs.Tables.{Counts}
 use Rattle.image.specs.Memory.{Small}
-use Rattle.image.specs.Image.{transitionsAt, initialAt, imageLength, contentsBytes}
+use Rattle.image.specs.Image.{stateCountAt, transitionCountAt, initialCountAt, contentsBytes}
+use Rattle.image.specs.Image.{transitionsAt, initialAt, imageLength}
 use Rattle.answer.specs.Bytes.{numberAt}
-use Rattle.image.specs.Reader.{countsAt, countsFit, contentsCheck, stateCheck, sumCheck, transitionRecordCheck, initialCheck, recordsCheck}
+use Rattle.image.specs.Reader.{countsAt, countsFit, kindsFit, offsetsFit, contentsCheck}
+use Rattle.image.specs.Reader.{stateCheck, sumCheck, transitionRecordCheck, initialCheck, recordsCheck}
 
 -- two orders and a test in a row: the first that fails, or the last
 module _ (a x b y : ℕ) (r : Bool) where
@@ -51,44 +53,53 @@ unfolding countsFit
 small-fits c small = rw (le-leb (c .states) maxStates (small .states), le-leb (c .transitions) maxTransitions (small .transitions), le-leb (c .initial) maxInitial (small .initial))
 
 -- the contents of an image, by the tests in their order
+abbrev contentsAnswer : List ℕ → Result Counts
+contentsAnswer image = andThen (contentsCheck image) (λ _. accepted (countsAt image))
+
 module _ (image : List ℕ) where
-  abbrev kinds : Bool
-  kinds = eqb (numberAt image 0) 1 && (eqb (numberAt image 6) 2 && eqb (numberAt image 12) 3)
-
-  abbrev offsets : Counts → Bool
-  offsets c = eqb (numberAt image 4) contentsBytes && (eqb (numberAt image 10) (transitionsAt c) && eqb (numberAt image 16) (initialAt c))
-
-  abbrev contentsAnswer : Result Counts
-  contentsAnswer = andThen (contentsCheck image) (λ _. accepted (countsAt image))
-
-  pub image-short : length image < contentsBytes → refused 10 0 ≡ contentsAnswer
+  pub image-short : length image < contentsBytes → refused 10 0 ≡ contentsAnswer image
   unfolding contentsCheck
   image-short lt = rw (lt-leb contentsBytes (length image) lt)
 
-  module _ (long : contentsBytes ≤ length image) where
-    pub kinds-wrong : {r : Bool} → r ≡ kinds → not r ≡ true → refused 10 0 ≡ contentsAnswer
-    unfolding contentsCheck
-    kinds-wrong {r} e f = rw (le-leb contentsBytes (length image) long, ← e, not-true r f)
+  pub kinds-wrong : contentsBytes ≤ length image → {r : Bool} → r ≡ kindsFit image → not r ≡ true
+      → refused 10 0 ≡ contentsAnswer image
+  unfolding contentsCheck
+  kinds-wrong long {r} e f = rw (le-leb contentsBytes (length image) long, ← e, not-true r f)
 
-    -- the counts as the code has read them
-    module _ {r : Bool} (known : r ≡ kinds) (passed : not r ≡ false) (a b d : ℕ) (states : a ≡ numberAt image 2) (transitions : b ≡ numberAt image 8) (initial : d ≡ numberAt image 14) where
-      pub counts-wrong : {t : Bool} → t ≡ countsFit (countsOf a b d) → not t ≡ true → refused 10 0 ≡ contentsAnswer
-      unfolding contentsCheck
-      counts-wrong {t} e f = rw (le-leb contentsBytes (length image) long, ← known, not-false r passed, ← states, ← transitions, ← initial, ← e, not-true t f)
+-- the kinds fit, and c are the counts as they were read
+pub record Opened (image : List ℕ) (c : Counts) : Type 0 where
+  pub long : contentsBytes ≤ length image
+  pub kinds : kindsFit image ≡ true
+  pub states : c .states ≡ numberAt image stateCountAt
+  pub transitions : c .transitions ≡ numberAt image transitionCountAt
+  pub initial : c .initial ≡ numberAt image initialCountAt
 
-      module _ {t : Bool} (small : t ≡ countsFit (countsOf a b d)) (fits : not t ≡ false) where
-        pub offsets-wrong : {o : Bool} → o ≡ offsets (countsOf a b d) → not o ≡ true → refused 10 0 ≡ contentsAnswer
-        unfolding contentsCheck
-        offsets-wrong {o} e f = rw (le-leb contentsBytes (length image) long, ← known, not-false r passed, ← states, ← transitions, ← initial, ← small, not-false t fits, ← e, not-true o f)
+module _ {image : List ℕ} {c : Counts} (read : Opened image c) where
+  abbrev offsets : Bool
+  offsets = offsetsFit image (transitionsAt c) (initialAt c)
 
-        module _ {o : Bool} (tight : o ≡ offsets (countsOf a b d)) (agree : not o ≡ false) where
-          pub length-wrong : (length image ≡ imageLength (countsOf a b d) → ⊥) → refused 10 0 ≡ contentsAnswer
-          unfolding contentsCheck
-          length-wrong ne = rw (le-leb contentsBytes (length image) long, ← known, not-false r passed, ← states, ← transitions, ← initial, ← small, not-false t fits, ← tight, not-false o agree, ne-eqb (length image) (imageLength (countsOf a b d)) ne)
+  decided : contentsAnswer image
+      ≡ andThen (require (countsFit c && (offsets && eqb (length image) (imageLength c))) 10 0) (λ _. accepted c)
+  unfolding contentsCheck
+  decided =
+      rw (le-leb contentsBytes (length image) (read .long), read .kinds)
+      (rw (← read .states, ← read .transitions, ← read .initial))
 
-          pub contents-fit : length image ≡ imageLength (countsOf a b d) → accepted (countsOf a b d) ≡ contentsAnswer
-          unfolding contentsCheck
-          contents-fit e = rw (le-leb contentsBytes (length image) long, ← known, not-false r passed, ← states, ← transitions, ← initial, ← small, not-false t fits, ← tight, not-false o agree, eq-eqb (length image) (imageLength (countsOf a b d)) e)
+  pub counts-wrong : {t : Bool} → t ≡ countsFit c → not t ≡ true → refused 10 0 ≡ contentsAnswer image
+  counts-wrong {t} e f = rw (decided, ← e, not-true t f)
+
+  module _ {t : Bool} (small : t ≡ countsFit c) (fits : not t ≡ false) where
+    pub offsets-wrong : {o : Bool} → o ≡ offsets → not o ≡ true → refused 10 0 ≡ contentsAnswer image
+    offsets-wrong {o} e f = rw (decided, ← small, not-false t fits, ← e, not-true o f)
+
+    module _ {o : Bool} (tight : o ≡ offsets) (agree : not o ≡ false) where
+      pub length-wrong : (length image ≡ imageLength c → ⊥) → refused 10 0 ≡ contentsAnswer image
+      length-wrong ne =
+          rw (decided, ← small, not-false t fits, ← tight, not-false o agree, ne-eqb (length image) (imageLength c) ne)
+
+      pub contents-fit : length image ≡ imageLength c → accepted c ≡ contentsAnswer image
+      contents-fit e =
+          rw (decided, ← small, not-false t fits, ← tight, not-false o agree, eq-eqb (length image) (imageLength c) e)
 
 -- state record i
 module _ (s : List ℕ) (i : ℕ) where
@@ -152,20 +163,30 @@ module _ (c : Counts) (s t i : List ℕ) where
   abbrev stateAnswers : Check
   stateAnswers = andThen (lowest (stateCheck s) (c .states)) (λ _. sumCheck c s)
 
-  regroup : recordsCheck c s t i ≡ andThen stateAnswers (λ _. andThen (lowest (transitionRecordCheck (c .states) t) (c .transitions)) (λ _. lowest (initialCheck (c .states) i) (c .initial)))
+  abbrev transitionAnswers : Check
+  transitionAnswers = lowest (transitionRecordCheck (c .states) t) (c .transitions)
+
+  abbrev initialAnswers : Check
+  initialAnswers = lowest (initialCheck (c .states) i) (c .initial)
+
+  regroup : recordsCheck c s t i ≡ andThen stateAnswers (λ _. andThen transitionAnswers (λ _. initialAnswers))
   unfolding recordsCheck
-  regroup = go (lowest (stateCheck s) (c .states)) (sumCheck c s) (andThen (lowest (transitionRecordCheck (c .states) t) (c .transitions)) (λ _. lowest (initialCheck (c .states) i) (c .initial)))
+  regroup = go (lowest (stateCheck s) (c .states)) (sumCheck c s) (andThen transitionAnswers (λ _. initialAnswers))
     where
-      go : (first second rest : Check) → andThen first (λ _. andThen second (λ _. rest)) ≡ andThen (andThen first (λ _. second)) (λ _. rest)
+      go : (first second rest : Check)
+          → andThen first (λ _. andThen second (λ _. rest)) ≡ andThen (andThen first (λ _. second)) (λ _. rest)
       go (accepted u) second rest = refl
       go (refused number place) second rest = refl
 
-  pub states-refused : {number place : ℕ} → refused number place ≡ stateAnswers → refused number place ≡ recordsCheck c s t i
-  states-refused e = rw (regroup, ← e)
+  pub states-refused : {r : Check} {number place : ℕ} → r ≡ refused number place → r ≡ stateAnswers
+      → r ≡ recordsCheck c s t i
+  states-refused told e = rw (regroup, ← e, told)
 
-  module _ (fine-states : stateAnswers ≡ fine) where
-    pub transitions-refused : {number place : ℕ} → refused number place ≡ lowest (transitionRecordCheck (c .states) t) (c .transitions) → refused number place ≡ recordsCheck c s t i
-    transitions-refused e = rw (regroup, fine-states, ← e)
+  module _ {r₁ : Check} (first : r₁ ≡ stateAnswers) (fine₁ : r₁ ≡ fine) where
+    pub transitions-refused : {r : Check} {number place : ℕ} → r ≡ refused number place → r ≡ transitionAnswers
+        → r ≡ recordsCheck c s t i
+    transitions-refused told e = rw (regroup, ← first, fine₁, ← e, told)
 
-    pub initial-left : lowest (transitionRecordCheck (c .states) t) (c .transitions) ≡ fine → lowest (initialCheck (c .states) i) (c .initial) ≡ recordsCheck c s t i
-    initial-left e = rw (regroup, fine-states, e)
+    pub initial-left : {r₂ r : Check} → r₂ ≡ transitionAnswers → r₂ ≡ fine → r ≡ initialAnswers
+        → r ≡ recordsCheck c s t i
+    initial-left second fine₂ e = rw (regroup, ← first, fine₁, ← second, fine₂) e

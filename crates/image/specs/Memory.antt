@@ -32,6 +32,11 @@ pub record Small (c : Counts) : Type 0 where
   pub transitions : c .transitions ≤ maxTransitions
   pub initial : c .initial ≤ maxInitial
 
+-- and an image with such counts, as long as they say
+pub record Sized (c : Counts) (image : List ℕ) : Type 0 where
+  pub small : Small c
+  pub size : length image ≡ imageLength c
+
 -- tables of the lengths that 25 asks for
 pub record Long (s t i : List ℕ) : Type 0 where
   pub states : statesBytes ≤ length s

@@ -26,16 +26,19 @@ countsAt image = record {
 unfoldable pub countsFit : Counts → Bool
 countsFit c = leb (c .states) maxStates && (leb (c .transitions) maxTransitions && leb (c .initial) maxInitial)
 
+-- whether the numbers at byte `at` of the three entries are these
+abbrev pub entriesHave : List ℕ → (at first second third : ℕ) → Bool
+entriesHave image at first second third =
+    eqb (numberAt image at) first
+    && (eqb (numberAt image (entryBytes + at)) second && eqb (numberAt image (2 * entryBytes + at)) third)
+
 -- whether 10 lets the kinds of the three entries pass
 abbrev pub kindsFit : List ℕ → Bool
-kindsFit image =
-    eqb (numberAt image 0) 1 && (eqb (numberAt image entryBytes) 2 && eqb (numberAt image (2 * entryBytes)) 3)
+kindsFit image = entriesHave image 0 1 2 3
 
 -- and their offsets, where the second and the third body are to begin there
 abbrev pub offsetsFit : List ℕ → (transitions initial : ℕ) → Bool
-offsetsFit image transitions initial =
-    eqb (numberAt image 4) contentsBytes
-    && (eqb (numberAt image (entryBytes + 4)) transitions && eqb (numberAt image (2 * entryBytes + 4)) initial)
+offsetsFit image transitions initial = entriesHave image 4 contentsBytes transitions initial
 
 -- and where the bodies begin and end
 abbrev pub bodiesFit : List ℕ → Bool

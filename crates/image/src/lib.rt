@@ -12,18 +12,19 @@ use automaton::MAX_TRANSITIONS;
 use automaton::STATES_BYTES;
 use automaton::TRANSITIONS_BYTES;
 ghost use mathlib.Core.Path.{_≡_};
-ghost use mathlib.Core.List.{_++_};
 ghost use Prim.Native.Nat.{_+_, _*_, _<_, _≤_};
 ghost use lib.Dec.{eqb};
 ghost use lib.ListN.{length, take, drop};
+ghost use lib.Seq.{sets};
 ghost use Rattle.answer.specs.Result.{accepted, andThen, require, lowest, answer};
 ghost use Rattle.automaton.specs.Limits.{maxStates};
 ghost use Rattle.automaton.specs.Tables.{outcome, countsOf, lengthsFit};
 ghost use Rattle.answer.specs.Bytes.{filled, numberAt};
-ghost use Rattle.image.specs.Image.{entry, entryBytes, imageLength, contents, contentsBytes, largestImage};
-ghost use Rattle.image.specs.Reader.{countsAt, countsFit, kindsFit, offsetsFit, contentsCheck, stateCheck, countSum, transitionRecordCheck, initialCheck, recordsCheck, bodiesCheck};
+ghost use Rattle.image.specs.Image.{entry, entryBytes, contentsBytes, largestImage};
+ghost use Rattle.image.specs.Reader.{countsAt, countsFit, entriesHave, contentsCheck, stateCheck, countSum};
+ghost use Rattle.image.specs.Reader.{transitionRecordCheck, initialCheck, recordsCheck, bodiesCheck};
 ghost use Rattle.image.specs.Calls.{writeAnswer, buffer, writes, readAnswer, readInto, checks};
-ghost use Rattle.image.specs.Memory.{stateAnswer, joinedOver, HasRecords, Small, Long, Loads};
+ghost use Rattle.image.specs.Memory.{stateAnswer, joinedOver, HasRecords, Small, Sized, Long, Loads};
 
 // The numbers of document 01 by which an image or tables are refused.
 pub const BAD_CONTENTS: u8 = 10;
@@ -44,18 +45,17 @@ const INITIAL_ENTRY: usize = 2 * ENTRY_BYTES;
 
 pub const CONTENTS_BYTES: usize = 3 * ENTRY_BYTES;
 
-// Where the count and the offset of each entry stand.
+// Where the count of each entry stands.
 pub const STATE_COUNT_AT: usize = 2;
 
 pub const TRANSITION_COUNT_AT: usize = TRANSITIONS_ENTRY + 2;
 
 pub const INITIAL_COUNT_AT: usize = INITIAL_ENTRY + 2;
 
-const STATES_OFFSET_AT: usize = 4;
+// Where in an entry its kind and its offset stand.
+const KIND_AT: usize = 0;
 
-const TRANSITIONS_OFFSET_AT: usize = TRANSITIONS_ENTRY + 4;
-
-const INITIAL_OFFSET_AT: usize = INITIAL_ENTRY + 4;
+const OFFSET_AT: usize = 4;
 
 // The largest image.
 pub const IMAGE_BYTES: usize = CONTENTS_BYTES + STATES_BYTES + TRANSITIONS_BYTES + INITIAL_BYTES;
@@ -107,16 +107,18 @@ fn counts_fit(states: usize, transitions: usize, initial: usize) -> bool
 // The transition count of state record i, unless 11 refuses it.
 fn check_state(states: &[u8], i: usize) -> StateCount
     requires { ⌜ 4 * i + 3 < length (now states) ⌝ }
-    ensures { λ r. ⌜ stateAnswer i r ≡ andThen (stateCheck (now (states .entry)) i) (λ _. accepted (numberAt (now (states .entry)) (4 * i))) ⌝ }
+    ensures { λ r. ⌜ stateAnswer i r
+        ≡ andThen (stateCheck (now (states .entry)) i) (λ _. accepted (numberAt (now (states .entry)) (4 * i))) ⌝ }
 {
-    let count = number_at(states, 4 * i);
+    let at = 4 * i;
+    let count = number_at(states, at);
     if MAX_OF_STATE < count {
         return StateCount::Refused;
     }
-    if 1 < states[4 * i + 2] {
+    if 1 < states[at + 2] {
         return StateCount::Refused;
     }
-    if states[4 * i + 3] != 0 {
+    if states[at + 3] != 0 {
         return StateCount::Refused;
     }
     StateCount::Accepted(count)
@@ -125,7 +127,9 @@ fn check_state(states: &[u8], i: usize) -> StateCount
 // 11 for the first n state records, whose counts are to add up to transition_count.
 fn check_states(states: &[u8], n: usize, transition_count: usize) -> Checked
     requires { ⌜ (n ≤ maxStates) × (4 * n ≤ length (now states)) ⌝ }
-    ensures { λ r. ⌜ answer r ≡ andThen (lowest (stateCheck (now (states .entry))) n) (λ _. require (eqb (countSum (now (states .entry)) n) «transition_count») 11 n) ⌝ }
+    ensures { λ r. ⌜ answer r
+        ≡ andThen (lowest (stateCheck (now (states .entry))) n)
+        (λ _. require (eqb (countSum (now (states .entry)) n) «transition_count») 11 n) ⌝ }
 {
     let mut total = 0;
     let mut i = 0;
@@ -148,12 +152,11 @@ fn check_transition(transitions: &[u8], i: usize, state_count: usize) -> Checked
     requires { ⌜ 4 * i + 3 < length (now transitions) ⌝ }
     ensures { λ r. ⌜ answer r ≡ transitionRecordCheck «state_count» (now (transitions .entry)) i ⌝ }
 {
-    if state_count <= number_at(transitions, 4 * i + 2) {
+    let at = 4 * i;
+    if state_count <= number_at(transitions, at + 2) {
         return Checked::Refused(BAD_TRANSITION, i);
     }
-    let must = transitions[4 * i];
-    let must_not = transitions[4 * i + 1];
-    if must & must_not != 0 {
+    if transitions[at] & transitions[at + 1] != 0 {
         return Checked::Refused(BAD_TRANSITION, i);
     }
     Checked::Accepted
@@ -167,9 +170,9 @@ fn check_transitions(transitions: &[u8], n: usize, state_count: usize) -> Checke
     let mut i = 0;
     while i < n {
         let transition = check_transition(transitions, i, state_count);
-        if let Checked::Refused(number, place) = transition {
-            return Checked::Refused(number, place);
-        }
+        let Checked::Accepted = transition else {
+            return transition;
+        };
         i += 1;
     }
     Checked::Accepted
@@ -205,56 +208,46 @@ fn check_records(
     initial: &[u8],
     initial_count: usize,
 ) -> Checked
-    requires { ⌜ HasRecords (countsOf «state_count» «transition_count» «initial_count») (now states) (now transitions) (now initial) ⌝ }
-    ensures { λ r. ⌜ answer r ≡ recordsCheck (countsOf «state_count» «transition_count» «initial_count») (now (states .entry)) (now (transitions .entry)) (now (initial .entry)) ⌝ }
+    requires { ⌜ HasRecords (countsOf «state_count» «transition_count» «initial_count»)
+        (now states) (now transitions) (now initial) ⌝ }
+    ensures { λ r. ⌜ answer r
+        ≡ recordsCheck (countsOf «state_count» «transition_count» «initial_count»)
+        (now (states .entry)) (now (transitions .entry)) (now (initial .entry)) ⌝ }
 {
     let first = check_states(states, state_count, transition_count);
-    if let Checked::Refused(number, place) = first {
-        return Checked::Refused(number, place);
-    }
+    let Checked::Accepted = first else {
+        return first;
+    };
     let second = check_transitions(transitions, transition_count, state_count);
-    if let Checked::Refused(number, place) = second {
-        return Checked::Refused(number, place);
-    }
+    let Checked::Accepted = second else {
+        return second;
+    };
     check_initial(initial, initial_count, state_count)
 }
 
-// The kinds of the three entries against 10.
-fn kinds_fit(image: &[u8]) -> bool
-    requires { ⌜ contentsBytes ≤ length (now image) ⌝ }
-    ensures { λ r. ⌜ r ≡ kindsFit (now (image .entry)) ⌝ }
+// The numbers at byte `at` of the three entries against 10.
+fn entries_have(image: &[u8], at: usize, first: usize, second: usize, third: usize) -> bool
+    requires { ⌜ (contentsBytes ≤ length (now image)) × (at + 2 ≤ entryBytes) ⌝ }
+    ensures { λ r. ⌜ r ≡ entriesHave (now (image .entry)) at first second third ⌝ }
 {
-    if number_at(image, 0) != 1 {
+    if number_at(image, at) != first {
         return false;
     }
-    if number_at(image, TRANSITIONS_ENTRY) != 2 {
+    if number_at(image, TRANSITIONS_ENTRY + at) != second {
         return false;
     }
-    number_at(image, INITIAL_ENTRY) == 3
-}
-
-// The offsets of the three entries against 10: each body begins where the one before ends.
-fn offsets_fit(image: &[u8], transitions_at: usize, initial_at: usize) -> bool
-    requires { ⌜ contentsBytes ≤ length (now image) ⌝ }
-    ensures { λ r. ⌜ r ≡ offsetsFit (now (image .entry)) «transitions_at» «initial_at» ⌝ }
-{
-    if number_at(image, STATES_OFFSET_AT) != CONTENTS_BYTES {
-        return false;
-    }
-    if number_at(image, TRANSITIONS_OFFSET_AT) != transitions_at {
-        return false;
-    }
-    number_at(image, INITIAL_OFFSET_AT) == initial_at
+    number_at(image, INITIAL_ENTRY + at) == third
 }
 
 // The counts of an image, unless 10 refuses it.
 fn check_contents(image: &[u8]) -> Loaded
-    ensures { λ r. ⌜ readAnswer r ≡ andThen (contentsCheck (now (image .entry))) (λ _. accepted (countsAt (now (image .entry)))) ⌝ }
+    ensures { λ r. ⌜ readAnswer r
+        ≡ andThen (contentsCheck (now (image .entry))) (λ _. accepted (countsAt (now (image .entry)))) ⌝ }
 {
     if image.len() < CONTENTS_BYTES {
         return Loaded::Refused(BAD_CONTENTS, 0);
     }
-    if !kinds_fit(image) {
+    if !entries_have(image, KIND_AT, 1, 2, 3) {
         return Loaded::Refused(BAD_CONTENTS, 0);
     }
     let states = number_at(image, STATE_COUNT_AT);
@@ -265,7 +258,7 @@ fn check_contents(image: &[u8]) -> Loaded
     }
     let transitions_at = CONTENTS_BYTES + 4 * states;
     let initial_at = transitions_at + 4 * transitions;
-    if !offsets_fit(image, transitions_at, initial_at) {
+    if !entries_have(image, OFFSET_AT, CONTENTS_BYTES, transitions_at, initial_at) {
         return Loaded::Refused(BAD_CONTENTS, 0);
     }
     if image.len() != initial_at + 2 * initial {
@@ -276,7 +269,7 @@ fn check_contents(image: &[u8]) -> Loaded
 
 // 11 to 13 of an image that has its contents and its length.
 fn check_bodies(image: &[u8], states: usize, transitions: usize, initial: usize) -> Checked
-    requires { ⌜ Small (countsOf states transitions initial) × (length (now image) ≡ imageLength (countsOf states transitions initial)) ⌝ }
+    requires { ⌜ Sized (countsOf states transitions initial) (now image) ⌝ }
     ensures { λ r. ⌜ answer r ≡ bodiesCheck (countsOf states transitions initial) (now (image .entry)) ⌝ }
 {
     let transitions_at = CONTENTS_BYTES + 4 * states;
@@ -306,12 +299,12 @@ pub fn check(image: &[u8]) -> Loaded
     Loaded::Accepted(states, transitions, initial)
 }
 
-// The first n bytes of source in a table, and zero behind them.
-fn load(table: &mut [u8], source: &[u8], n: usize)
-    requires { ⌜ (n ≤ length (now table)) × (n ≤ length (now source)) ⌝ }
-    ensures { λ _. ⌜ now (table .exit) ≡ filled (now (table .entry)) (take n (now (source .entry))) ⌝ }
+// n bytes of image from byte `at` on in a table, and zero behind them.
+fn load(table: &mut [u8], image: &[u8], at: usize, n: usize)
+    requires { ⌜ (n ≤ length (now table)) × (at + n ≤ length (now image)) ⌝ }
+    ensures { λ _. ⌜ now (table .exit) ≡ filled (now (table .entry)) (take n (drop at (now (image .entry)))) ⌝ }
 {
-    copy(table, source, n);
+    copy(table, &image[at..], n);
     zero(&mut table[n..]);
 }
 
@@ -325,19 +318,25 @@ fn load_bodies(
     transitions: &mut [u8],
     initial: &mut [u8],
 )
-    requires { ⌜ Small (countsOf «state_count» «transition_count» «initial_count») × (length (now image) ≡ imageLength (countsOf «state_count» «transition_count» «initial_count»)) × Long (now states) (now transitions) (now initial) ⌝ }
-    ensures { λ _. ⌜ Loads (now (image .entry)) (countsOf «state_count» «transition_count» «initial_count») (now (states .entry)) (now (transitions .entry)) (now (initial .entry)) (now (states .exit)) (now (transitions .exit)) (now (initial .exit)) ⌝ }
+    requires { ⌜ Sized (countsOf «state_count» «transition_count» «initial_count») (now image)
+        × Long (now states) (now transitions) (now initial) ⌝ }
+    ensures { λ _. ⌜ Loads (now (image .entry)) (countsOf «state_count» «transition_count» «initial_count»)
+        (now (states .entry)) (now (transitions .entry)) (now (initial .entry))
+        (now (states .exit)) (now (transitions .exit)) (now (initial .exit)) ⌝ }
 {
-    let transitions_at = CONTENTS_BYTES + 4 * state_count;
-    let initial_at = transitions_at + 4 * transition_count;
-    load(states, &image[CONTENTS_BYTES..], 4 * state_count);
-    load(transitions, &image[transitions_at..], 4 * transition_count);
-    load(initial, &image[initial_at..], 2 * initial_count);
+    let states_size = 4 * state_count;
+    let transitions_size = 4 * transition_count;
+    let transitions_at = CONTENTS_BYTES + states_size;
+    let initial_at = transitions_at + transitions_size;
+    load(states, image, CONTENTS_BYTES, states_size);
+    load(transitions, image, transitions_at, transitions_size);
+    load(initial, image, initial_at, 2 * initial_count);
 }
 
 // 25, then 10 to 13; the whole image is looked at before anything is stored.
 pub fn read(image: &[u8], states: &mut [u8], transitions: &mut [u8], initial: &mut [u8]) -> Loaded
-    ensures { λ r. ⌜ outcome (readAnswer r) (now (states .exit)) (now (transitions .exit)) (now (initial .exit)) ≡ readInto (now (image .entry)) (now (states .entry)) (now (transitions .entry)) (now (initial .entry)) ⌝ }
+    ensures { λ r. ⌜ outcome (readAnswer r) (now (states .exit)) (now (transitions .exit)) (now (initial .exit))
+        ≡ readInto (now (image .entry)) (now (states .entry)) (now (transitions .entry)) (now (initial .entry)) ⌝ }
 {
     if !tables_fit(states.len(), transitions.len(), initial.len()) {
         return Loaded::Refused(TABLE_TOO_SHORT, 0);
@@ -355,37 +354,28 @@ pub fn read(image: &[u8], states: &mut [u8], transitions: &mut [u8], initial: &m
         transitions,
         initial,
     );
-    Loaded::Accepted(state_count, transition_count, initial_count)
+    found
 }
 
-// An entry of the table of contents in the first six bytes.
-fn write_entry(bytes: &mut [u8], kind: usize, count: usize, offset: usize)
-    requires { ⌜ (entryBytes ≤ length (now bytes)) × (kind < 65536) × (count < 65536) × (offset < 65536) ⌝ }
-    ensures { λ _. ⌜ now (bytes .exit) ≡ entry kind count offset ++ drop entryBytes (now (bytes .entry)) ⌝ }
+// An entry of the table of contents in six bytes from byte `at` on.
+fn write_entry(image: &mut [u8], at: usize, kind: usize, count: usize, offset: usize)
+    requires { ⌜ (at + entryBytes ≤ length (now image)) × (kind < 65536) × (count < 65536) × (offset < 65536) ⌝ }
+    ensures { λ _. ⌜ now (image .exit) ≡ sets (now (image .entry)) at (entry kind count offset) ⌝ }
 {
-    answer::put_number(bytes, 0, kind);
-    answer::put_number(bytes, 2, count);
-    answer::put_number(bytes, 4, offset);
+    answer::put_number(image, at, kind);
+    answer::put_number(image, at + 2, count);
+    answer::put_number(image, at + 4, offset);
 }
 
-// The table of contents at the start.
-fn write_contents(image: &mut [u8], states: usize, transitions: usize, initial: usize)
-    requires { ⌜ (contentsBytes ≤ length (now image)) × Small (countsOf states transitions initial) ⌝ }
-    ensures { λ _. ⌜ now (image .exit) ≡ contents (countsOf states transitions initial) ++ drop contentsBytes (now (image .entry)) ⌝ }
+// The first n bytes of source from byte `at` of an image on.
+fn put(image: &mut [u8], at: usize, source: &[u8], n: usize)
+    requires { ⌜ (at + n ≤ length (now image)) × (n ≤ length (now source)) ⌝ }
+    ensures { λ _. ⌜ now (image .exit) ≡ sets (now (image .entry)) at (take n (now (source .entry))) ⌝ }
 {
-    let transitions_at = CONTENTS_BYTES + 4 * states;
-    let initial_at = transitions_at + 4 * transitions;
-    write_entry(image, 1, states, CONTENTS_BYTES);
-    write_entry(
-        &mut image[TRANSITIONS_ENTRY..],
-        2,
-        transitions,
-        transitions_at,
-    );
-    write_entry(&mut image[INITIAL_ENTRY..], 3, initial, initial_at);
+    copy(&mut image[at..], source, n);
 }
 
-// The contents, then each body, for which the buffer is lent from the body's offset on; the image's length.
+// The contents, then each body at its offset; the image's length.
 fn write_image(
     states: &[u8],
     state_count: usize,
@@ -395,20 +385,31 @@ fn write_image(
     initial_count: usize,
     image: &mut [u8],
 ) -> usize
-    requires { ⌜ Small (countsOf «state_count» «transition_count» «initial_count») × Long (now states) (now transitions) (now initial) × (largestImage ≤ length (now image)) ⌝ }
-    ensures { λ r. ⌜ buffer (accepted r) (now (image .exit)) ≡ joinedOver (countsOf «state_count» «transition_count» «initial_count») (now (states .entry)) (now (transitions .entry)) (now (initial .entry)) (now (image .entry)) ⌝ }
+    requires { ⌜ Small (countsOf «state_count» «transition_count» «initial_count»)
+        × Long (now states) (now transitions) (now initial) × (largestImage ≤ length (now image)) ⌝ }
+    ensures { λ r. ⌜ buffer (accepted r) (now (image .exit))
+        ≡ joinedOver (countsOf «state_count» «transition_count» «initial_count»)
+        (now (states .entry)) (now (transitions .entry)) (now (initial .entry)) (now (image .entry)) ⌝ }
 {
-    let transitions_at = CONTENTS_BYTES + 4 * state_count;
-    let initial_at = transitions_at + 4 * transition_count;
-    write_contents(image, state_count, transition_count, initial_count);
-    copy(&mut image[CONTENTS_BYTES..], states, 4 * state_count);
-    copy(
-        &mut image[transitions_at..],
-        transitions,
-        4 * transition_count,
+    let states_size = 4 * state_count;
+    let transitions_size = 4 * transition_count;
+    let initial_size = 2 * initial_count;
+    let transitions_at = CONTENTS_BYTES + states_size;
+    let initial_at = transitions_at + transitions_size;
+    let end = initial_at + initial_size;
+    write_entry(image, 0, 1, state_count, CONTENTS_BYTES);
+    write_entry(
+        image,
+        TRANSITIONS_ENTRY,
+        2,
+        transition_count,
+        transitions_at,
     );
-    copy(&mut image[initial_at..], initial, 2 * initial_count);
-    initial_at + 2 * initial_count
+    write_entry(image, INITIAL_ENTRY, 3, initial_count, initial_at);
+    put(image, CONTENTS_BYTES, states, states_size);
+    put(image, transitions_at, transitions, transitions_size);
+    put(image, initial_at, initial, initial_size);
+    end
 }
 
 // 25, then 10 to 13 of the tables; on acceptance the image's length.
@@ -421,7 +422,9 @@ pub fn write(
     initial_count: usize,
     image: &mut [u8],
 ) -> WrittenImage
-    ensures { λ r. ⌜ buffer (writeAnswer r) (now (image .exit)) ≡ writes (countsOf «state_count» «transition_count» «initial_count») (now (states .entry)) (now (transitions .entry)) (now (initial .entry)) (now (image .entry)) ⌝ }
+    ensures { λ r. ⌜ buffer (writeAnswer r) (now (image .exit))
+        ≡ writes (countsOf «state_count» «transition_count» «initial_count»)
+        (now (states .entry)) (now (transitions .entry)) (now (initial .entry)) (now (image .entry)) ⌝ }
 {
     if !tables_fit(states.len(), transitions.len(), initial.len()) {
         return WrittenImage::Refused(TABLE_TOO_SHORT, 0);

@@ -6,17 +6,14 @@ use Rattle.image.proofs.Tests.{count-over, accepting-wrong, last-wrong,
 use Rattle.image.proofs.check_state.Statement.{statement}
 use Rattle.image.proofs.check_state.Tie as tie
 
-mul-number-at : tie.Need-mul-number-at
-mul-number-at c = search needs
+mul-at : tie.Need-mul-at
+mul-at c = search needs
 
 number-at-requires : tie.Need-number-at-requires
 number-at-requires c κs = search needs
 
 returns : tie.Need-returns
 returns c = count-over _ _ (omega arith)
-
-mul-if2 : tie.Need-mul-if2
-mul-if2 c = search needs
 
 add-if2 : tie.Need-add-if2
 add-if2 c = search needs
@@ -26,9 +23,6 @@ shared-slice-read-if2 c = search needs
 
 returns-2 : tie.Need-returns-2
 returns-2 c = accepting-wrong _ _ (omega arith) (omega arith)
-
-mul-if3 : tie.Need-mul-if3
-mul-if3 c = search needs
 
 add-if3 : tie.Need-add-if3
 add-if3 c = search needs
@@ -46,14 +40,12 @@ pub check-state-spec : {M : Type 1} → statement M
 check-state-spec =
     tie.close
     (tie.spec
-    mul-number-at
+    mul-at
     number-at-requires
     returns
-    mul-if2
     add-if2
     shared-slice-read-if2
     returns-2
-    mul-if3
     add-if3
     shared-slice-read-if3
     returns-3

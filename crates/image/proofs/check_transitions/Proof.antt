@@ -1,5 +1,5 @@
--- `image::check_transitions` meets its contract: the records before i are fine (`Passing`), and the first refusal is the lowest.
--- Assumes nothing.
+-- `image::check_transitions` meets its contract: the records before i are fine (`Passing`), and the first refusal is
+-- the lowest. Assumes nothing.
 use borrow.Author.Needs.{needs}
 use native.Mathlib.Omega.{arith}
 use Prim.Native.Nat.{_-_}
@@ -7,6 +7,7 @@ use mathlib.Core.Path.{sym, ap, _∙_}
 use Rattle.answer.specs.Result.{answer}
 use Rattle.answer.proofs.Lowest.{Passing, pass-begins, pass-steps, pass-fails, pass-ends}
 use Rattle.image.specs.Reader.{transitionRecordCheck}
+use Rattle.image.proofs.Before.{handed-on}
 use Rattle.image.proofs.check_transitions.Statement.{statement}
 use Rattle.image.proofs.check_transitions.Tie as tie
 
@@ -22,16 +23,17 @@ loop-holds c = pass-begins _ _
 check-transition-requires : tie.Need-check-transition-requires Inv-loop μ-loop
 check-transition-requires c κs = search needs
 
-enum-known-transition : tie.Need-enum-known-transition Inv-loop μ-loop
-enum-known-transition c = search needs
+enum-told : tie.Need-enum-told Inv-loop μ-loop
+enum-told c = search needs
+
+enum-told-2 : tie.Need-enum-told-2 Inv-loop μ-loop
+enum-told-2 c = search needs
 
 returns : tie.Need-returns Inv-loop μ-loop
 returns c =
-    let at = c .before .before .before .before .before in
-    pass-fails _ _ (at .loop .i) (omega arith) (at .loop .inv) (sym (ap answer (c .before .transition .given .1)) ∙ c .before .before .before .check-transition .ensures)
-
-enum-told : tie.Need-enum-told Inv-loop μ-loop
-enum-told c = search needs
+    let at = c .before .before .before .before in
+    handed-on (ap answer (c .enum-told2 .given .1)) (c .before .before .check-transition .ensures)
+    (pass-fails _ _ (at .loop .i) (omega arith) (at .loop .inv))
 
 add-i : tie.Need-add-i Inv-loop μ-loop
 add-i c = search needs
@@ -42,7 +44,8 @@ loop-less c = search needs
 loop-again : tie.Need-loop-again Inv-loop μ-loop
 loop-again c =
     let at = c .before .before .before .before in
-    pass-steps _ _ (at .loop .i) (omega arith) (at .loop .inv) (sym (c .before .before .check-transition .ensures) ∙ ap answer (c .enum-told .given .1))
+    pass-steps _ _ (at .loop .i) (omega arith) (at .loop .inv)
+    (sym (c .before .before .check-transition .ensures) ∙ ap answer (c .enum-told .given .1))
 
 returns-2 : tie.Need-returns-2 Inv-loop μ-loop
 returns-2 c = pass-ends _ _ (c .before .loop .i) (omega arith) (c .before .loop .inv)
@@ -55,9 +58,9 @@ check-transitions-spec =
     μ-loop
     loop-holds
     check-transition-requires
-    enum-known-transition
-    returns
     enum-told
+    enum-told-2
+    returns
     add-i
     loop-less
     loop-again

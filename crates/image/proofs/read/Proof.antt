@@ -1,12 +1,21 @@
--- `image::read` meets its contract: the tests in their order; on acceptance the bodies, which are the automaton's records.
--- Assumes nothing.
+-- `image::read` meets its contract: the tests in their order; on acceptance the bodies, which are the automaton's
+-- records. Assumes nothing.
 use borrow.Author.Needs.{needs}
 use mathlib.Core.Path.{sym, ap, _∙_}
 use Rattle.image.specs.Calls.{readAnswer}
+use Rattle.image.specs.Memory.{Long}
 use Rattle.image.proofs.Outcomes.{tables-long, read-short, read-refused, read-accepted}
 use Rattle.image.proofs.Contents.{checks-sized}
 use Rattle.image.proofs.read.Statement.{statement}
 use Rattle.image.proofs.read.Tie as tie
+
+-- what is known of the tables once they fit
+abbrev start : tie.Else1 → tie.Start
+start c = c .before .before .before .before .before .before
+
+long : (c : tie.Else1)
+    → Long (start c .args .states .now) (start c .args .transitions .now) (start c .args .initial .now)
+long c = tables-long _ _ _ (c .before .tables-fit .ensures) (c .if1 .left)
 
 tables-fit-requires : tie.Need-tables-fit-requires
 tables-fit-requires c κs = search needs
@@ -25,17 +34,14 @@ enum-told c = search needs
 
 returns-2 : tie.Need-returns-2
 returns-2 c =
-    let tables = c .before .before .before in
-    read-refused _ _ _ _ (tables .before .tables-fit .ensures) (tables .if1 .left) (ap readAnswer (c .enum-told .given .1)) (c .before .before .check .ensures)
+    read-refused _ _ _ _ (long (c .before .before .before)) (ap readAnswer (c .enum-told .given .1))
+    (c .before .before .check .ensures)
 
 load-bodies-requires : tie.Need-load-bodies-requires
 load-bodies-requires c κs =
     let found = c .before .before .before .before in
-    let tables = found .before .before .before in
-    let a = tables .before .before .before .before .before .before .args in
-    let long = tables-long (a .states .now) (a .transitions .now) (a .initial .now) (tables .before .tables-fit .ensures) (tables .if1 .left) in
-    let known = checks-sized _ _ (sym (ap readAnswer (found .found .given .1)) ∙ found .before .before .check .ensures) in
-    (known .small, known .size, long)
+    let told = sym (ap readAnswer (found .found .given .1)) ∙ found .before .before .check .ensures in
+    (checks-sized _ _ told, long (found .before .before .before))
 
 same-length : tie.Need-same-length
 same-length c = search needs
@@ -48,12 +54,13 @@ same-length-3 c = search needs
 
 returns-3 : tie.Need-returns-3
 returns-3 c =
-    let found = c .before .before .before .before .before .before .before .before .before .before .before in
+    let loaded = c .before .before .before .before .before .before in
+    let found = loaded .before .before .before .before .before in
     let tables = found .before .before .before in
-    read-accepted _ _ _ _ (tables .before .tables-fit .ensures) (tables .if1 .left)
+    read-accepted _ _ _ _ (long tables)
     (λ i. tables .before .before .before .before .before .shared-slice-known .given i .fits)
     (sym (ap readAnswer (found .found .given .1)) ∙ found .before .before .check .ensures)
-    (c .before .before .before .before .before .before .load-bodies .ensures)
+    (loaded .load-bodies .ensures)
 
 pub read-spec : {M : Type 1} → statement M
 read-spec =

@@ -1,14 +1,38 @@
--- `image::write` meets its contract: the tests in their order, and on acceptance the used bytes of the tables, which are the automaton's records.
--- Assumes nothing.
+-- `image::write` meets its contract: the tests in their order, and on acceptance the used bytes of the tables, which
+-- are the automaton's records. Assumes nothing.
 use borrow.Author.Needs.{needs}
 use native.Mathlib.Omega.{arith}
 use mathlib.Core.Path.{sym, ap, _∙_}
 use borrow.Author.Tests.{not-false}
 use Rattle.answer.specs.Result.{answer}
+use Rattle.automaton.specs.Tables.{Counts, countsOf}
+use Rattle.image.specs.Memory.{Long}
 use Rattle.image.proofs.Tests.{counts-small}
-use Rattle.image.proofs.Outcomes.{tables-long, write-short, buffer-short, counts-refused, records-refused, write-accepted}
+use Rattle.image.proofs.Outcomes.{tables-long, Ready, has-records}
+use Rattle.image.proofs.Outcomes.{write-short, buffer-short, counts-refused, records-refused, write-accepted}
 use Rattle.image.proofs.write.Statement.{statement}
 use Rattle.image.proofs.write.Tie as tie
+
+-- what the function was given
+abbrev start : tie.Else1 → tie.Start
+start c = c .before .before .before .before .before .before
+
+abbrev counts : tie.Start → Counts
+counts s = countsOf (s .args .state-count) (s .args .transition-count) (s .args .initial-count)
+
+-- what is known of it once the tables, and once the counts, fit
+long : (c : tie.Else1)
+    → Long (start c .args .states .now) (start c .args .transitions .now) (start c .args .initial .now)
+long c = tables-long _ _ _ (c .before .tables-fit .ensures) (c .if1 .left)
+
+ready : (c : tie.Else3)
+    → let s = start (c .before .before .before) in
+    Ready (counts s) (s .args .states .now) (s .args .transitions .now) (s .args .initial .now) (s .args .image .now)
+ready c = record {
+  small = counts-small _ (sym (c .before .counts-fit .ensures) ∙ not-false _ (c .if3 .left));
+  long = long (c .before .before .before);
+  room = omega arith;
+}
 
 tables-fit-requires : tie.Need-tables-fit-requires
 tables-fit-requires c κs = search needs
@@ -17,47 +41,34 @@ returns : tie.Need-returns
 returns c = write-short _ _ _ _ _ (c .before .tables-fit .ensures) (c .if1 .taken)
 
 returns-2 : tie.Need-returns-2
-returns-2 c =
-    let tables = c .before in
-    buffer-short _ _ _ _ _ (tables .before .tables-fit .ensures) (tables .if1 .left) (omega arith)
+returns-2 c = buffer-short _ _ _ _ _ (long (c .before)) (omega arith)
 
 counts-fit-requires : tie.Need-counts-fit-requires
 counts-fit-requires c κs = search needs
 
 returns-3 : tie.Need-returns-3
 returns-3 c =
-    let tables = c .before .before .before in
-    counts-refused _ _ _ _ _ (tables .before .tables-fit .ensures) (tables .if1 .left) (omega arith) (c .before .counts-fit .ensures) (c .if3 .taken)
+    counts-refused _ _ _ _ _ (long (c .before .before .before)) (omega arith) (c .before .counts-fit .ensures)
+    (c .if3 .taken)
 
 check-records-requires : tie.Need-check-records-requires
-check-records-requires c κs =
-    let tables = c .before .before .before in
-    let a = tables .before .before .before .before .before .before .args in
-    let long = tables-long (a .states .now) (a .transitions .now) (a .initial .now) (tables .before .tables-fit .ensures) (tables .if1 .left) in
-    let small = counts-small _ (sym (c .before .counts-fit .ensures) ∙ not-false _ (c .if3 .left)) in
-    (small .states, omega (arith, small .states, long .states), omega (arith, small .transitions, long .transitions), omega (arith, small .initial, long .initial))
+check-records-requires c κs = has-records (ready c)
 
 enum-known-records : tie.Need-enum-known-records
 enum-known-records c = search needs
 
 returns-4 : tie.Need-returns-4
 returns-4 c =
-    let counts = c .before .before .before .before in
-    let tables = counts .before .before .before in
-    records-refused _ _ _ _ _ (tables .before .tables-fit .ensures) (tables .if1 .left) (omega arith) (counts .before .counts-fit .ensures) (counts .if3 .left)
-    (sym (ap answer (c .before .records .given .1)) ∙ c .before .before .before .check-records .ensures)
+    records-refused (ready (c .before .before .before .before)) (c .before .before .before .check-records .ensures)
+    (ap answer (c .before .records .given .1))
 
 enum-told : tie.Need-enum-told
 enum-told c = search needs
 
 write-image-requires : tie.Need-write-image-requires
 write-image-requires c κs =
-    let counts = c .before .before .before .before in
-    let tables = counts .before .before .before in
-    let a = tables .before .before .before .before .before .before .args in
-    let long = tables-long (a .states .now) (a .transitions .now) (a .initial .now) (tables .before .tables-fit .ensures) (tables .if1 .left) in
-    let small = counts-small _ (sym (counts .before .counts-fit .ensures) ∙ not-false _ (counts .if3 .left)) in
-    (small, long, omega arith)
+    let given = ready (c .before .before .before .before) in
+    (given .small, given .long, given .room)
 
 same-length : tie.Need-same-length
 same-length c = search needs
@@ -65,12 +76,12 @@ same-length c = search needs
 returns-5 : tie.Need-returns-5
 returns-5 c =
     let records = c .before .before .before .before in
-    let counts = records .before .before .before in
-    let tables = counts .before .before .before in
-    let known = tables .before .before .before in
-    write-accepted _ _ _ _ _ (tables .before .tables-fit .ensures) (tables .if1 .left) (omega arith) (counts .before .counts-fit .ensures) (counts .if3 .left)
-    (λ i. known .before .before .shared-slice-known .given i .fits) (λ i. known .before .shared-slice-known2 .given i .fits) (λ i. known .shared-slice-known3 .given i .fits)
-    (sym (records .before .before .check-records .ensures) ∙ ap answer (records .enum-told .given .1)) (c .before .before .write-image .ensures)
+    let fits = records .before .before .before in
+    let bytes = fits .before .before .before .before .before .before in
+    write-accepted (ready fits) (λ i. bytes .before .before .shared-slice-known .given i .fits)
+    (λ i. bytes .before .shared-slice-known2 .given i .fits) (λ i. bytes .shared-slice-known3 .given i .fits)
+    (records .before .before .check-records .ensures) (ap answer (records .enum-told .given .1))
+    (c .before .before .write-image .ensures)
 
 pub write-spec : {M : Type 1} → statement M
 write-spec =

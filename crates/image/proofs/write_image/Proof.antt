@@ -1,77 +1,47 @@
--- `image::write_image` meets its contract: the contents, then three copies in lent parts after them.
+-- `image::write_image` meets its contract: three entries, which are the contents, and behind them three copies.
 -- Assumes nothing.
 use borrow.Author.Needs.{needs}
 use native.Mathlib.Omega.{arith}
 use Rattle.automaton.specs.Tables.{countsOf}
-use Rattle.image.proofs.Stores.{image-written}
+use Rattle.image.proofs.Stores.{contents-stored, image-stored}
 use Rattle.image.proofs.write_image.Statement.{statement}
 use Rattle.image.proofs.write_image.Tie as tie
 
-mul-transitions-at : tie.Need-mul-transitions-at
-mul-transitions-at c = search needs
+mul-states-size : tie.Need-mul-states-size
+mul-states-size c = search needs
+
+mul-transitions-size : tie.Need-mul-transitions-size
+mul-transitions-size c = search needs
+
+mul-initial-size : tie.Need-mul-initial-size
+mul-initial-size c = search needs
 
 add-transitions-at : tie.Need-add-transitions-at
 add-transitions-at c = search needs
 
-mul-initial-at : tie.Need-mul-initial-at
-mul-initial-at c = search needs
-
 add-initial-at : tie.Need-add-initial-at
 add-initial-at c = search needs
 
-write-contents-requires : tie.Need-write-contents-requires
-write-contents-requires c κs = search needs
+add-end : tie.Need-add-end
+add-end c = search needs
 
-sub-copy : tie.Need-sub-copy
-sub-copy c = search needs
+write-entry-requires : tie.Need-write-entry-requires
+write-entry-requires c κs = search needs
 
-part-copy-start : tie.Need-part-copy-start
-part-copy-start c = search needs
+write-entry-requires-2 : tie.Need-write-entry-requires-2
+write-entry-requires-2 c κs = search needs
 
-part-copy-end : tie.Need-part-copy-end
-part-copy-end c = search needs
+write-entry-requires-3 : tie.Need-write-entry-requires-3
+write-entry-requires-3 c κs = search needs
 
-mul-copy : tie.Need-mul-copy
-mul-copy c = search needs
+put-requires : tie.Need-put-requires
+put-requires c κs = search needs
 
-copy-requires : tie.Need-copy-requires
-copy-requires c κs = search needs
+put-requires-2 : tie.Need-put-requires-2
+put-requires-2 c κs = search needs
 
-sub-copy-2 : tie.Need-sub-copy-2
-sub-copy-2 c = search needs
-
-part-copy-start-2 : tie.Need-part-copy-start-2
-part-copy-start-2 c = search needs
-
-part-copy-end-2 : tie.Need-part-copy-end-2
-part-copy-end-2 c = search needs
-
-mul-copy-2 : tie.Need-mul-copy-2
-mul-copy-2 c = search needs
-
-copy-requires-2 : tie.Need-copy-requires-2
-copy-requires-2 c κs = search needs
-
-sub-copy-3 : tie.Need-sub-copy-3
-sub-copy-3 c = search needs
-
-part-copy-start-3 : tie.Need-part-copy-start-3
-part-copy-start-3 c = search needs
-
-part-copy-end-3 : tie.Need-part-copy-end-3
-part-copy-end-3 c = search needs
-
-mul-copy-3 : tie.Need-mul-copy-3
-mul-copy-3 c = search needs
-
-copy-requires-3 : tie.Need-copy-requires-3
-copy-requires-3 c κs = search needs
-
-mul-result : tie.Need-mul-result
-mul-result c = search needs
-
-add-result : tie.Need-add-result
-add-result c = search needs
+put-requires-3 : tie.Need-put-requires-3
+put-requires-3 c κs = search needs
 
 same-length : tie.Need-same-length
 same-length c = search needs
@@ -80,35 +50,33 @@ returns : tie.Need-returns
 returns c =
     let third = c .before .before .before .before .before .before in
     let second = third .before .before .before .before in
-    let s = second .before .before .before .before .before .before .before .before .before .before in
+    let entry₃ = second .before .before .before .before in
+    let entry₂ = entry₃ .before .before .before .before in
+    let entry₁ = entry₂ .before .before .before .before in
+    let s = entry₁ .before .before .before .before .before .before in
     let a = s .args in
-    image-written (countsOf (a .state-count) (a .transition-count) (a .initial-count)) (a .states .now) (a .transitions .now) (a .initial .now) (a .image .now) _ _ _ _ (omega (arith, s .pre)) (omega (arith, s .pre)) (second .before .before .before .before .write-contents .ensures) (second .copy .ensures) (third .copy2 .ensures) (c .before .before .copy3 .ensures)
+    let counts = countsOf (a .state-count) (a .transition-count) (a .initial-count) in
+    let contents = contents-stored counts (a .image .now)
+    (entry₁ .write-entry .ensures) (entry₂ .write-entry2 .ensures) (entry₃ .write-entry3 .ensures) in
+    image-stored counts (a .states .now) (a .transitions .now) (a .initial .now) (a .image .now)
+    (omega (arith, s .pre)) (omega (arith, s .pre)) (omega (arith, s .pre)) (omega (arith, s .pre))
+    contents (second .put .ensures) (third .put2 .ensures) (c .before .before .put3 .ensures)
 
 pub write-image-spec : {M : Type 1} → statement M
 write-image-spec =
     tie.close
     (tie.spec
-    mul-transitions-at
+    mul-states-size
+    mul-transitions-size
+    mul-initial-size
     add-transitions-at
-    mul-initial-at
     add-initial-at
-    write-contents-requires
-    sub-copy
-    part-copy-start
-    part-copy-end
-    mul-copy
-    copy-requires
-    sub-copy-2
-    part-copy-start-2
-    part-copy-end-2
-    mul-copy-2
-    copy-requires-2
-    sub-copy-3
-    part-copy-start-3
-    part-copy-end-3
-    mul-copy-3
-    copy-requires-3
-    mul-result
-    add-result
+    add-end
+    write-entry-requires
+    write-entry-requires-2
+    write-entry-requires-3
+    put-requires
+    put-requires-2
+    put-requires-3
     same-length
     returns)
