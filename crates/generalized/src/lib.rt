@@ -270,12 +270,12 @@ pub fn walk(
     let mut state = GeneralizedNumber(0);
     while state.0 < size.states {
         let at = state.0;
-        let count = state_terms(rule, table, states[at], &mut product, &mut next);
-        if MAX_PRODUCT < count {
+        let many = state_terms(rule, table, states[at], &mut product, &mut next);
+        if MAX_PRODUCT < many {
             return Walked::Refused(PRODUCT_TOO_LARGE, at);
         }
-        acceptance::fulfil(rule, table, untils, &product, count, &mut bytes);
-        let step = meet_all(&product, &bytes, count, state, states, transitions, size);
+        acceptance::fulfil(rule, table, untils, &product, many, &mut bytes);
+        let step = meet_all(&product, &bytes, many, state, states, transitions, size);
         match step {
             Step::On(n, m) => {
                 put_end(ends, state, m);

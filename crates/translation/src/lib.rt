@@ -22,6 +22,7 @@ ghost use Rattle.formula.specs.Limits.{maxUntils};
 ghost use Rattle.formula.specs.Rule;
 ghost use Rattle.term.specs.Limits.{maxTerms};
 ghost use Rattle.term.specs.Size.{sizesChecked};
+ghost use Rattle.term.specs.Memory.{TableRoom};
 ghost use Rattle.generalized.specs.Limits.{maxGeneralizedStates};
 ghost use Rattle.generalized.specs.Memory.{keptTarget, keptMust, keptMustNot};
 ghost use Rattle.automaton.specs.Limits.{maxStates, transitionsBytes, initialBytes};
@@ -39,6 +40,9 @@ const LEVEL_PLACES: usize = 16;
 
 // A place for each state of the first walk at each level.
 const CODE_PLACES: usize = generalized::MAX_STATES * LEVEL_PLACES;
+
+// A rule of at most this many nodes has its terms in a small table.
+const FEW_NODES: usize = 8;
 
 // A state's number in the automaton; the first walk's states have numbers of another type.
 pub struct StateNumber(pub usize);
@@ -405,22 +409,28 @@ fn degeneralize(
     }
 }
 
-// The two walks of a rule that 1 to 7 let pass, and the automaton in the three tables.
-fn build(rule: &[u8], states: &mut [u8], transitions: &mut [u8], initial: &mut [u8]) -> Translated
-    requires { ⌜ (Rule.checked (now rule) ≡ fine) × TablesRoom (now states) (now transitions) (now initial) ⌝ }
+// The two walks of a rule that 1 to 7 let pass, with its terms in a table, and the automaton in the three tables.
+fn build(
+    rule: &[u8],
+    table: &mut [u64],
+    states: &mut [u8],
+    transitions: &mut [u8],
+    initial: &mut [u8],
+) -> Translated
+    requires { ⌜ (Rule.checked (now rule) ≡ fine) × TableRoom (now rule) (now table)
+        × TablesRoom (now states) (now transitions) (now initial) ⌝ }
     ensures { λ r. ⌜ outcome (translateAnswer r) (now (states .exit)) (now (transitions .exit)) (now (initial .exit))
         ≡ stored (translation (now (rule .entry))) (now (states .entry)) (now (transitions .entry))
         (now (initial .entry)) ⌝ }
 {
-    let mut table = [0u64; term::TABLE_PLACES];
-    let sizes = term::tabulate(rule, &mut table);
+    let sizes = term::tabulate(rule, table);
     if let Checked::Refused(number, place) = sizes {
         return refuse(number, place, states, transitions, initial);
     }
     let mut found = [0u64; generalized::MAX_STATES];
     let mut kept = [0u64; generalized::MAX_TRANSITIONS];
     let mut ends = [0usize; generalized::MAX_STATES];
-    let walked = generalized::walk(rule, &table, &mut found, &mut kept, &mut ends);
+    let walked = generalized::walk(rule, table, &mut found, &mut kept, &mut ends);
     match walked {
         Walked::Refused(number, place) => refuse(number, place, states, transitions, initial),
         Walked::Accepted(first, _, _) => degeneralize(
@@ -433,6 +443,26 @@ fn build(rule: &[u8], states: &mut [u8], transitions: &mut [u8], initial: &mut [
             initial,
         ),
     }
+}
+
+// The same with a table of our own for the terms, a smaller one for a rule of few nodes: less to set to zero.
+fn build_tabled(
+    rule: &[u8],
+    states: &mut [u8],
+    transitions: &mut [u8],
+    initial: &mut [u8],
+) -> Translated
+    requires { ⌜ (Rule.checked (now rule) ≡ fine) × TablesRoom (now states) (now transitions) (now initial) ⌝ }
+    ensures { λ r. ⌜ outcome (translateAnswer r) (now (states .exit)) (now (transitions .exit)) (now (initial .exit))
+        ≡ stored (translation (now (rule .entry))) (now (states .entry)) (now (transitions .entry))
+        (now (initial .entry)) ⌝ }
+{
+    if rule.len() / 3 <= FEW_NODES {
+        let mut few = [0u64; FEW_NODES * term::ROW_PLACES];
+        return build(rule, &mut few, states, transitions, initial);
+    }
+    let mut table = [0u64; term::TABLE_PLACES];
+    build(rule, &mut table, states, transitions, initial)
 }
 
 // The automaton of a rule in three tables.
@@ -458,5 +488,5 @@ pub fn translate(
     if let Checked::Refused(number, place) = bytes {
         return Translated::Refused(number, place);
     }
-    build(rule, states, transitions, initial)
+    build_tabled(rule, states, transitions, initial)
 }

@@ -33,8 +33,8 @@ returns-4 c = bytes-refused _ _ _ _ (c .before .before .before .before .before .
 enum-told : tie.Need-enum-told
 enum-told c = search needs
 
-build-requires : tie.Need-build-requires
-build-requires c κs = (fits (c .before .before .before), record { for-states = c .before .before .before .before .before .before .before .before .if1 .left; for-transitions = c .before .before .before .before .before .before .before .if2 .left; for-initial = c .before .before .before .before .before .before .if3 .left })
+build-tabled-requires : tie.Need-build-tabled-requires
+build-tabled-requires c κs = (fits (c .before .before .before), record { for-states = c .before .before .before .before .before .before .before .before .if1 .left; for-transitions = c .before .before .before .before .before .before .before .if2 .left; for-initial = c .before .before .before .before .before .before .if3 .left })
 
 same-length : tie.Need-same-length
 same-length c = search needs
@@ -46,7 +46,7 @@ same-length-3 : tie.Need-same-length-3
 same-length-3 c = search needs
 
 returns-5 : tie.Need-returns-5
-returns-5 c = built _ _ _ _ (c .before .before .before .before .before .before .before .before .before .before .before .before .before .before .before .if1 .left) (c .before .before .before .before .before .before .before .before .before .before .before .before .before .before .if2 .left) (c .before .before .before .before .before .before .before .before .before .before .before .before .before .if3 .left) (fits (c .before .before .before .before .before .before .before .before .before .before)) (c .before .before .before .before .before .before .build .ensures)
+returns-5 c = built _ _ _ _ (c .before .before .before .before .before .before .before .before .before .before .before .before .before .before .before .if1 .left) (c .before .before .before .before .before .before .before .before .before .before .before .before .before .before .if2 .left) (c .before .before .before .before .before .before .before .before .before .before .before .before .before .if3 .left) (fits (c .before .before .before .before .before .before .before .before .before .before)) (c .before .before .before .before .before .before .build-tabled .ensures)
 
 pub translate-spec : {M : Type 1} → statement M
 translate-spec =
@@ -59,7 +59,7 @@ translate-spec =
     enum-known-bytes
     returns-4
     enum-told
-    build-requires
+    build-tabled-requires
     same-length
     same-length-2
     same-length-3
