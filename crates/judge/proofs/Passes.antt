@@ -5,17 +5,18 @@ use mathlib.Core.Path.{_≡_, refl, sym, _∙_, ap, subst}
 use mathlib.Core.List.{List}
 use mathlib.Core.Logic.{_⊎_, inl, inr}
 use native.Mathlib.Omega.{arith}
-use native.Mathlib.Nat.{mod-eq-of-lt, mul-add-mod-self-right, mul-le-mul-right}
-use native.Mathlib.Decide.{ℕ-discrete, decLt}
+use native.Mathlib.Nat.{mod-eq-of-lt, mul-add-mod-self-right, mul-le-mul-right, suc-mul}
+use native.Mathlib.Decide.{decLt}
 use lib.ListN.{length, getD}
 use borrow.Author.Tests.{lt-ltb, le-ltb}
 use Rattle.lasso.specs.Lasso.{letter}
 use Rattle.automaton.specs.Automaton.{Automaton, Step, Accepts, AcceptingPass, passBegin}
 use Rattle.sets.specs.Sets.{In}
-use Rattle.judge.specs.Memory.{Lifted, After, Linked, one, join, joinMet}
+use Rattle.judge.specs.Memory.{After, Linked, one, join, joinMet}
 use Rattle.judge.specs.Limits.{startBit, metBit}
 use Rattle.automaton.specs.Limits.{maxStates}
 use Rattle.judge.proofs.Runs.{Leads, Meets, leads-as, meets-as, leads-on, on-early, on-late}
+use Rattle.judge.proofs.Letters.{after-covered}
 use Rattle.judge.proofs.Arrivals.{Arrived, ArrivedMet, low-runs, high-runs, run-bits, met-bits}
 
 -- ---- the letters of a lasso
@@ -58,12 +59,9 @@ module _ (a : Automaton) (n : ℕ) (stem cycle : List ℕ) where
   abbrev pub Stemmed : (q k : ℕ) → Type 0
   Stemmed q k = After a inStem Initial (length stem) q k
 
-  -- each state bit-is-set with its own number, and the accepting ones lifted
-  abbrev pub Placed : (q k : ℕ) → Type 0
-  Placed q k = Stemmed q k ⊎ ((q < n) × (k ≡ q))
-
+  -- a pass begins in each state
   abbrev pub Begun : (q k : ℕ) → Type 0
-  Begun q k = Placed q k ⊎ (Accepts a q × Lifted Placed q k)
+  Begun q k = Stemmed q k ⊎ ((q < n) × (k ≡ q))
 
   -- after one pass
   abbrev pub Passed : (q k : ℕ) → Type 0
@@ -96,37 +94,33 @@ module _ (a : Automaton) (n : ℕ) (stem cycle : List ℕ) where
         go (inl m) = omega (arith, m .held .1)
         go (inr m) = omega (arith, m .held .1)
 
-    placed-low : (q p : ℕ) → p < maxStates → Placed q p → q ≡ p
-    placed-low q p lt (inl h) = absurd (stemmed-low q p lt h)
-    placed-low q p lt (inr (l, e)) = sym e
-
     begun-low : (q p : ℕ) → p < maxStates → Begun q p → q ≡ p
-    begun-low q p lt (inl h) = placed-low q p lt h
-    begun-low q p lt (inr (acc, l)) = absurd (omega (arith, l .high))
+    begun-low q p lt (inl h) = absurd (stemmed-low q p lt h)
+    begun-low q p lt (inr (l, e)) = sym e
 
-    begun-high : (q p : ℕ) → p < maxStates → Begun q (metBit + p) → (q ≡ p) × Accepts a q
-    begun-high q p lt (inl (inl h)) = absurd (stemmed-high q (metBit + p) p lt refl h)
-    begun-high q p lt (inl (inr (l, e))) = absurd (omega arith)
-    begun-high q p lt (inr (acc, l)) =
-        let e : l .low ≡ p = omega (arith, l .high) in
-        (placed-low q (l .low) (omega arith) (l .held) ∙ e, acc)
+    begun-high : (q p : ℕ) → p < maxStates → Begun q (metBit + p) → ⊥
+    begun-high q p lt (inl h) = stemmed-high q (metBit + p) p lt refl h
+    begun-high q p lt (inr (l, e)) = omega arith
+
+    -- runs that have met an accepting state are runs
+    pub passed-covered : (q k : ℕ) → k < metBit → Passed q (metBit + k) → Passed q k
+    passed-covered = after-covered a inCycle begun (length cycle)
+      where
+        begun : (q k : ℕ) → k < metBit → Begun q (metBit + k) → Begun q k
+        begun q k lt (inl h) = inl (after-covered a inStem (λ p j lj (h, e). absurd (omega arith)) (length stem) q k lt h)
+        begun q k lt (inr (l, e)) = absurd (omega arith)
 
     passed-low : {q p : ℕ} → p < maxStates → Passed q p → Leads a inCycle (length cycle) p q
     passed-low {q} {p} lt h =
         let m : Arrived a inCycle Begun (length cycle) q p = low-runs a inCycle Begun (length cycle) (omega arith) h in
         subst (λ (s : ℕ). Leads a inCycle (length cycle) s q) (begun-low (m .start) p lt (m .held)) (m .run)
 
-    passed-high : {q : ℕ} (p : ℕ) → p < maxStates → Passed q (metBit + p) → Meets a inCycle 0 (length cycle) p q
+    passed-high : {q : ℕ} (p : ℕ) → p < maxStates → Passed q (metBit + p) → Meets a inCycle (length cycle) p q
     passed-high {q} p lt h = go (high-runs a inCycle Begun (length cycle) p (omega arith) refl h)
       where
-        from : {s : ℕ} → s ≡ p → Meets a inCycle 0 (length cycle) s q → Meets a inCycle 0 (length cycle) p q
-        from e m = subst (λ (s : ℕ). Meets a inCycle 0 (length cycle) s q) e m
-
-        go : Arrived a inCycle Begun (length cycle) q (metBit + p) ⊎ ArrivedMet a inCycle Begun (length cycle) q p → Meets a inCycle 0 (length cycle) p q
-        go (inl m) =
-            let b = begun-high (m .start) p lt (m .held) in
-            from (b .0) (record { run = m .run; index = 0; after = omega arith; before = omega arith; accepts = rw (m .run .from) (b .1) })
-        go (inr m) = from (begun-low (m .start) p lt (m .held)) (record { run = m .run .run; index = m .run .index; after = omega arith; before = m .run .before; accepts = m .run .accepts })
+        go : Arrived a inCycle Begun (length cycle) q (metBit + p) ⊎ ArrivedMet a inCycle Begun (length cycle) q p → Meets a inCycle (length cycle) p q
+        go (inl m) = absurd (begun-high (m .start) p lt (m .held))
+        go (inr m) = subst (λ (s : ℕ). Meets a inCycle (length cycle) s q) (begun-low (m .start) p lt (m .held)) (m .run)
 
     passed-start : {q : ℕ} → Passed q startBit → FromStart (length cycle) q
     passed-start {q} h = go (m .held)
@@ -142,9 +136,8 @@ module _ (a : Automaton) (n : ℕ) (stem cycle : List ℕ) where
         }
 
         go : Begun (m .start) startBit → FromStart (length cycle) q
-        go (inl (inl b)) = made (low-runs a inStem Initial (length stem) (omega arith) b)
-        go (inl (inr (l, e))) = absurd (omega arith)
-        go (inr (acc, l)) = absurd (omega (arith, l .high))
+        go (inl b) = made (low-runs a inStem Initial (length stem) (omega arith) b)
+        go (inr (l, e)) = absurd (omega arith)
 
     -- ---- and so are those of several
 
@@ -152,7 +145,7 @@ module _ (a : Automaton) (n : ℕ) (stem cycle : List ℕ) where
     record Means (q k : ℕ) : Type 0 where
       pub runs : k < maxStates → (e : ℕ) × Leads a turn (suc e * length cycle) k q
       pub starts : k ≡ startBit → (e : ℕ) × FromStart (suc e * length cycle) q
-      pub mets : (p : ℕ) → p < maxStates → k ≡ metBit + p → (e : ℕ) × Meets a turn 0 (suc e * length cycle) p q
+      pub mets : (p : ℕ) → p < maxStates → k ≡ metBit + p → (e : ℕ) × Meets a turn (suc e * length cycle) p q
 
     once : (P : ℕ → Type 0) → P (length cycle) → (e : ℕ) × P (suc e * length cycle)
     once P h =
@@ -171,7 +164,7 @@ module _ (a : Automaton) (n : ℕ) (stem cycle : List ℕ) where
     means-one q k h = record {
       runs = λ lt. once (λ d. Leads a turn d k q) (leads-as a in-turn (passed-low lt h));
       starts = λ e. once (λ d. FromStart d q) (passed-start (subst (λ (j : ℕ). Passed q j) e h));
-      mets = λ p lt e. once (λ d. Meets a turn 0 d p q) (meets-as a in-turn (passed-high p lt (subst (λ (j : ℕ). Passed q j) e h)));
+      mets = λ p lt e. once (λ d. Meets a turn d p q) (meets-as a in-turn (passed-high p lt (subst (λ (j : ℕ). Passed q j) e h)));
     }
 
     -- a run on through further passes
@@ -195,20 +188,20 @@ module _ (a : Automaton) (n : ℕ) (stem cycle : List ℕ) where
           run = subst (λ (c : ℕ). Leads a word c (f .start) q) z (leads-on a (λ i lt. later-word d i) (f .run) g);
         })
 
-    met-on : {p m q : ℕ} → (d : ℕ) × Meets a turn 0 (suc d * length cycle) p m → (e : ℕ) × Leads a turn (suc e * length cycle) m q → (e : ℕ) × Meets a turn 0 (suc e * length cycle) p q
-    met-on {p} {m} {q} (d, f) (e, g) = more (λ c. Meets a turn 0 c p q) d e (record {
+    met-on : {p m q : ℕ} → (d : ℕ) × Meets a turn (suc d * length cycle) p m → (e : ℕ) × Leads a turn (suc e * length cycle) m q → (e : ℕ) × Meets a turn (suc e * length cycle) p q
+    met-on {p} {m} {q} (d, f) (e, g) = more (λ c. Meets a turn c p q) d e (record {
       run = leads-on a (λ i lt. later d i) (f .run) g;
       index = f .index;
-      after = omega arith;
+      after = f .after;
       before = omega (arith, f .before);
       accepts = rw (on-early a (λ i lt. later d i) (f .run) g (f .index) (f .before)) (f .accepts);
     })
 
-    on-met : {p m q : ℕ} → (d : ℕ) × Leads a turn (suc d * length cycle) p m → (e : ℕ) × Meets a turn 0 (suc e * length cycle) m q → (e : ℕ) × Meets a turn 0 (suc e * length cycle) p q
-    on-met {p} {m} {q} (d, f) (e, g) = more (λ c. Meets a turn 0 c p q) d e (record {
+    on-met : {p m q : ℕ} → (d : ℕ) × Leads a turn (suc d * length cycle) p m → (e : ℕ) × Meets a turn (suc e * length cycle) m q → (e : ℕ) × Meets a turn (suc e * length cycle) p q
+    on-met {p} {m} {q} (d, f) (e, g) = more (λ c. Meets a turn c p q) d e (record {
       run = leads-on a (λ i lt. later d i) f (g .run);
       index = suc d * length cycle + g .index;
-      after = omega arith;
+      after = omega (arith, g .after);
       before = omega (arith, g .before);
       accepts = rw (on-late a (λ i lt. later d i) f (g .run) (g .index)) (g .accepts);
     })
@@ -239,7 +232,7 @@ module _ (a : Automaton) (n : ℕ) (stem cycle : List ℕ) where
     pub found-pass : (q : ℕ) → q < n → Linked n Passed q startBit → Linked n Passed q (metBit + q) → AcceptingPass a stem cycle
     found-pass q lt b h = made (means b .starts refl) (means h .mets q (omega arith) refl)
       where
-        made : (d : ℕ) × FromStart (suc d * length cycle) q → (e : ℕ) × Meets a turn 0 (suc e * length cycle) q q → AcceptingPass a stem cycle
+        made : (d : ℕ) × FromStart (suc d * length cycle) q → (e : ℕ) × Meets a turn (suc e * length cycle) q q → AcceptingPass a stem cycle
         made (d, f) (e, g) = record {
           at = whole .at;
           first = suc d;
@@ -265,21 +258,14 @@ module _ (a : Automaton) (n : ℕ) (stem cycle : List ℕ) where
     -- ---- runs are bits
 
     run-passed : {q : ℕ} (p : ℕ) → p < n → Leads a inCycle (length cycle) p q → Passed q p
-    run-passed p lt r = run-bits a inCycle Begun (length cycle) (inl (inr (lt, refl))) r
+    run-passed p lt r = run-bits a inCycle Begun (length cycle) (inr (lt, refl)) r
 
-    met-passed : {q : ℕ} (p : ℕ) → p < n → Meets a inCycle 0 (length cycle) p q → Passed q (metBit + p)
-    met-passed {q} p lt m = go (ℕ-discrete (m .index) 0)
-      where
-        go : Dec (m .index ≡ 0) → Passed q (metBit + p)
-        go (yes e) =
-            let acc : Accepts a p = subst (λ (t : ℕ). Accepts a t) (ap (m .run .at) e ∙ m .run .from) (m .accepts) in
-            run-bits a inCycle Begun (length cycle) {p = p} (inr (acc, record { low = p; half = omega arith; high = refl; held = inr (lt, refl) })) (m .run)
-        go (no e) =
-            met-bits a inCycle Begun (length cycle) {p = p} (omega arith) (inl (inr (lt, refl))) (record { run = m .run; index = m .index; after = omega arith; before = m .before; accepts = m .accepts })
+    met-passed : {q : ℕ} (p : ℕ) → p < n → Meets a inCycle (length cycle) p q → Passed q (metBit + p)
+    met-passed p lt m = met-bits a inCycle Begun (length cycle) (omega arith) (inr (lt, refl)) m
 
     start-passed : {m q : ℕ} (p : ℕ) → In p (a .initial) → Leads a inStem (length stem) p m → Leads a inCycle (length cycle) m q → Passed q startBit
     start-passed p h r t =
-        run-bits a inCycle Begun (length cycle) (inl (inl (run-bits a inStem Initial (length stem) (h, refl) r))) t
+        run-bits a inCycle Begun (length cycle) (inl (run-bits a inStem Initial (length stem) (h, refl) r)) t
 
     -- ---- an accepting pass shows in the bits
 
@@ -325,7 +311,7 @@ module _ (a : Automaton) (n : ℕ) (stem cycle : List ℕ) where
             (subst (λ (x : ℕ). Step a (pass .at (passAt e + i)) x (pass .at (suc (passAt e + i)))) (pass-letter e i l) (pass .steps (passAt e + i) (omega (arith, next e lt))));
       }
 
-      pass-met : (e i : ℕ) → e < pass .second → passAt e ≤ i → i ≤ passAt (suc e) → Accepts a (pass .at i) → Meets a inCycle 0 (length cycle) (state e) (state (suc e))
+      pass-met : (e i : ℕ) → e < pass .second → passAt e < i → i ≤ passAt (suc e) → Accepts a (pass .at i) → Meets a inCycle (length cycle) (state e) (state (suc e))
       unfolding pass-run
       pass-met e i lt lo hi acc =
           let z : i ≡ passAt e + (i - passAt e) = omega arith in
@@ -349,7 +335,7 @@ module _ (a : Automaton) (n : ℕ) (stem cycle : List ℕ) where
           let z : suc (pass .first + d) ≡ pass .first + suc d = omega arith in
           subst (λ (e : ℕ). Linked n Passed (state (suc e)) (state (pass .first))) z (through (suc (pass .first + d)) (state (pass .first)) (omega arith) (back d (omega arith)))
 
-      met : (d i : ℕ) → pass .first + d < pass .second → passAt (pass .first) ≤ i → i ≤ passAt (suc (pass .first + d)) → Accepts a (pass .at i)
+      met : (d i : ℕ) → pass .first + d < pass .second → passAt (pass .first) < i → i ≤ passAt (suc (pass .first + d)) → Accepts a (pass .at i)
           → Linked n Passed (state (suc (pass .first + d))) (metBit + state (pass .first))
       met zero i lt lo hi acc =
           let z : pass .first ≡ pass .first + 0 = omega arith in
@@ -374,14 +360,20 @@ module _ (a : Automaton) (n : ℕ) (stem cycle : List ℕ) where
       pub pass-passed : (q : ℕ) × Passed q startBit
       pass-passed = (state 1, start-passed (pass .at 0) (pass .begins) stem-run (pass-run 0 (omega (arith, pass .later))))
 
-      pub pass-found : (q : ℕ) × (q < n) × (Linked n Passed q startBit × Linked n Passed q (metBit + q))
-      pass-found = made (pass .accepts)
+      abbrev pub Found : Type 0
+      Found = (q : ℕ) × (q < n) × (Linked n Passed q startBit × Linked n Passed q (metBit + q))
+
+      pub pass-found : 0 < length cycle → Found
+      pass-found some =
+          let (i, lo, hi, acc) = pass .accepts in
+          made i lo hi acc (decLt (passAt (pass .first)) i)
         where
           z : suc (pass .first + (pass .second - suc (pass .first))) ≡ pass .second
           z = omega (arith, pass .later)
 
-          made : (i : ℕ) × (passAt (pass .first) ≤ i) × (i ≤ passAt (pass .second)) × Accepts a (pass .at i) → (q : ℕ) × (q < n) × (Linked n Passed q startBit × Linked n Passed q (metBit + q))
-          made (i, lo, hi, acc) = (
+          -- where the run accepts after it stood in the state for the first time
+          shown : (i : ℕ) → passAt (pass .first) < i → i ≤ passAt (pass .second) → Accepts a (pass .at i) → Found
+          shown i lo hi acc = (
             state (pass .second),
             state-inside (pass .second) (omega arith),
             (
@@ -390,3 +382,12 @@ module _ (a : Automaton) (n : ℕ) (stem cycle : List ℕ) where
                   (subst (λ (e : ℕ). Linked n Passed (state e) (metBit + state (pass .first))) z (met (pass .second - suc (pass .first)) i (omega (arith, pass .later)) lo (subst (λ (e : ℕ). i ≤ passAt e) (sym z) hi) acc)),
             ),
           )
+
+          -- or then: it stands there again
+          made : (i : ℕ) → passAt (pass .first) ≤ i → i ≤ passAt (pass .second) → Accepts a (pass .at i) → Dec (passAt (pass .first) < i) → Found
+          made i lo hi acc (yes lt) = shown i lt hi acc
+          made i lo hi acc (no ge) =
+              let e : i ≡ passAt (pass .first) = omega arith in
+              let le = mul-le-mul-right (length cycle) (pass .later) in
+              shown (passAt (pass .second)) (omega (arith, suc-mul (pass .first) (length cycle))) (omega arith)
+              (subst (λ (q : ℕ). Accepts a q) (ap (pass .at) e ∙ pass .same) acc)
