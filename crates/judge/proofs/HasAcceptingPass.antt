@@ -7,7 +7,7 @@ use mathlib.Core.List.{List}
 use mathlib.Core.Bool.{true, _&&_, and-eq-true-iff}
 use native.Mathlib.Omega.{arith}
 use native.Mathlib.Nat.{mul-le-mul-right, suc-mul}
-use native.Mathlib.Decide.{decLt}
+use native.Mathlib.Decide.{decLt, le-ind}
 use lib.ListN.{length}
 use Rattle.lasso.specs.Lasso.{letter}
 use Rattle.automaton.specs.Automaton.{Automaton, Step, Accepts, AcceptingPass}
@@ -181,18 +181,9 @@ module _ (a : Automaton) (range : InRange a) (stem cycle : List ℕ) (pos : 0 < 
 
     -- a search that meets one point of the run meets those after it
     module _ {P : Point → Type 0} {from points : List Point} (c : Reached a stem cycle P from points) where
-      taken-on : (d i : ℕ) → i + d ≤ high → In (here i) points → In (here (i + d)) points
-      taken-on zero i l h =
-          let z : i ≡ i + 0 = omega arith in
-          subst (λ (k : ℕ). In (here k) points) z h
-      taken-on (suc d) i l h =
-          let z : suc (i + d) ≡ i + suc d = omega arith in
-          subst (λ (k : ℕ). In (here k) points) z (c .closed (here (i + d)) (taken-on d i (omega arith) h) (here (suc (i + d))) (here-on (i + d) (omega arith)))
-
       taken-later : (i k : ℕ) → i ≤ k → k ≤ high → In (here i) points → In (here k) points
-      taken-later i k l m h =
-          let z : i + (k - i) ≡ k = omega arith in
-          subst (λ (j : ℕ). In (here j) points) z (taken-on (k - i) i (omega arith) h)
+      taken-later i k l m h = le-ind (λ j. j ≤ high → In (here j) points) (λ le. h)
+          (λ j lo ih le. c .closed (here j) (ih (omega arith)) (here (suc j)) (here-on j le)) k l m
 
     start-in : In (here 0) (starts a stem cycle)
     unfolding here onto starts

@@ -6,7 +6,7 @@ use mathlib.Core.List.{List}
 use mathlib.Core.Logic.{_⊎_, inl, inr}
 use native.Mathlib.Omega.{arith}
 use native.Mathlib.Nat.{mod-eq-of-lt, mul-add-mod-self-right, mul-le-mul-right, suc-mul}
-use native.Mathlib.Decide.{decLt}
+use native.Mathlib.Decide.{decLt, le-ind}
 use lib.ListN.{length, getD}
 use borrow.Author.Tests.{lt-ltb, le-ltb}
 use Rattle.lasso.specs.Lasso.{letter}
@@ -311,47 +311,54 @@ module _ (a : Automaton) (n : ℕ) (stem cycle : List ℕ) where
             (subst (λ (x : ℕ). Step a (pass .at (passAt e + i)) x (pass .at (suc (passAt e + i)))) (pass-letter e i l) (pass .steps (passAt e + i) (omega (arith, next e lt))));
       }
 
-      pass-met : (e i : ℕ) → e < pass .second → passAt e < i → i ≤ passAt (suc e) → Accepts a (pass .at i) → Meets a inCycle (length cycle) (state e) (state (suc e))
-      unfolding pass-run
-      pass-met e i lt lo hi acc =
-          let z : i ≡ passAt e + (i - passAt e) = omega arith in
-          record { run = pass-run e lt; index = i - passAt e; after = omega arith; before = omega arith; accepts = subst (λ (j : ℕ). Accepts a (pass .at j)) z acc }
+      -- runs over one pass, and from pass to pass
 
       link : (e : ℕ) → e < pass .second → Linked n Passed (state (suc e)) (state e)
       link e lt = one _ _ (run-passed (state e) (state-inside e (omega arith)) (pass-run e lt))
 
+      met-link : (e i : ℕ) → e < pass .second → passAt e < i → i ≤ passAt (suc e) → Accepts a (pass .at i)
+          → Linked n Passed (state (suc e)) (metBit + state e)
+      unfolding pass-run
+      met-link e i lt lo hi acc =
+          let z : i ≡ passAt e + (i - passAt e) = omega arith in
+          one _ _ (met-passed (state e) (state-inside e (omega arith)) (record {
+            run = pass-run e lt;
+            index = i - passAt e;
+            after = omega arith;
+            before = omega arith;
+            accepts = subst (λ (j : ℕ). Accepts a (pass .at j)) z acc;
+          }))
+
       through : (e k : ℕ) → e < pass .second → Linked n Passed (state e) k → Linked n Passed (state (suc e)) k
-      through e k lt h = join (state e) (state (suc e)) k (state-inside e (omega arith)) (state-inside (suc e) lt) (link e lt) h
+      through e k lt h =
+          join (state e) (state (suc e)) k (state-inside e (omega arith)) (state-inside (suc e) lt) (link e lt) h
 
-      reached : (e : ℕ) → e < pass .second → Linked n Passed (state (suc e)) startBit
-      reached zero lt = one _ _ (start-passed (pass .at 0) (pass .begins) stem-run (pass-run 0 lt))
-      reached (suc e) lt = through (suc e) startBit lt (reached e (omega arith))
+      reached : (e : ℕ) → 0 < e → e ≤ pass .second → Linked n Passed (state e) startBit
+      reached = le-ind (λ e. e ≤ pass .second → Linked n Passed (state e) startBit)
+          (λ le. one _ _ (start-passed (pass .at 0) (pass .begins) stem-run (pass-run 0 le)))
+          (λ e lo ih le. through e startBit le (ih (omega arith)))
 
-      back : (d : ℕ) → pass .first + d < pass .second → Linked n Passed (state (suc (pass .first + d))) (state (pass .first))
-      back zero lt =
-          let z : pass .first ≡ pass .first + 0 = omega arith in
-          subst (λ (e : ℕ). Linked n Passed (state (suc e)) (state (pass .first))) z (link (pass .first) (omega arith))
-      back (suc d) lt =
-          let z : suc (pass .first + d) ≡ pass .first + suc d = omega arith in
-          subst (λ (e : ℕ). Linked n Passed (state (suc e)) (state (pass .first))) z (through (suc (pass .first + d)) (state (pass .first)) (omega arith) (back d (omega arith)))
+      -- a run from the state where pass `first` begins to the one where pass e does, and one that has accepted by then
+      abbrev Round : ℕ → Type 0
+      Round e = e ≤ pass .second → Linked n Passed (state e) (state (pass .first))
+          × ((i : ℕ) → passAt (pass .first) < i → i ≤ passAt e → Accepts a (pass .at i)
+          → Linked n Passed (state e) (metBit + state (pass .first)))
 
-      met : (d i : ℕ) → pass .first + d < pass .second → passAt (pass .first) < i → i ≤ passAt (suc (pass .first + d)) → Accepts a (pass .at i)
-          → Linked n Passed (state (suc (pass .first + d))) (metBit + state (pass .first))
-      met zero i lt lo hi acc =
-          let z : pass .first ≡ pass .first + 0 = omega arith in
-          subst (λ (e : ℕ). Linked n Passed (state (suc e)) (metBit + state (pass .first))) z
-          (one _ _ (met-passed (state (pass .first)) (state-inside (pass .first) (omega arith)) (pass-met (pass .first) i (omega arith) lo (subst (λ (e : ℕ). i ≤ passAt (suc e)) (sym z) hi) acc)))
-      met (suc d) i lt lo hi acc = go (decLt (passAt (suc (pass .first + d))) i) (λ le. met d i (omega arith) lo le acc)
+      rounds : (e : ℕ) → pass .first < e → Round e
+      rounds = le-ind Round (λ le. (link (pass .first) le, λ i lo hi acc. met-link (pass .first) i le lo hi acc)) on
         where
-          z : suc (pass .first + d) ≡ pass .first + suc d
-          z = omega arith
-
-          go : Dec (passAt (suc (pass .first + d)) < i) → (i ≤ passAt (suc (pass .first + d)) → Linked n Passed (state (suc (pass .first + d))) (metBit + state (pass .first)))
-              → Linked n Passed (state (suc (pass .first + suc d))) (metBit + state (pass .first))
-          go (yes l) below = subst (λ (e : ℕ). Linked n Passed (state (suc e)) (metBit + state (pass .first))) z
-              (joinMet (state (suc (pass .first + d))) (state (suc (suc (pass .first + d)))) (state (pass .first)) (state-inside (suc (pass .first + d)) (omega arith)) (state-inside (suc (suc (pass .first + d))) (omega arith)) (omega (arith, state-inside (pass .first) (omega arith)))
-              (one _ _ (met-passed (state (suc (pass .first + d))) (state-inside (suc (pass .first + d)) (omega arith)) (pass-met (suc (pass .first + d)) i (omega arith) (omega arith) (subst (λ (e : ℕ). i ≤ passAt (suc e)) (sym z) hi) acc))) (back d (omega arith)))
-          go (no l) below = subst (λ (e : ℕ). Linked n Passed (state (suc e)) (metBit + state (pass .first))) z (through (suc (pass .first + d)) (metBit + state (pass .first)) (omega arith) (below (omega arith)))
+          on : (e : ℕ) → pass .first < e → Round e → Round (suc e)
+          on e lo ih le = (
+            through e (state (pass .first)) le (ih (omega arith) .0),
+            λ i l h acc. pick i l h acc (decLt (passAt e) i),
+          )
+            where
+              pick : (i : ℕ) → passAt (pass .first) < i → i ≤ passAt (suc e) → Accepts a (pass .at i) → Dec (passAt e < i)
+                  → Linked n Passed (state (suc e)) (metBit + state (pass .first))
+              pick i l h acc (yes lt) =
+                  joinMet (state e) (state (suc e)) (state (pass .first)) (state-inside e (omega arith)) (state-inside (suc e) le)
+                  (omega (arith, state-inside (pass .first) (omega arith))) (met-link e i le lt h acc) (ih (omega arith) .0)
+              pick i l h acc (no ge) = through e _ le (ih (omega arith) .1 i l (omega arith) acc)
 
       -- its run shows after the stem, and after the first pass
       pub pass-stemmed : (q : ℕ) × Stemmed q startBit
@@ -368,18 +375,15 @@ module _ (a : Automaton) (n : ℕ) (stem cycle : List ℕ) where
           let (i, lo, hi, acc) = pass .accepts in
           made i lo hi acc (decLt (passAt (pass .first)) i)
         where
-          z : suc (pass .first + (pass .second - suc (pass .first))) ≡ pass .second
-          z = omega (arith, pass .later)
-
           -- where the run accepts after it stood in the state for the first time
           shown : (i : ℕ) → passAt (pass .first) < i → i ≤ passAt (pass .second) → Accepts a (pass .at i) → Found
           shown i lo hi acc = (
             state (pass .second),
             state-inside (pass .second) (omega arith),
             (
-              subst (λ (e : ℕ). Linked n Passed (state e) startBit) z (reached (pass .first + (pass .second - suc (pass .first))) (omega (arith, pass .later))),
+              reached (pass .second) (omega (arith, pass .later)) (omega arith),
               subst (λ (q : ℕ). Linked n Passed (state (pass .second)) (metBit + q)) (pass .same)
-                  (subst (λ (e : ℕ). Linked n Passed (state e) (metBit + state (pass .first))) z (met (pass .second - suc (pass .first)) i (omega (arith, pass .later)) lo (subst (λ (e : ℕ). i ≤ passAt e) (sym z) hi) acc)),
+                  (rounds (pass .second) (pass .later) (omega arith) .1 i lo hi acc),
             ),
           )
 
