@@ -31,41 +31,40 @@ reads-so {r} e f = sym e ∙ not-false r f
 
 -- ---- all records of a state
 
-module _ (image : List ℕ) (rows : List ℕ) (q x : ℕ) where
-  abbrev pub ByRecords : (at i t k : ℕ) → Type 0
-  ByRecords at i t k = ByRecord image (at + 4 * i) x (Token rows) q t k
+abbrev pub ByRecords : (image rows : List ℕ) (q x at i t k : ℕ) → Type 0
+ByRecords image rows q x at i t k = ByRecord image (at + 4 * i) x (Token rows) q t k
 
-  pub all-records : (before after : List ℕ) (at n : ℕ) → q < countsAt image .states → at ≡ recordsAt image q → n ≡ transitionCountOf image q
-      → Gains before after (λ t k. (i : ℕ) × (i < n) × ByRecords at i t k) → Gains before after (λ t k. Step (imageAutomaton image) q x t × Token rows q k)
-  all-records before after at n lq ea en adds = adds-as adds to from
-    where
-      to : (t k : ℕ) → ((i : ℕ) × (i < n) × ByRecords at i t k) → Step (imageAutomaton image) q x t × Token rows q k
-      to t k (i, lt, (r, (e, h))) = (
-        taken-step image q x t lq (record { index = i; below = rw en at lt; takes = rw ea at r; reaches = rw ea at e }),
-        h,
-      )
-
-      from : (t k : ℕ) → Step (imageAutomaton image) q x t × Token rows q k → (i : ℕ) × (i < n) × ByRecords at i t k
-      from t k (s, h) =
-          let d = step-taken image q x t s in
-          (d .index, rw en (d .below), (rw ea (d .takes), (rw ea (d .reaches), h)))
-
-  pub records-next : (at n : ℕ) → at ≡ recordsAt image q → n ≡ transitionCountOf image q → at + 4 * n ≡ recordsAt image (q + 1)
+module _ (image : List ℕ) (q : ℕ) {at n : ℕ} (ea : at ≡ recordsAt image q) (en : n ≡ transitionCountOf image q) where
+  pub records-next : at + 4 * n ≡ recordsAt image (q + 1)
   unfolding countSum
-  records-next at n ea en =
+  records-next =
       let e : n ≡ numberAt (drop contentsBytes image) (4 * q) = en ∙ sym (number-drop contentsBytes image (4 * q)) in
       rw (add-one q) (omega arith)
 
-  -- where record i of state q lies, and where it leads
-  pub transition-fits : Readable image → (at n i : ℕ) → q < countsAt image .states → at ≡ recordsAt image q
-      → n ≡ transitionCountOf image q → i < n → (at + 4 * i + 3 < length image) × (numberAt image (at + 4 * i + 2) < maxStates)
-  transition-fits fine at n i lq ea en lt =
-      let e = records-end image fine q lq in
-      let t = target-inside image fine q i lq (rw en at lt) in
-      (omega arith, rw ea (omega (arith, fine .few)))
+  module _ (lq : q < countsAt image .states) where
+    pub all-records : {rows before after : List ℕ} (x : ℕ)
+        → Gains before after (λ t k. (i : ℕ) × (i < n) × ByRecords image rows q x at i t k)
+        → Gains before after (λ t k. Step (imageAutomaton image) q x t × Token rows q k)
+    all-records {rows} x adds = adds-as adds to from
+      where
+        to : (t k : ℕ) → (i : ℕ) × (i < n) × ByRecords image rows q x at i t k → Step (imageAutomaton image) q x t × Token rows q k
+        to t k (i, lt, (r, (e, h))) = (
+          taken-step image q x t lq (record { index = i; below = rw en at lt; takes = rw ea at r; reaches = rw ea at e }),
+          h,
+        )
 
-  pub records-fit : Readable image → (at n : ℕ) → q < countsAt image .states → at ≡ recordsAt image q → n ≡ transitionCountOf image q → at + 4 * n ≤ length image
-  records-fit fine at n lq ea en = rw (ea, en) (records-end image fine q lq)
+        from : (t k : ℕ) → Step (imageAutomaton image) q x t × Token rows q k → (i : ℕ) × (i < n) × ByRecords image rows q x at i t k
+        from t k (s, h) =
+            let d = step-taken image q x t s in
+            (d .index, rw en (d .below), (rw ea (d .takes), (rw ea (d .reaches), h)))
+
+    -- where the records of state q lie, and where record i leads
+    module _ (fine : Readable image) where
+      pub records-fit : at + 4 * n ≤ length image
+      records-fit = rw (ea, en) (records-end image fine q lq)
+
+      pub target-fits : (i : ℕ) → i < n → numberAt image (at + 4 * i + 2) < maxStates
+      target-fits i lt = rw ea (omega (arith, fine .few, target-inside image fine q i lq (rw en at lt)))
 
 -- ---- all states
 

@@ -5,7 +5,7 @@ use native.Mathlib.Omega.{arith}
 use Prim.Native.Nat.{_+_, _-_, _*_, _≤_}
 use lib.ListN.{length}
 use Rattle.judge.proofs.Gathers.{Gathering, gather-begins, gather-steps, gather-ends}
-use Rattle.judge.proofs.Turns.{ByRecords, all-records, transition-fits, records-fit}
+use Rattle.judge.proofs.Turns.{ByRecords, all-records, target-fits, records-fit}
 use Rattle.judge.proofs.take_transitions.Statement.{statement}
 use Rattle.judge.proofs.take_transitions.Tie as tie
 
@@ -18,8 +18,7 @@ abbrev μ-loop : tie.MeasureT-loop
 
 -- the records of the state lie within the image
 records-inside : (c : tie.Start Inv-loop μ-loop) → c .args .at + 4 * c .args .count ≤ length (c .args .image .now)
-records-inside c =
-    records-fit _ (c .args .rows .now) (c .args .q) (c .args .letter) (c .pre .0) _ _ (c .pre .1) (c .pre .2) (c .pre .3)
+records-inside c = records-fit _ (c .args .q) (c .pre .2) (c .pre .3) (c .pre .1) (c .pre .0)
 
 loop-holds : tie.Need-loop-holds Inv-loop μ-loop
 loop-holds c = gather-begins _ _ _
@@ -34,8 +33,8 @@ take-transition-requires : tie.Need-take-transition-requires Inv-loop μ-loop
 take-transition-requires c κs =
     let at = c .before .before in
     let s = at .before .before in
-    let fits = transition-fits _ (s .args .rows .now) (s .args .q) (s .args .letter) (s .pre .0) _ _ (at .loop .i) (s .pre .1) (s .pre .2) (s .pre .3) (omega arith) in
-    (fits .0, omega arith, fits .1)
+    let inside = records-inside s in
+    (omega arith, omega arith, target-fits _ (s .args .q) (s .pre .2) (s .pre .3) (s .pre .1) (s .pre .0) (at .loop .i) (omega arith))
 
 add-i : tie.Need-add-i Inv-loop μ-loop
 add-i c = search needs
@@ -51,7 +50,7 @@ loop-again c =
 returns : tie.Need-returns Inv-loop μ-loop
 returns c =
     let s = c .before .before .before in
-    all-records (s .args .image .now) (s .args .rows .now) _ _ _ _ _ _ (s .pre .1) (s .pre .2) (s .pre .3)
+    all-records (s .args .image .now) (s .args .q) (s .pre .2) (s .pre .3) (s .pre .1) (s .args .letter)
     (gather-ends _ _ _ _ (c .before .loop .i) (omega arith) (c .before .loop .inv))
 
 pub take-transitions-spec : {M : Type 1} → statement M
