@@ -41,20 +41,26 @@ is-linked n p is = record {
   all = λ q k h. is .all q k (linked-map n (p .all) h);
 }
 
-module _ (a : Automaton) (n : ℕ) (stem cycle : List ℕ) (few : n ≤ maxStates)
-    (inside : (q x t : ℕ) → Step a q x t → t < n) (initial : (q : ℕ) → In q (a .initial) → q < n)
+-- n counts the states, and the automaton's numbers are among them
+pub record Counted (a : Automaton) (n : ℕ) : Type 0 where
+  pub few : n ≤ maxStates
+  pub inside : (q x t : ℕ) → Step a q x t → t < n
+  pub initial : (q : ℕ) → In q (a .initial) → q < n
+
+module _ {a : Automaton} {n : ℕ} (counted : Counted a n) (stem cycle : List ℕ)
     {r1 : List ℕ} (starts : Gains (replicate rowsWords 0) r1 (Initial a n stem cycle)) where
   -- no row behind the first n has a bit
   pub starts-confined : Confined n r1
-  starts-confined q k h = initial q (is-initial rowsWords starts .only q k h .0)
+  starts-confined q k h = counted .initial q (is-initial rowsWords starts .only q k h .0)
 
   -- no run from an initial state is left after the stem
   pub lost-in-stem : ((q : ℕ) → AfterAll a stem (Token r1) q startBit → ⊥) → Tells false (AcceptingPass a stem cycle)
   lost-in-stem lost = holds-not (λ pass.
-      let h = pass-stemmed a n stem cycle few inside initial pass in
+      let h = pass-stemmed a n stem cycle (counted .few) (counted .inside) (counted .initial) pass in
       lost (h .0) (after-map a (λ i. getD stem i 0) (is-initial rowsWords starts .all) (length stem) (h .0) startBit (h .1)))
 
-  module _ {r2 r3 : List ℕ} (stemmed : Is r2 (AfterAll a stem (Token r1))) (begun : Gains r2 r3 (λ q k. (q < n) × (k ≡ q))) where
+  module _ {r2 : List ℕ} (stemmed : Is r2 (AfterAll a stem (Token r1)))
+      {r3 : List ℕ} (begun : Gains r2 r3 (λ q k. (q < n) × (k ≡ q))) where
     is-begun : Is r3 (Begun a n stem cycle)
     is-begun =
         let is = is-after a stem (is-initial rowsWords starts) stemmed in
@@ -64,14 +70,16 @@ module _ (a : Automaton) (n : ℕ) (stem cycle : List ℕ) (few : n ≤ maxState
         }
 
     pub begun-confined : Confined n r3
-    begun-confined q k h = ⊎-elim
-        (λ t. after-inside a (λ i. getD stem i 0) inside starts-confined (length stem) q k (stemmed .only q k t)) (λ b. b .0)
-        (begun .only q k h)
+    begun-confined q k h = ⊎-elim (λ t. old (stemmed .only q k t)) (λ b. b .0) (begun .only q k h)
+      where
+        old : AfterAll a stem (Token r1) q k → q < n
+        old = after-inside a (λ i. getD stem i 0) (counted .inside) starts-confined (length stem) q k
 
     -- nor after the first pass
-    pub lost-in-cycle : ((q : ℕ) → AfterAll a cycle (Token r3) q startBit → ⊥) → Tells false (AcceptingPass a stem cycle)
+    pub lost-in-cycle : ((q : ℕ) → AfterAll a cycle (Token r3) q startBit → ⊥)
+        → Tells false (AcceptingPass a stem cycle)
     lost-in-cycle lost = holds-not (λ pass.
-        let h = pass-passed a n stem cycle few inside initial pass in
+        let h = pass-passed a n stem cycle (counted .few) (counted .inside) (counted .initial) pass in
         lost (h .0) (after-map a (λ i. getD cycle i 0) (is-begun .all) (length cycle) (h .0) startBit (h .1)))
 
     module _ {r4 : List ℕ} (passed : Is r4 (AfterAll a cycle (Token r3))) where
@@ -79,24 +87,22 @@ module _ (a : Automaton) (n : ℕ) (stem cycle : List ℕ) (few : n ≤ maxState
       is-passed = is-after a cycle is-begun passed
 
       pub rows-covered : Covered r4
-      rows-covered q k lt h = is-passed .all q k (passed-covered a n stem cycle few q k lt (is-passed .only q (metBit + k) h))
+      rows-covered q k lt h =
+          is-passed .all q k (passed-covered a n stem cycle (counted .few) q k lt (is-passed .only q (metBit + k) h))
 
-      pub verdict : 0 < length cycle → {r : Bool} {r5 : List ℕ} → Is r5 (Linked n (Token r4)) → Tells r (SomeStarted true n r5)
-          → Tells r (AcceptingPass a stem cycle)
+      pub verdict : 0 < length cycle → {r : Bool} {r5 : List ℕ} → Is r5 (Linked n (Token r4))
+          → Tells r (SomeStarted true n r5) → Tells r (AcceptingPass a stem cycle)
       verdict some {r} {r5} closed found = record {
-        yes = λ e. kept (found .yes e);
-        no = λ e pass. found .no e (shown (pass-found a n stem cycle few inside initial pass some));
+        yes = λ e.
+            let (q, lt, (b, h)) = found .yes e in
+            found-pass a n stem cycle (counted .few) q lt (rows .only q startBit b) (rows .only q (metBit + q) h);
+        no = λ e pass.
+            let (q, lt, (b, h)) = pass-found a n stem cycle (counted .few) (counted .inside) (counted .initial) pass some in
+            found .no e (q, lt, (rows .all q startBit b, rows .all q (metBit + q) h));
       }
         where
           rows : Is r5 (Linked n (Passed a n stem cycle))
           rows = is-linked n is-passed closed
-
-          kept : SomeStarted true n r5 → AcceptingPass a stem cycle
-          kept (q, lt, (b, h)) = found-pass a n stem cycle few q lt (rows .only q startBit b) (rows .only q (metBit + q) h)
-
-          shown : (q : ℕ) × (q < n) × (Linked n (Passed a n stem cycle) q startBit × Linked n (Passed a n stem cycle) q (metBit + q))
-              → SomeStarted true n r5
-          shown (q, lt, (b, h)) = (q, lt, (rows .all q startBit b, rows .all q (metBit + q) h))
 
 -- no state accepts
 pub never-accepts : (a : Automaton) (stem cycle : List ℕ) → ((q : ℕ) → Accepts a q → ⊥) → Tells false (AcceptingPass a stem cycle)
