@@ -52,7 +52,12 @@ module _ (a : Automaton) (w : ℕ → ℕ) (Held : (q k : ℕ) → Type 0) where
       here : Arrived d p k → ArrivedMet (suc d) q j
       here m =
           let f : k ≡ j = omega arith in
-          record { start = m .start; held = subst (λ (i : ℕ). Held (m .start) i) f (m .held); run = meets-here a (m .run) s acc }
+          record {
+            start =
+                m .start;
+            held = subst (λ (i : ℕ). Held (m .start) i) f (m .held);
+            run = meets-here a (m .run) s acc;
+          }
 
   -- ---- a run is a bit
 

@@ -43,7 +43,8 @@ module _ {x via : List ℕ} (q m : ℕ) where
   module _ (b : Token x q m) {y : List ℕ} (row : Gains x y (λ p k. (p ≡ q) × Token via 0 k)) where
     pub join-run : (Token x q (metBit + m) → ⊥) → Gains x y (λ p k. (p ≡ q) × Via x via m q k)
     join-run none =
-        adds-as row (λ p k h. (h .0, inl (b, h .1))) (λ p k h. (h .0, ⊎-elim (λ v. v .1) (λ v. absurd (none (v .0))) (h .1)))
+        adds-as row (λ p k h. (h .0, inl (b, h .1)))
+        (λ p k h. (h .0, ⊎-elim (λ v. v .1) (λ v. absurd (none (v .0))) (h .1)))
 
     pub join-met : Token x q (metBit + m) → {z : List ℕ} → Gains y z (λ p k. (p ≡ q) × Lifted (Token via) 0 k)
         → Gains x z (λ p k. (p ≡ q) × Via x via m q k)
@@ -221,7 +222,8 @@ module _ (n m : ℕ) (few : n ≤ maxStates) (lm : m < n) {y z : List ℕ} (adds
           let e : l .low ≡ k = omega (arith, l .high) in
           rw e at (l .held)
 
-      cover : (q k : ℕ) → k < metBit → Token y q (metBit + k) ⊎ ((q < n) × Joined (Token y) m q (metBit + k)) → Token z q k
+      cover : (q k : ℕ) → k < metBit → Token y q (metBit + k) ⊎ ((q < n) × Joined (Token y) m q (metBit + k))
+          → Token z q k
       cover q k lt (inl h) = old (inv .covered q k lt h)
       cover q k lt (inr (lq, both b h)) = new lq (both b (inv .covered m k lt h))
       cover q k lt (inr (lq, met b l)) = new lq (both (inv .covered q m (omega arith) b) (on k l))

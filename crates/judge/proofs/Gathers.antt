@@ -22,7 +22,8 @@ pub adds-none : {x : List ℕ} {New : (q k : ℕ) → Type 0} → ((q k : ℕ) �
 adds-none none = record { only = λ q k h. inl h; all = λ q k h. ⊎-elim (λ h. h) (λ h. absurd (none q k h)) h }
 
 -- one thing, and then another
-pub adds-both : {x y z : List ℕ} {P Q : (q k : ℕ) → Type 0} → Gains x y P → Gains y z Q → Gains x z (λ q k. P q k ⊎ Q q k)
+pub adds-both : {x y z : List ℕ} {P Q : (q k : ℕ) → Type 0} → Gains x y P → Gains y z Q
+    → Gains x z (λ q k. P q k ⊎ Q q k)
 adds-both {x} {y} {z} {P} {Q} first second = record {
   only = λ q k h. ⊎-elim (λ h. ⊎-map (λ h. h) inl (first .only q k h)) (λ n. inr (inr n)) (second .only q k h);
   all = λ q k h. all q k h;
@@ -62,7 +63,8 @@ module _ (x : List ℕ) (New : (i q k : ℕ) → Type 0) (n : ℕ) where
   gather-steps y z i lt inv adds = record {
     within = omega arith;
     gathered = record {
-      only = λ q k h. ⊎-elim (λ h. old q k (inv .gathered .only q k h)) (λ h. inr (i, omega arith, h)) (adds .only q k h);
+      only = λ q k h. ⊎-elim (λ h. old q k (inv .gathered .only q k h)) (λ h. inr (i, omega arith, h))
+          (adds .only q k h);
       all = λ q k h. adds .all q k (all q k h);
     };
   }

@@ -25,7 +25,8 @@ module _ (a : Automaton) (x : ℕ) where
     pub stepped : {copied after : List ℕ} → ((p q : ℕ) → Step a p x q → p < n) → Is copied (Token next)
         → Gains copied after (λ q k. Accepts a q × Lifted (Token next) q k) → Is after (Moved a x (Token rows))
     stepped {copied} {after} inside copy lift = record {
-      only = λ q k h. ⊎-elim (λ t. move q k (copy .only q k t)) (λ (l : Accepts a q × Lifted (Token next) q k). raise q k (l .0) (l .1)) (lift .only q k h);
+      only = λ q k h. ⊎-elim (λ t. move q k (copy .only q k t))
+          (λ (l : Accepts a q × Lifted (Token next) q k). raise q k (l .0) (l .1)) (lift .only q k h);
       all = λ q k h. all h;
     }
       where
@@ -42,7 +43,8 @@ module _ (a : Automaton) (x : ℕ) where
 
         all : {q k : ℕ} → Moved a x (Token rows) q k → Token after q k
         all (moved p q k h s) = lift .all q k (inl (copy .all q k (new h s)))
-        all (lifted p q j lt h s acc) = lift .all q (metBit + j) (inr (acc, record { low = j; half = lt; high = refl; held = new h s }))
+        all (lifted p q j lt h s acc) =
+            lift .all q (metBit + j) (inr (acc, record { low = j; half = lt; high = refl; held = new h s }))
 
     -- no run stands behind the n states
     pub taken-confined : ((p q : ℕ) → Step a p x q → q < n) → Confined n next
@@ -133,7 +135,8 @@ module _ (a : Automaton) (n : ℕ) (word before : List ℕ) where
         → Ran false y (After a (λ j. getD word j 0) (Token before) (length word))
     run-stops none = record {
       on = λ t. false-true t;
-      lost = λ t. lost-later a (λ j. getD word j 0) (Token before) i (λ q h. left q (inv .bits .all q startBit h)) (length word) (inv .within);
+      lost = λ t. lost-later a (λ j. getD word j 0) (Token before) i (λ q h. left q (inv .bits .all q startBit h))
+          (length word) (inv .within);
     }
       where
         left : (q : ℕ) → Token y q startBit → ⊥

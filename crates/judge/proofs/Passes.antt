@@ -107,7 +107,8 @@ module _ (a : Automaton) (n : ℕ) (stem cycle : List ℕ) where
     passed-covered = after-covered a inCycle begun (length cycle)
       where
         begun : (q k : ℕ) → k < metBit → Begun q (metBit + k) → Begun q k
-        begun q k lt (inl h) = inl (after-covered a inStem (λ p j lj (h, e). absurd (omega arith)) (length stem) q k lt h)
+        begun q k lt (inl h) =
+            inl (after-covered a inStem (λ p j lj (h, e). absurd (omega arith)) (length stem) q k lt h)
         begun q k lt (inr (l, e)) = absurd (omega arith)
 
     passed-low : {q p : ℕ} → p < maxStates → Passed q p → Leads a inCycle (length cycle) p q
@@ -118,9 +119,11 @@ module _ (a : Automaton) (n : ℕ) (stem cycle : List ℕ) where
     passed-high : {q : ℕ} (p : ℕ) → p < maxStates → Passed q (metBit + p) → Meets a inCycle (length cycle) p q
     passed-high {q} p lt h = go (high-runs a inCycle Begun (length cycle) p (omega arith) refl h)
       where
-        go : Arrived a inCycle Begun (length cycle) q (metBit + p) ⊎ ArrivedMet a inCycle Begun (length cycle) q p → Meets a inCycle (length cycle) p q
+        go : Arrived a inCycle Begun (length cycle) q (metBit + p) ⊎ ArrivedMet a inCycle Begun (length cycle) q p
+            → Meets a inCycle (length cycle) p q
         go (inl m) = absurd (begun-high (m .start) p lt (m .held))
-        go (inr m) = subst (λ (s : ℕ). Meets a inCycle (length cycle) s q) (begun-low (m .start) p lt (m .held)) (m .run)
+        go (inr m) =
+            subst (λ (s : ℕ). Meets a inCycle (length cycle) s q) (begun-low (m .start) p lt (m .held)) (m .run)
 
     passed-start : {q : ℕ} → Passed q startBit → FromStart (length cycle) q
     passed-start {q} h = go (m .held)
@@ -164,7 +167,8 @@ module _ (a : Automaton) (n : ℕ) (stem cycle : List ℕ) where
     means-one q k h = record {
       runs = λ lt. once (λ d. Leads a turn d k q) (leads-as a in-turn (passed-low lt h));
       starts = λ e. once (λ d. FromStart d q) (passed-start (subst (λ (j : ℕ). Passed q j) e h));
-      mets = λ p lt e. once (λ d. Meets a turn d p q) (meets-as a in-turn (passed-high p lt (subst (λ (j : ℕ). Passed q j) e h)));
+      mets = λ p lt e. once (λ d. Meets a turn d p q)
+          (meets-as a in-turn (passed-high p lt (subst (λ (j : ℕ). Passed q j) e h)));
     }
 
     -- a run on through further passes
@@ -188,7 +192,8 @@ module _ (a : Automaton) (n : ℕ) (stem cycle : List ℕ) where
           run = subst (λ (c : ℕ). Leads a word c (f .start) q) z (leads-on a (λ i lt. later-word d i) (f .run) g);
         })
 
-    met-on : {p m q : ℕ} → (d : ℕ) × Meets a turn (suc d * length cycle) p m → (e : ℕ) × Leads a turn (suc e * length cycle) m q → (e : ℕ) × Meets a turn (suc e * length cycle) p q
+    met-on : {p m q : ℕ} → (d : ℕ) × Meets a turn (suc d * length cycle) p m
+        → (e : ℕ) × Leads a turn (suc e * length cycle) m q → (e : ℕ) × Meets a turn (suc e * length cycle) p q
     met-on {p} {m} {q} (d, f) (e, g) = more (λ c. Meets a turn c p q) d e (record {
       run = leads-on a (λ i lt. later d i) (f .run) g;
       index = f .index;
@@ -197,7 +202,8 @@ module _ (a : Automaton) (n : ℕ) (stem cycle : List ℕ) where
       accepts = rw (on-early a (λ i lt. later d i) (f .run) g (f .index) (f .before)) (f .accepts);
     })
 
-    on-met : {p m q : ℕ} → (d : ℕ) × Leads a turn (suc d * length cycle) p m → (e : ℕ) × Meets a turn (suc e * length cycle) m q → (e : ℕ) × Meets a turn (suc e * length cycle) p q
+    on-met : {p m q : ℕ} → (d : ℕ) × Leads a turn (suc d * length cycle) p m
+        → (e : ℕ) × Meets a turn (suc e * length cycle) m q → (e : ℕ) × Meets a turn (suc e * length cycle) p q
     on-met {p} {m} {q} (d, f) (e, g) = more (λ c. Meets a turn c p q) d e (record {
       run = leads-on a (λ i lt. later d i) f (g .run);
       index = suc d * length cycle + g .index;
@@ -232,7 +238,8 @@ module _ (a : Automaton) (n : ℕ) (stem cycle : List ℕ) where
     pub found-pass : (q : ℕ) → q < n → Linked n Passed q startBit → Linked n Passed q (metBit + q) → AcceptingPass a stem cycle
     found-pass q lt b h = made (means b .starts refl) (means h .mets q (omega arith) refl)
       where
-        made : (d : ℕ) × FromStart (suc d * length cycle) q → (e : ℕ) × Meets a turn (suc e * length cycle) q q → AcceptingPass a stem cycle
+        made : (d : ℕ) × FromStart (suc d * length cycle) q → (e : ℕ) × Meets a turn (suc e * length cycle) q q
+            → AcceptingPass a stem cycle
         made (d, f) (e, g) = record {
           at = whole .at;
           first = suc d;
@@ -353,11 +360,14 @@ module _ (a : Automaton) (n : ℕ) (stem cycle : List ℕ) where
             λ i l h acc. pick i l h acc (decLt (passAt e) i),
           )
             where
-              pick : (i : ℕ) → passAt (pass .first) < i → i ≤ passAt (suc e) → Accepts a (pass .at i) → Dec (passAt e < i)
+              pick : (i : ℕ) → passAt (pass .first) < i → i ≤ passAt (suc e) → Accepts a (pass .at i)
+                  → Dec (passAt e < i)
                   → Linked n Passed (state (suc e)) (metBit + state (pass .first))
               pick i l h acc (yes lt) =
-                  joinMet (state e) (state (suc e)) (state (pass .first)) (state-inside e (omega arith)) (state-inside (suc e) le)
-                  (omega (arith, state-inside (pass .first) (omega arith))) (met-link e i le lt h acc) (ih (omega arith) .0)
+                  joinMet (state e) (state (suc e)) (state (pass .first)) (state-inside e (omega arith))
+                  (state-inside (suc e) le)
+                  (omega (arith, state-inside (pass .first) (omega arith))) (met-link e i le lt h acc)
+                  (ih (omega arith) .0)
               pick i l h acc (no ge) = through e _ le (ih (omega arith) .1 i l (omega arith) acc)
 
       -- its run shows after the stem, and after the first pass
@@ -388,7 +398,8 @@ module _ (a : Automaton) (n : ℕ) (stem cycle : List ℕ) where
           )
 
           -- or then: it stands there again
-          made : (i : ℕ) → passAt (pass .first) ≤ i → i ≤ passAt (pass .second) → Accepts a (pass .at i) → Dec (passAt (pass .first) < i) → Found
+          made : (i : ℕ) → passAt (pass .first) ≤ i → i ≤ passAt (pass .second) → Accepts a (pass .at i)
+              → Dec (passAt (pass .first) < i) → Found
           made i lo hi acc (yes lt) = shown i lt hi acc
           made i lo hi acc (no ge) =
               let e : i ≡ passAt (pass .first) = omega arith in

@@ -59,14 +59,16 @@ module _ (x : List ℕ) (a : ℕ) (from : List ℕ) (b n : ℕ) where
       rw e at (inv .ored)
 
 -- a bit of a word that is the same in both lists
-same-token : {x y : List ℕ} {q k : ℕ} → getD x (4 * q + k / 64) 0 ≡ getD y (4 * q + k / 64) 0 → Token x q k → Token y q k
+same-token : {x y : List ℕ} {q k : ℕ} → getD x (4 * q + k / 64) 0 ≡ getD y (4 * q + k / 64) 0 → Token x q k
+    → Token y q k
 same-token {x} {y} {q} {k} e h = record { within = h .within; bit = subst (λ (d : ℕ). Has d (k % 64)) e (h .bit) }
 
 -- and of one that is joined with another word
 module _ (x y : List ℕ) (q k w : ℕ) (e : getD y (4 * q + k / 64) 0 ≡ bitOr (getD x (4 * q + k / 64) 0) w) where
   joined-only : Token y q k → Token x q k ⊎ Has w (k % 64)
   joined-only h =
-      ⊎-map (λ b. record { within = h .within; bit = b }) (λ b. b) (or-has _ w (k % 64) (subst (λ (d : ℕ). Has d (k % 64)) e (h .bit)))
+      ⊎-map (λ b. record { within = h .within; bit = b }) (λ b. b)
+      (or-has _ w (k % 64) (subst (λ (d : ℕ). Has d (k % 64)) e (h .bit)))
 
   joined-old : Token x q k → Token y q k
   joined-old h = record { within = h .within; bit = rw e (has-or-l _ w (k % 64) (h .bit)) }
@@ -95,7 +97,9 @@ module _ (x from y : List ℕ) (t q : ℕ) where
       other r k e w = o .outside (4 * r + k / 64) (apart r t k w e)
 
       only : (r k : ℕ) → Token y r k → Dec (r ≡ t) → Token x r k ⊎ ((r ≡ t) × Token from q k)
-      only r k h (yes e) = ⊎-map (λ b. b) (λ b. (e, record { within = h .within; bit = b })) (joined-only x y r k _ (word r k e (h .within)) h)
+      only r k h (yes e) =
+          ⊎-map (λ b. b) (λ b. (e, record { within = h .within; bit = b }))
+          (joined-only x y r k _ (word r k e (h .within)) h)
       only r k h (no e) = inl (same-token (other r k e (h .within)) h)
 
       all : (r k : ℕ) → Token x r k ⊎ ((r ≡ t) × Token from q k) → Dec (r ≡ t) → Token y r k
@@ -126,7 +130,8 @@ module _ (x from y : List ℕ) (t q : ℕ) where
           go : Dec (r ≡ t) → Dec (k < metBit) → Joins r k ⊎ Stays r k
           go (yes e) (yes l) = inr (o .outside (4 * r + k / 64) (inl (omega arith)))
           go (yes e) (no l) = inl (joins r k w e (omega arith))
-          go (no e) d = inr (o .outside (4 * r + k / 64) (⊎-map (λ l. omega arith) (λ l. omega arith) (apart r t k w e)))
+          go (no e) d =
+              inr (o .outside (4 * r + k / 64) (⊎-map (λ l. omega arith) (λ l. omega arith) (apart r t k w e)))
 
       only : (r k : ℕ) → Token y r k → Joins r k ⊎ Stays r k → Token x r k ⊎ ((r ≡ t) × Lifted (Token from) q k)
       only r k h (inr e) = inl (same-token e h)
@@ -136,10 +141,18 @@ module _ (x from y : List ℕ) (t q : ℕ) where
           made b =
               let w = h .within in
               let m : k % 64 ≡ (k - metBit) % 64 = omega arith in
-              record { low = k - metBit; half = omega arith; high = omega arith; held = record { within = omega arith; bit = rw m at b } }
+              record {
+                low =
+                    k - metBit;
+                half =
+                    omega arith;
+                high = omega arith;
+                held = record { within = omega arith; bit = rw m at b };
+              }
 
       all : (r k : ℕ) → Token x r k ⊎ ((r ≡ t) × Lifted (Token from) q k) → Token y r k
-      all r k (inl h) = ⊎-elim (λ (j : Joins r k). joined-old x y r k _ (j .2) h) (λ e. same-token (sym e) h) (upper r k (h .within))
+      all r k (inl h) =
+          ⊎-elim (λ (j : Joins r k). joined-old x y r k _ (j .2) h) (λ e. same-token (sym e) h) (upper r k (h .within))
       all r k (inr (e, l)) =
           let g = l .high in
           let lt = l .half in
@@ -214,12 +227,14 @@ module _ (n : ℕ) (old : List ℕ) (confined : Confined n old) where
   stored : (new : List ℕ) → length new ≡ 4 * n → Is (new ++ drop (4 * n) old) (λ q k. (q < n) × Token new q k)
   stored new size = record { only = λ q k h. only q k h (decLt q n); all = λ q k h. all q k (h .0) (h .1) }
     where
-      word : (q k : ℕ) → q < n → k < rowBits → getD (new ++ drop (4 * n) old) (4 * q + k / 64) 0 ≡ getD new (4 * q + k / 64) 0
+      word : (q k : ℕ) → q < n → k < rowBits
+          → getD (new ++ drop (4 * n) old) (4 * q + k / 64) 0 ≡ getD new (4 * q + k / 64) 0
       word q k lt w = front (4 * n) new old size (4 * q + k / 64) (omega arith)
 
       only : (q k : ℕ) → Token (new ++ drop (4 * n) old) q k → Dec (q < n) → (q < n) × Token new q k
       only q k h (yes lt) = (lt, same-token (word q k lt (h .within)) h)
-      only q k h (no ge) = absurd (ge (confined q k (same-token (behind (4 * n) new old size (4 * q + k / 64) (omega arith)) h)))
+      only q k h (no ge) =
+          absurd (ge (confined q k (same-token (behind (4 * n) new old size (4 * q + k / 64) (omega arith)) h)))
 
       all : (q k : ℕ) → q < n → Token new q k → Token (new ++ drop (4 * n) old) q k
       all q k lt h = same-token (sym (word q k lt (h .within))) h

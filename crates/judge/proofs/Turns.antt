@@ -47,13 +47,21 @@ module _ (image : List ℕ) (q : ℕ) {at n : ℕ} (ea : at ≡ recordsAt image 
         → Gains before after (λ t k. Step (imageAutomaton image) q x t × Token rows q k)
     all-records {rows} x adds = adds-as adds to from
       where
-        to : (t k : ℕ) → (i : ℕ) × (i < n) × ByRecords image rows q x at i t k → Step (imageAutomaton image) q x t × Token rows q k
+        to : (t k : ℕ) → (i : ℕ) × (i < n) × ByRecords image rows q x at i t k
+            → Step (imageAutomaton image) q x t × Token rows q k
         to t k (i, lt, (r, (e, h))) = (
-          taken-step image q x t lq (record { index = i; below = rw en at lt; takes = rw ea at r; reaches = rw ea at e }),
+          taken-step image q x t lq (record {
+            index =
+                i;
+            below = rw en at lt;
+            takes = rw ea at r;
+            reaches = rw ea at e;
+          }),
           h,
         )
 
-        from : (t k : ℕ) → Step (imageAutomaton image) q x t × Token rows q k → (i : ℕ) × (i < n) × ByRecords image rows q x at i t k
+        from : (t k : ℕ) → Step (imageAutomaton image) q x t × Token rows q k
+            → (i : ℕ) × (i < n) × ByRecords image rows q x at i t k
         from t k (s, h) =
             let d = step-taken image q x t s in
             (d .index, rw en (d .below), (rw ea (d .takes), (rw ea (d .reaches), h)))
@@ -95,14 +103,13 @@ module _ (image : List ℕ) (fine : Readable image) (n : ℕ) (en : n ≡ counts
   pub initial-fits : (i : ℕ) → i < n → numberAt image (length image - 2 * n + 2 * i) < maxStates
   initial-fits i lt = rw initial-offset (omega (arith, fine .few, initial-inside image fine i (rw en at lt)))
 
+  abbrev Given : (q k : ℕ) → Type 0
+  Given q k = (i : ℕ) × (i < n) × ((q ≡ numberAt image (length image - 2 * n + 2 * i)) × (k ≡ startBit))
+
   pub all-initial : {before after : List ℕ}
-      → Gains before after (λ q k. (i : ℕ) × (i < n) × ((q ≡ numberAt image (length image - 2 * n + 2 * i)) × (k ≡ startBit)))
-      → Gains before after (λ q k. In q (imageAutomaton image .initial) × (k ≡ startBit))
+      → Gains before after Given → Gains before after (λ q k. In q (imageAutomaton image .initial) × (k ≡ startBit))
   all-initial adds = adds-as adds to from
     where
-      Given : (q k : ℕ) → Type 0
-      Given q k = (i : ℕ) × (i < n) × ((q ≡ numberAt image (length image - 2 * n + 2 * i)) × (k ≡ startBit))
-
       to : (q k : ℕ) → Given q k → In q (imageAutomaton image .initial) × (k ≡ startBit)
       to q k (i, lt, (e, f)) = (rw (e, initial-offset) (number-initial image i (rw en at lt)), f)
 

@@ -97,7 +97,8 @@ module _ {a : Automaton} {n : ℕ} (counted : Counted a n) (stem cycle : List �
             let (q, lt, (b, h)) = found .yes e in
             found-pass a n stem cycle (counted .few) q lt (rows .only q startBit b) (rows .only q (metBit + q) h);
         no = λ e pass.
-            let (q, lt, (b, h)) = pass-found a n stem cycle (counted .few) (counted .inside) (counted .initial) pass some in
+            let found-at = pass-found a n stem cycle (counted .few) (counted .inside) (counted .initial) pass some in
+            let (q, lt, (b, h)) = found-at in
             found .no e (q, lt, (rows .all q startBit b, rows .all q (metBit + q) h));
       }
         where

@@ -202,7 +202,8 @@ fn clear_words(rows: &mut [u64], n: usize)
 fn step(image: &[u8], n: usize, letter: u8, rows: &mut Rows, next: &mut Rows)
     requires { ⌜ Readable (now image) × (n ≡ countsAt (now image) .states)
         × Confined n (now rows) × Confined n (now next) ⌝ }
-    ensures { λ _. ⌜ Is (now (rows .exit)) (Moved (imageAutomaton (now (image .entry))) letter (Token (now (rows .entry))))
+    ensures { λ _. ⌜ Is (now (rows .exit))
+        (Moved (imageAutomaton (now (image .entry))) letter (Token (now (rows .entry))))
         × Confined n (now (next .exit)) ⌝ }
 {
     clear_words(next, 4 * n);
@@ -302,8 +303,8 @@ fn runs_to(rows: &Rows, m: usize) -> [u64; 4]
     via
 }
 
-// The runs to m in `via` go on to q. If those from m to q meet an accepting state, they have met one. Runs that meet one
-// are runs: without bit m in row q there is nothing to join.
+// The runs to m in `via` go on to q. If those from m to q meet an accepting state, they have met one. Runs that meet
+// one are runs: without bit m in row q there is nothing to join.
 fn join_state(rows: &mut Rows, q: usize, m: usize, via: &[u64; 4])
     requires { ⌜ (q < maxStates) × (m < maxStates) × (Token (now rows) q (metBit + m) → Token (now rows) q m) ⌝ }
     ensures { λ _. ⌜ Gains (now (rows .entry)) (now (rows .exit))

@@ -42,7 +42,8 @@ number-at-requires-2 c κs = search needs
 set-bit-requires : tie.Need-set-bit-requires Inv-loop μ-loop
 set-bit-requires c κs =
     let at = c .before .before .before in
-    let fits = initial-fits _ (at .before .before .before .pre) _ (at .before .number-at .ensures) (at .loop .i) (omega arith) in
+    let s = at .before .before .before in
+    let fits = initial-fits _ (s .pre) _ (at .before .number-at .ensures) (at .loop .i) (omega arith) in
     (omega (arith, c .number-at2 .ensures), omega arith)
 
 add-i : tie.Need-add-i Inv-loop μ-loop

@@ -11,7 +11,8 @@ has-bit-requires : tie.Need-has-bit-requires
 has-bit-requires c κs = search needs
 
 returns : tie.Need-returns
-returns c = join-none _ _ (c .before .before .before .pre .2) (decided-not (c .before .has-bit .ensures) (c .if1 .taken))
+returns c =
+    join-none _ _ (c .before .before .before .pre .2) (decided-not (c .before .has-bit .ensures) (c .if1 .taken))
 
 add-has-bit : tie.Need-add-has-bit
 add-has-bit c = search needs
@@ -29,7 +30,8 @@ returns-2 : tie.Need-returns-2
 returns-2 c =
     let test = c .before .before .before .before .before .before in
     join-run _ _ (decided-so (test .before .has-bit .ensures) (test .if1 .left))
-    (ored-row _ _ _ _ 0 (c .before .or-words .ensures)) (decided-not (c .before .before .before .before .has-bit2 .ensures) (c .if2 .taken))
+    (ored-row _ _ _ _ 0 (c .before .or-words .ensures))
+    (decided-not (c .before .before .before .before .has-bit2 .ensures) (c .if2 .taken))
 
 mul-or-words-2 : tie.Need-mul-or-words-2
 mul-or-words-2 c = search needs
@@ -42,9 +44,12 @@ or-words-requires-2 c κs = search needs
 
 returns-3 : tie.Need-returns-3
 returns-3 c =
-    let test = c .before .before .before .before .before .before .before .before .before in
+    let joined = c .before .before .before .before in
+    let met = joined .before .before .before in
+    let test = met .before .before in
     join-met _ _ (decided-so (test .before .has-bit .ensures) (test .if1 .left))
-    (ored-row _ _ _ _ 0 (c .before .before .before .before .or-words .ensures)) (decided-so (c .before .before .before .before .before .before .before .has-bit2 .ensures) (c .before .before .before .if2 .left))
+    (ored-row _ _ _ _ 0 (joined .or-words .ensures))
+    (decided-so (met .has-bit2 .ensures) (c .before .before .before .if2 .left))
     (ored-met _ _ _ _ 0 (c .or-words2 .ensures))
 
 pub join-state-spec : {M : Type 1} → statement M

@@ -25,7 +25,8 @@ loop-holds c = gather-begins _ _ _
 join-state-requires : tie.Need-join-state-requires Inv-loop μ-loop
 join-state-requires c κs =
     let at = c .before .before .before in
-    (omega arith, omega arith, turn-covered _ _ (at .loop .q) (at .loop .inv) (omega arith) (at .before .before .before .pre .2))
+    let covered = at .before .before .before .pre .2 in
+    (omega arith, omega arith, turn-covered _ _ (at .loop .q) (at .loop .inv) (omega arith) covered)
 
 add-q : tie.Need-add-q Inv-loop μ-loop
 add-q c = search needs

@@ -25,7 +25,8 @@ search-requires : tie.Need-search-requires
 search-requires c κs =
     let checked = c .before .before in
     let start = checked .before .before .before .before .before in
-    (start .pre .0, start .pre .1, lasso-some _ _ (sym (ap answer (c .enum-told .given .1)) ∙ checked .check-lasso .ensures))
+    let some = lasso-some _ _ (sym (ap answer (c .enum-told .given .1)) ∙ checked .check-lasso .ensures) in
+    (start .pre .0, start .pre .1, some)
 
 zero-requires : tie.Need-zero-requires
 zero-requires c κs = search needs

@@ -34,7 +34,8 @@ step-requires : tie.Need-step-requires Inv-loop μ-loop
 step-requires c κs =
     let at = c .before .before .before .before in
     let s = at .before .before .before in
-    (s .pre .0, s .pre .1, run-confined _ _ _ _ (target s) (s .pre .2) (at .loop .i) (at .loop .inv), at .loop .inv .confined)
+    let confined = run-confined _ _ _ _ (target s) (s .pre .2) (at .loop .i) (at .loop .inv) in
+    (s .pre .0, s .pre .1, confined, at .loop .inv .confined)
 
 some-started-requires : tie.Need-some-started-requires Inv-loop μ-loop
 some-started-requires c κs = search needs

@@ -23,7 +23,9 @@ has-bit-requires : tie.Need-has-bit-requires
 has-bit-requires c κs = search needs
 
 returns : tie.Need-returns
-returns c = through-once _ (ored-row _ _ _ 0 _ (c .before .before .before .or-words .ensures)) (decided-not (c .before .has-bit .ensures) (c .if1 .taken))
+returns c =
+    through-once _ (ored-row _ _ _ 0 _ (c .before .before .before .or-words .ensures))
+    (decided-not (c .before .has-bit .ensures) (c .if1 .taken))
 
 slice-aggregate-or-words-2 : tie.Need-slice-aggregate-or-words-2
 slice-aggregate-or-words-2 c = search needs
@@ -36,8 +38,10 @@ or-words-requires-2 c κs = search needs
 
 returns-2 : tie.Need-returns-2
 returns-2 c =
+    let test = c .before .before .before .before in
     through-round _ (ored-row _ _ _ 0 _ (c .before .before .before .before .before .before .before .or-words .ensures))
-    (ored-met _ _ _ 0 _ (c .before .or-words2 .ensures)) (decided-so (c .before .before .before .before .before .has-bit .ensures) (c .before .before .before .before .if1 .left))
+    (ored-met _ _ _ 0 _ (c .before .or-words2 .ensures))
+    (decided-so (test .before .has-bit .ensures) (test .if1 .left))
 
 pub runs-to-spec : {M : Type 1} → statement M
 runs-to-spec =

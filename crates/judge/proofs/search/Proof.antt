@@ -26,7 +26,8 @@ returns c =
     let s = c .before .before .before .before .before in
     let image = s .args .image .now in
     let none = decided-not (c .before .some-accepting .ensures) (c .if1 .taken) in
-    never-accepts (imageAutomaton image) _ _ (λ q h. none (q, rw (s .pre .1) (accepts-inside image q h), accepts-byte image q h))
+    never-accepts (imageAutomaton image) _ _
+    (λ q h. none (q, rw (s .pre .1) (accepts-inside image q h), accepts-byte image q h))
 
 begin-runs-requires : tie.Need-begin-runs-requires
 begin-runs-requires c κs = search needs
@@ -34,12 +35,13 @@ begin-runs-requires c κs = search needs
 run-requires : tie.Need-run-requires
 run-requires c κs =
     let s = c .before .before .before .before .before .before .before .before in
-    let confined = starts-confined (counted s) (s .args .stem .now) (s .args .cycle .now) (c .before .begin-runs .ensures) in
-    (s .pre .0, s .pre .1, confined)
+    let starts = c .before .begin-runs .ensures in
+    (s .pre .0, s .pre .1, starts-confined (counted s) (s .args .stem .now) (s .args .cycle .now) starts)
 
 returns-2 : tie.Need-returns-2
 returns-2 c =
-    lost-in-stem (counted (c .before .before .before .before .before .before .before .before .before .before)) _ _ (c .before .before .before .begin-runs .ensures)
+    lost-in-stem (counted (c .before .before .before .before .before .before .before .before .before .before)) _ _
+    (c .before .before .before .begin-runs .ensures)
     (c .before .run .ensures .lost (not-true _ (c .if2 .taken)))
 
 begin-passes-requires : tie.Need-begin-passes-requires
@@ -80,11 +82,14 @@ returns-4 : tie.Need-returns-4
 returns-4 c =
     let ran = c .before .before .before .before .before .before .before .before .before .before in
     let starts = ran .before .before .begin-runs .ensures in
-    let stemmed = ran .run .ensures .on (not-false _ (c .before .before .before .before .before .before .before .before .before .if2 .left)) in
+    let went = c .before .before .before .before .before .before .before .before .before .if2 .left in
+    let stemmed = ran .run .ensures .on (not-false _ went) in
     let s = ran .before .before .before .before .before .before .before .before .before in
-    let passed = c .before .before .before .before .before .run2 .ensures .on (not-false _ (c .before .before .before .before .if3 .left)) in
+    let again = c .before .before .before .before in
+    let passed = again .before .run2 .ensures .on (not-false _ (again .if3 .left)) in
     let begun = c .before .before .before .before .before .before .before .begin-passes .ensures in
-    verdict (counted s) _ _ starts stemmed begun passed (s .pre .2) (c .before .before .close .ensures) (c .some-started .ensures)
+    verdict (counted s) _ _ starts stemmed begun passed (s .pre .2) (c .before .before .close .ensures)
+    (c .some-started .ensures)
 
 pub search-spec : {M : Type 1} → statement M
 search-spec =

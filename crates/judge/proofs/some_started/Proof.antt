@@ -21,7 +21,8 @@ started-requires : tie.Need-started-requires Inv-loop μ-loop
 started-requires c κs = search needs
 
 returns : tie.Need-returns Inv-loop μ-loop
-returns c = miss-finds _ _ (c .before .before .before .loop .q) (omega arith) (c .before .started .ensures) (c .if1 .taken)
+returns c =
+    miss-finds _ _ (c .before .before .before .loop .q) (omega arith) (c .before .started .ensures) (c .if1 .taken)
 
 add-q : tie.Need-add-q Inv-loop μ-loop
 add-q c = search needs

@@ -32,7 +32,8 @@ returns c = not-started _ _ (c .before .before .args .back) (decided-not (c .bef
 
 returns-2 : tie.Need-returns-2
 returns-2 c =
-    once _ _ (c .before .before .before .args .back) (c .if2 .taken) (decided-so (c .before .before .has-bit .ensures) (c .before .if1 .left))
+    once _ _ (c .before .before .before .args .back) (c .if2 .taken)
+    (decided-so (c .before .before .has-bit .ensures) (c .before .if1 .left))
 
 add-has-bit : tie.Need-add-has-bit
 add-has-bit c = search needs
@@ -42,7 +43,8 @@ has-bit-requires-2 c κs = search needs
 
 returns-3 : tie.Need-returns-3
 returns-3 c =
-    twice _ _ (c .before .before .before .before .args .back) (c .before .if2 .left) (decided-so (c .before .before .before .has-bit .ensures) (c .before .before .if1 .left))
+    twice _ _ (c .before .before .before .before .args .back) (c .before .if2 .left)
+    (decided-so (c .before .before .before .has-bit .ensures) (c .before .before .if1 .left))
     (c .has-bit2 .ensures)
 
 pub started-spec : {M : Type 1} → statement M

@@ -33,10 +33,12 @@ returns c =
     let image = s .args .image .now in
     let a = imageAutomaton image in
     let x = s .args .letter in
-    let none = cleared (s .args .n) _ (s .pre .3) (c .before .before .before .before .before .before .before .before .before .before .clear-words .ensures) in
-    let taken = c .before .before .before .before .before .before .before .step-states .ensures in
+    let stepped-on = c .before .before .before .before .before .before .before in
+    let none = cleared (s .args .n) _ (s .pre .3) (stepped-on .before .before .before .clear-words .ensures) in
+    let taken = stepped-on .step-states .ensures in
     let confined = taken-confined a x _ none taken (λ p q h. rw (s .pre .1) (step-target image (s .pre .0) p x q h)) in
-    let copy = copied (s .args .n) _ (s .pre .2) _ (omega (arith, s .pre .0 .few)) confined (c .before .before .before .copy-words .ensures) in
+    let same = c .before .before .before .copy-words .ensures in
+    let copy = copied (s .args .n) _ (s .pre .2) _ (omega (arith, s .pre .0 .few)) confined same in
     (stepped a x _ none taken (λ p q h. rw (s .pre .1) (step-inside image p x q h)) copy (c .lift .ensures), confined)
 
 pub step-spec : {M : Type 1} → statement M

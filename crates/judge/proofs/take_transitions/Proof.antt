@@ -34,7 +34,8 @@ take-transition-requires c κs =
     let at = c .before .before in
     let s = at .before .before in
     let inside = records-inside s in
-    (omega arith, omega arith, target-fits _ (s .args .q) (s .pre .2) (s .pre .3) (s .pre .1) (s .pre .0) (at .loop .i) (omega arith))
+    let fits = target-fits _ (s .args .q) (s .pre .2) (s .pre .3) (s .pre .1) (s .pre .0) (at .loop .i) (omega arith) in
+    (omega arith, omega arith, fits)
 
 add-i : tie.Need-add-i Inv-loop μ-loop
 add-i c = search needs
