@@ -131,15 +131,13 @@ module _ (n m : ℕ) (few : n ≤ maxStates) (lm : m < n) {y z : List ℕ} (adds
 
   -- the state that was gone through now
   closed-here : Closed n (Token z) m
-  closed-here = record { runs = λ q k lq b h. run q k lq (to q (low q m (omega arith) b)) (adds .only m k h); mets = λ q k lq b l. go-met q k lq (adds .only q (metBit + m) b) l (from (l .low) (low m (l .low) (l .half) (l .held))) }
+  closed-here = record {
+    runs = λ q k lq b h. run q k lq (⊎-elim (λ h. h) (λ h. h .0) (low q m (omega arith) b)) (adds .only m k h);
+    mets = λ q k lq b l. go q k lq (lift-as l (from l)) (adds .only q (metBit + m) b);
+  }
     where
-      to : (q : ℕ) → Token y q m ⊎ (Token y q m × Token y m m) → Token y q m
-      to q (inl h) = h
-      to q (inr (h, g)) = h
-
-      from : (k : ℕ) → Token y m k ⊎ (Token y m m × Token y m k) → Token y m k
-      from k (inl h) = h
-      from k (inr (g, h)) = h
+      from : {k : ℕ} (l : Lifted (Token z) m k) → Token y m (l .low)
+      from l = ⊎-elim (λ h. h) (λ h. h .1) (low m (l .low) (l .half) (l .held))
 
       run : (q k : ℕ) → q < n → Token y q m → Token y m k ⊎ ((m < n) × Joined (Token y) m m k) → Token z q k
       run q k lq b (inl h) = new lq (both b h)
@@ -147,17 +145,12 @@ module _ (n m : ℕ) (few : n ≤ maxStates) (lm : m < n) {y z : List ℕ} (adds
       run q k lq b (inr (l, met c h)) = new lq (round b c h)
       run q k lq b (inr (l, round c d h)) = new lq (round b d h)
 
-      go-met : (q k : ℕ) → q < n → Token y q (metBit + m) ⊎ ((q < n) × Joined (Token y) m q (metBit + m)) → (l : Lifted (Token z) m k) → Token y m (l .low) → Token z q k
-      go-met q k lq d l h = pick d
-        where
-          lift : Lifted (Token y) m k
-          lift = lift-as l h
-
-          pick : Token y q (metBit + m) ⊎ ((q < n) × Joined (Token y) m q (metBit + m)) → Token z q k
-          pick (inl b) = new lq (met b lift)
-          pick (inr (x, both b c)) = new lq (round b c lift)
-          pick (inr (x, met b c)) = new lq (met b lift)
-          pick (inr (x, round b c e)) = new lq (round b c lift)
+      go : (q k : ℕ) → q < n → Lifted (Token y) m k
+          → Token y q (metBit + m) ⊎ ((q < n) × Joined (Token y) m q (metBit + m)) → Token z q k
+      go q k lq l (inl b) = new lq (met b l)
+      go q k lq l (inr (x, both b c)) = new lq (round b c l)
+      go q k lq l (inr (x, met b c)) = new lq (met b l)
+      go q k lq l (inr (x, round b c e)) = new lq (round b c l)
 
   -- and those before it
   module _ (p : ℕ) (lp : p < n) (c : Closed n (Token y) p) where

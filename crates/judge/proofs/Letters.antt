@@ -7,7 +7,7 @@ use mathlib.Core.Bool.{true, false}
 use mathlib.Core.Logic.{inl, inr, ⊎-elim}
 use native.Mathlib.Omega.{arith}
 use native.Mathlib.Numerals.{add-one}
-use native.Mathlib.Decide.{ℕ-discrete}
+use native.Mathlib.Decide.{le-ind}
 use lib.ListN.{length, getD, replicate}
 use Rattle.automaton.specs.Automaton.{Automaton, Step, Accepts}
 use Rattle.judge.specs.Memory.{Token, Lifted, Is, Gains, Confined, Moved, moved, lifted, After, Ran}
@@ -82,17 +82,11 @@ after-inside a w target held zero q k h = held q k h
 after-inside a w target held (suc i) q k h = moved-inside a (w i) (λ p t s. target p (w i) t s) h
 
 -- where no run from an initial state is left, none will be
-lost-later : (a : Automaton) (w : ℕ → ℕ) (Held : (q k : ℕ) → Type 0) (i : ℕ) → ((q : ℕ) → After a w Held i q startBit → ⊥) → (d : ℕ) → i ≤ d → (q : ℕ) → After a w Held d q startBit → ⊥
-lost-later a w Held i lost zero le q h =
-    let e : i ≡ 0 = omega arith in
-    lost q (rw e h)
-lost-later a w Held i lost (suc d) le q h = go (ℕ-discrete i (suc d)) (λ l. lost-later a w Held i lost d l)
-  where
-    go : Dec (i ≡ suc d) → (i ≤ d → (q : ℕ) → After a w Held d q startBit → ⊥) → ⊥
-    go (yes e) before = lost q (rw e h)
-    go (no e) before =
-        let m : (p : ℕ) × After a w Held d p startBit = moved-low a (w d) (omega arith) h in
-        before (omega arith) (m .0) (m .1)
+lost-later : (a : Automaton) (w : ℕ → ℕ) (Held : (q k : ℕ) → Type 0) (i : ℕ)
+    → ((q : ℕ) → After a w Held i q startBit → ⊥) → (d : ℕ) → i ≤ d → (q : ℕ) → After a w Held d q startBit → ⊥
+lost-later a w Held i lost = le-ind (λ d. (q : ℕ) → After a w Held d q startBit → ⊥) lost (λ d le before q h.
+    let m : (p : ℕ) × After a w Held d p startBit = moved-low a (w d) (omega arith) h in
+    before (m .0) (m .1))
 
 -- a loop that has taken the first i letters of a word; `next` is what the last one left there
 pub record Running (a : Automaton) (n : ℕ) (word before after next : List ℕ) (i : ℕ) : Type 0 where
