@@ -73,7 +73,8 @@ close-requires c κs =
     let s = ran .before .before .before .before .before .before .before .before .before in
     let passed = c .before .before .run2 .ensures .on (not-false _ (c .before .if3 .left)) in
     let begun = c .before .before .before .before .begin-passes .ensures in
-    (counted s .few, rows-covered (counted s) (s .args .stem .now) (s .args .cycle .now) starts stemmed begun passed)
+    let few = counted s .few in
+    (omega arith, rows-covered (counted s) (s .args .stem .now) (s .args .cycle .now) starts stemmed begun passed)
 
 some-started-requires : tie.Need-some-started-requires
 some-started-requires c κs = search needs
