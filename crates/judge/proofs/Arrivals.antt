@@ -1,7 +1,6 @@
 -- The bits after the letters of a word are exactly the runs over them, letter by letter. Assumes nothing.
 use Prim.Native.Nat.{ℕ, zero, suc, _+_, _<_, _≤_}
 use mathlib.Core.Path.{_≡_, sym, _∙_, subst}
-use mathlib.Core.Logic.{_⊎_, inl, inr}
 use native.Mathlib.Omega.{arith}
 use native.Mathlib.Decide.{ℕ-discrete}
 use Rattle.automaton.specs.Automaton.{Automaton, Step, Accepts}
@@ -40,24 +39,16 @@ module _ (a : Automaton) (w : ℕ → ℕ) (Held : (q k : ℕ) → Type 0) where
         run = meets-snoc a (m .run .run) s (m .run .index) (m .run .after) (m .run .before) (m .run .accepts);
       }
 
-  pub high-runs : (d : ℕ) {q k : ℕ} (j : ℕ) → j < metBit → k ≡ metBit + j → After a w Held d q k → Arrived d q (metBit + j) ⊎ ArrivedMet d q j
-  high-runs zero {q} {k} j lt e h = inl (record { start = q; held = subst (λ (i : ℕ). Held q i) e h; run = leads-none a w q })
-  high-runs (suc d) j lt e (moved p q k h s) = go (high-runs d j lt e h)
-    where
-      go : Arrived d p (metBit + j) ⊎ ArrivedMet d p j → Arrived (suc d) q (metBit + j) ⊎ ArrivedMet (suc d) q j
-      go (inl m) = inl (arrived-step m s)
-      go (inr m) = inr (met-step m s)
-  high-runs (suc d) j lt e (lifted p q k lk h s acc) = inr (here (low-runs d lk h))
-    where
-      here : Arrived d p k → ArrivedMet (suc d) q j
-      here m =
-          let f : k ≡ j = omega arith in
-          record {
-            start =
-                m .start;
-            held = subst (λ (i : ℕ). Held (m .start) i) f (m .held);
-            run = meets-here a (m .run) s acc;
-          }
+  -- if none began with bit `metBit` + j
+  pub high-runs : (d : ℕ) {q k : ℕ} (j : ℕ) → ((p : ℕ) → Held p (metBit + j) → ⊥) → j < metBit → k ≡ metBit + j
+      → After a w Held d q k → ArrivedMet d q j
+  high-runs zero {q} {k} j none lt e h = absurd (none q (subst (λ (i : ℕ). Held q i) e h))
+  high-runs (suc d) j none lt e (moved p q k h s) = met-step (high-runs d j none lt e h) s
+  high-runs (suc d) j none lt e (lifted p q k lk h s acc) =
+      let m : Arrived d p k = low-runs d lk h in
+      let f : k ≡ j = omega arith in
+      let held = subst (λ (i : ℕ). Held (m .start) i) f (m .held) in
+      record { start = m .start; held = held; run = meets-here a (m .run) s acc }
 
   -- ---- a run is a bit
 

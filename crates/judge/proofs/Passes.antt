@@ -17,7 +17,7 @@ use Rattle.judge.specs.Limits.{startBit, metBit}
 use Rattle.automaton.specs.Limits.{maxStates}
 use Rattle.judge.proofs.Runs.{Leads, Meets, leads-as, meets-as, leads-on, on-early, on-late}
 use Rattle.judge.proofs.Letters.{after-covered}
-use Rattle.judge.proofs.Arrivals.{Arrived, ArrivedMet, low-runs, high-runs, run-bits, met-bits}
+use Rattle.judge.proofs.Arrivals.{Arrived, low-runs, high-runs, run-bits, met-bits}
 
 -- ---- the letters of a lasso
 
@@ -88,11 +88,9 @@ module _ (a : Automaton) (n : ℕ) (stem cycle : List ℕ) where
         omega (arith, m .held .1)
 
     stemmed-high : (q k p : ℕ) → p < maxStates → k ≡ metBit + p → Stemmed q k → ⊥
-    stemmed-high q k p lt e h = go (high-runs a inStem Initial (length stem) p (omega arith) e h)
-      where
-        go : Arrived a inStem Initial (length stem) q (metBit + p) ⊎ ArrivedMet a inStem Initial (length stem) q p → ⊥
-        go (inl m) = omega (arith, m .held .1)
-        go (inr m) = omega (arith, m .held .1)
+    stemmed-high q k p lt e h =
+        let m = high-runs a inStem Initial (length stem) p (λ s i. omega (arith, i .1)) (omega arith) e h in
+        omega (arith, m .held .1)
 
     begun-low : (q p : ℕ) → p < maxStates → Begun q p → q ≡ p
     begun-low q p lt (inl h) = absurd (stemmed-low q p lt h)
@@ -117,13 +115,9 @@ module _ (a : Automaton) (n : ℕ) (stem cycle : List ℕ) where
         subst (λ (s : ℕ). Leads a inCycle (length cycle) s q) (begun-low (m .start) p lt (m .held)) (m .run)
 
     passed-high : {q : ℕ} (p : ℕ) → p < maxStates → Passed q (metBit + p) → Meets a inCycle (length cycle) p q
-    passed-high {q} p lt h = go (high-runs a inCycle Begun (length cycle) p (omega arith) refl h)
-      where
-        go : Arrived a inCycle Begun (length cycle) q (metBit + p) ⊎ ArrivedMet a inCycle Begun (length cycle) q p
-            → Meets a inCycle (length cycle) p q
-        go (inl m) = absurd (begun-high (m .start) p lt (m .held))
-        go (inr m) =
-            subst (λ (s : ℕ). Meets a inCycle (length cycle) s q) (begun-low (m .start) p lt (m .held)) (m .run)
+    passed-high {q} p lt h =
+        let m = high-runs a inCycle Begun (length cycle) p (λ s b. begun-high s p lt b) (omega arith) refl h in
+        subst (λ (s : ℕ). Meets a inCycle (length cycle) s q) (begun-low (m .start) p lt (m .held)) (m .run)
 
     passed-start : {q : ℕ} → Passed q startBit → FromStart (length cycle) q
     passed-start {q} h = go (m .held)

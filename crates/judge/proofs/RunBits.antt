@@ -142,10 +142,8 @@ module _ (x from y : List ℕ) (t q : ℕ) where
               let w = h .within in
               let m : k % 64 ≡ (k - metBit) % 64 = omega arith in
               record {
-                low =
-                    k - metBit;
-                half =
-                    omega arith;
+                low = k - metBit;
+                half = omega arith;
                 high = omega arith;
                 held = record { within = omega arith; bit = rw m at b };
               }

@@ -117,8 +117,7 @@ module _ (a : Automaton) where
     pub meets-here : Accepts a t → Meets a w (suc d) p t
     meets-here acc =
         record {
-          run =
-              leads-snoc;
+          run = leads-snoc;
           index = suc d;
           after = omega arith;
           before = omega arith;

@@ -51,8 +51,7 @@ module _ (image : List ℕ) (q : ℕ) {at n : ℕ} (ea : at ≡ recordsAt image 
             → Step (imageAutomaton image) q x t × Token rows q k
         to t k (i, lt, (r, (e, h))) = (
           taken-step image q x t lq (record {
-            index =
-                i;
+            index = i;
             below = rw en at lt;
             takes = rw ea at r;
             reaches = rw ea at e;
