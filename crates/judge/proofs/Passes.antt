@@ -208,26 +208,19 @@ module _ (a : Automaton) (n : ℕ) (stem cycle : List ℕ) where
 
     means : {q k : ℕ} → Linked n Passed q k → Means q k
     means (one q k h) = means-one q k h
-    means (join m q k lm lq b h) = put (means b) (means h)
-      where
-        put : Means q m → Means m k → Means q k
-        put f g =
-            let on = f .runs (omega arith) in
-            record {
-              runs = λ lt. runs-on (g .runs lt) on;
-              starts = λ e. start-on (g .starts e) on;
-              mets = λ p lt e. met-on (g .mets p lt e) on;
-            }
-    means (joinMet m q k lm lq lk b h) = put (means b) (means h)
-      where
-        put : Means q (metBit + m) → Means m k → Means q (metBit + k)
-        put f g = record {
-          runs = λ lt. absurd (omega arith);
-          starts = λ e. absurd (omega arith);
-          mets = λ p lt e.
-              let z : k ≡ p = omega arith in
-              on-met (subst (λ (j : ℕ). (e : ℕ) × Leads a turn (suc e * length cycle) j m) z (g .runs (omega arith))) (f .mets m (omega arith) refl);
-        }
+    means (join m q k lm lq b h) = record {
+      runs = λ lt. runs-on (means h .runs lt) (means b .runs (omega arith));
+      starts = λ e. start-on (means h .starts e) (means b .runs (omega arith));
+      mets = λ p lt e. met-on (means h .mets p lt e) (means b .runs (omega arith));
+    }
+    means (joinMet m q k lm lq lk b h) = record {
+      runs = λ lt. absurd (omega arith);
+      starts = λ e. absurd (omega arith);
+      mets = λ p lt e.
+          let z : k ≡ p = omega arith in
+          let to = subst (λ (j : ℕ). (e : ℕ) × Leads a turn (suc e * length cycle) j m) z (means h .runs (omega arith)) in
+          on-met to (means b .mets m (omega arith) refl);
+    }
 
     pub found-pass : (q : ℕ) → q < n → Linked n Passed q startBit → Linked n Passed q (metBit + q) → AcceptingPass a stem cycle
     found-pass q lt b h = made (means b .starts refl) (means h .mets q (omega arith) refl)
