@@ -59,10 +59,9 @@ module _ (a : Automaton) (range : InRange a) (stem cycle : List ℕ) (pos : 0 < 
 
   known-starts : All Known (starts a stem cycle)
   unfolding starts
-  known-starts x h = go (map-in (point 0) x (a .initial) h)
-    where
-      go : (q : ℕ) × In q (a .initial) × (x ≡ point 0 q) → Known x
-      go (q, m, e) = subst Known (sym e) (
+  known-starts x h =
+      let (q, m, e) = map-in (point 0) x (a .initial) h in
+      subst Known (sym e) (
         record { position = omega arith; state = range .initial q m },
         record { start = q; initial = m; count = 0; walk = walk-none a stem cycle (point 0 q) },
       )
@@ -203,25 +202,26 @@ module _ (a : Automaton) (range : InRange a) (stem cycle : List ℕ) (pos : 0 < 
             (taken-later (from-after (here i)) (suc i) high m (omega arith) (from-after (here i) .has (here (suc i)) (here-on i m))))
 
     pass-shows : hasAcceptingPass a stem cycle ≡ true
-    pass-shows = go (pass .accepts)
+    pass-shows =
+        let (i, l, m, acc) = pass .accepts in
+        early i l m acc (decLt i high)
       where
-        go : (i : ℕ) × (low ≤ i) × (i ≤ high) × Accepts a (pass .at i) → hasAcceptingPass a stem cycle ≡ true
-        go (i, l, m, acc) = early (decLt i high)
-          where
-            early : Dec (i < high) → hasAcceptingPass a stem cycle ≡ true
-            early (yes lt) = found i l lt acc
-            early (no ge) =
-                let z : i ≡ high = omega arith in
-                found low (omega arith) low-high (subst (λ (k : ℕ). Accepts a k) (ap (pass .at) z ∙ sym (pass .same)) acc)
+        early : (i : ℕ) → low ≤ i → i ≤ high → Accepts a (pass .at i) → Dec (i < high) → hasAcceptingPass a stem cycle ≡ true
+        early i l m acc (yes lt) = found i l lt acc
+        early i l m acc (no ge) =
+            let z : i ≡ high = omega arith in
+            found low (omega arith) low-high (subst (λ (k : ℕ). Accepts a k) (ap (pass .at) z ∙ sym (pass .same)) acc)
 
   shown-pass : hasAcceptingPass a stem cycle ≡ true → AcceptingPass a stem cycle
   unfolding hasAcceptingPass
-  shown-pass e = go (any-iff (λ x. accepting a stem cycle x && member x (reachedFrom a stem cycle (onward a stem cycle x))) (reachedFrom a stem cycle (starts a stem cycle)) .0 e)
-    where
-      go : (x : Point) × In x (reachedFrom a stem cycle (starts a stem cycle)) × ((accepting a stem cycle x && member x (reachedFrom a stem cycle (onward a stem cycle x))) ≡ true) → AcceptingPass a stem cycle
-      go (x, m, t) =
-          let (acc, again) = and-eq-true-iff (accepting a stem cycle x) _ .0 t in
-          looped x (from-starts .sound x m .1) (from-after x .sound x (member-iff x (reachedFrom a stem cycle (onward a stem cycle x)) .0 again) .1) acc
+  shown-pass e =
+      let found = any-iff
+      (λ x. accepting a stem cycle x && member x (reachedFrom a stem cycle (onward a stem cycle x)))
+      (reachedFrom a stem cycle (starts a stem cycle)) .0 e in
+      let (x, m, t) = found in
+      let (acc, again) = and-eq-true-iff (accepting a stem cycle x) _ .0 t in
+      let after = member-iff x (reachedFrom a stem cycle (onward a stem cycle x)) .0 again in
+      looped x (from-starts .sound x m .1) (from-after x .sound x after .1) acc
 
   -- the search is right about accepting passes
   pub has-accepting-pass-iff : (hasAcceptingPass a stem cycle ≡ true) ↔ AcceptingPass a stem cycle

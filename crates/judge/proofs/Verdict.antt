@@ -107,7 +107,4 @@ module _ {a : Automaton} {n : ℕ} (counted : Counted a n) (stem cycle : List �
 
 -- no state accepts
 pub never-accepts : (a : Automaton) (stem cycle : List ℕ) → ((q : ℕ) → Accepts a q → ⊥) → Tells false (AcceptingPass a stem cycle)
-never-accepts a stem cycle none = holds-not (λ pass. go pass (pass .accepts))
-  where
-    go : (pass : AcceptingPass a stem cycle) → (i : ℕ) × (length stem + pass .first * length cycle ≤ i) × (i ≤ length stem + pass .second * length cycle) × Accepts a (pass .at i) → ⊥
-    go pass (i, lo, hi, acc) = none (pass .at i) acc
+never-accepts a stem cycle none = holds-not (λ pass. let (i, lo, hi, acc) = pass .accepts in none (pass .at i) acc)
