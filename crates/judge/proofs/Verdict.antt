@@ -1,6 +1,6 @@
 -- From the rows that the search makes, one after another, to its verdict. Assumes of the automaton that its numbers are
 -- states, at most `maxStates`.
-use Prim.Native.Nat.{ℕ, zero, suc, _+_, _*_, _<_, _≤_}
+use Prim.Native.Nat.{ℕ, zero, suc, _+_, _<_, _≤_}
 use mathlib.Core.Path.{_≡_}
 use mathlib.Core.List.{List}
 use mathlib.Core.Bool.{Bool, true, false}
