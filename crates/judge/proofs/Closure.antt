@@ -1,113 +1,101 @@
 -- Runs put together through one state after another: after the last state they are closed. Assumes nothing.
 use Prim.Native.Nat.{ℕ, _+_, _<_, _≤_}
-use mathlib.Core.Path.{_≡_, refl, sym, _∙_, subst}
+use mathlib.Core.Path.{_≡_, refl, sym, subst}
 use mathlib.Core.List.{List}
-use mathlib.Core.Logic.{_⊎_, inl, inr}
+use mathlib.Core.Logic.{_⊎_, inl, inr, ⊎-elim, ⊎-map}
 use native.Mathlib.Omega.{arith}
 use native.Mathlib.Decide.{ℕ-discrete}
-use lib.ListN.{length, replicate}
-use Rattle.judge.specs.Memory.{Token, Lifted, Is, Gains, Joined, both, met, round, Linked, one, join, joinMet, Via}
+use lib.ListN.{replicate}
+use Rattle.judge.specs.Memory.{Token, Lifted, Is, Gains, Through, Via, Joined, both, met, round, Covered, Linked, one, join, joinMet}
 use Rattle.judge.specs.Limits.{metBit}
 use Rattle.automaton.specs.Limits.{maxStates}
-use Rattle.judge.proofs.Gathers.{Gathering}
-use Rattle.judge.proofs.RunBits.{none-set}
+use Rattle.judge.proofs.Gathers.{Gathering, adds-as, adds-none, adds-both, is-initial}
 
--- the upper half is joined first, which leaves bit m of row q as it was
-pub both-joined : {x y z via : List ℕ} (q m : ℕ) → m < maxStates → Gains x y (λ p k. Token x q (metBit + m) × ((p ≡ q) × Lifted (Token via) 0 k))
-    → Gains y z (λ p k. Token y q m × ((p ≡ q) × Token via 0 k)) → Gains x z (λ p k. (p ≡ q) × Via x via m q k)
-both-joined {x} {y} {z} {via} q m lt first second = record { only = λ p k h. only p k (second .only p k h); all = all }
-  where
-    same : Token x q m ⊎ (Token x q (metBit + m) × ((q ≡ q) × Lifted (Token via) 0 m)) → Token x q m
-    same (inl h) = h
-    same (inr (t, (e, l))) = absurd (omega (arith, l .high))
+-- what is lifted in one row, in another
+lift-as : {P Q : (q k : ℕ) → Type 0} {p q k : ℕ} (l : Lifted P p k) → Q q (l .low) → Lifted Q q k
+lift-as l h = record { low = l .low; half = l .half; high = l .high; held = h }
 
-    old : (p k : ℕ) → Token x p k ⊎ (Token x q (metBit + m) × ((p ≡ q) × Lifted (Token via) 0 k)) → Token x p k ⊎ ((p ≡ q) × Via x via m q k)
-    old p k (inl h) = inl h
-    old p k (inr (t, (e, l))) = inr (e, inr (t, l))
+-- ---- the row by which runs go on
 
-    only : (p k : ℕ) → Token y p k ⊎ (Token y q m × ((p ≡ q) × Token via 0 k)) → Token x p k ⊎ ((p ≡ q) × Via x via m q k)
-    only p k (inl h) = old p k (first .only p k h)
-    only p k (inr (t, (e, h))) = inr (e, inl (same (first .only q m t), h))
+module _ {rows u : List ℕ} (m : ℕ) (first : Gains (replicate 4 0) u (λ p k. (p ≡ 0) × Token rows m k)) where
+  pub through-once : (Token rows m (metBit + m) → ⊥) → Through rows u m
+  through-once none = record {
+    only = λ k h. inl (is-initial 4 first .only 0 k h .1);
+    row = λ k h. first .all 0 k (inr (refl, h));
+    again = λ k h l. absurd (none h);
+  }
 
-    all : (p k : ℕ) → Token x p k ⊎ ((p ≡ q) × Via x via m q k) → Token z p k
-    all p k (inl h) = second .all p k (inl (first .all p k (inl h)))
-    all p k (inr (e, inl (t, h))) = second .all p k (inr (first .all q m (inl t), (e, h)))
-    all p k (inr (e, inr (t, l))) = second .all p k (inl (first .all p k (inr (t, (e, l)))))
+  pub through-round : {via : List ℕ} → Gains u via (λ p k. (p ≡ 0) × Lifted (Token rows) m k)
+      → Token rows m (metBit + m) → Through rows via m
+  through-round second back = record {
+    only = λ k h. ⊎-map (λ h. is-initial 4 first .only 0 k h .1) (λ l. (back, l .1)) (second .only 0 k h);
+    row = λ k h. second .all 0 k (inl (first .all 0 k (inr (refl, h))));
+    again = λ k h l. second .all 0 k (inr (refl, l));
+  }
 
--- the row by which runs go through m: row m, and its lower half lifted if m comes back to itself
-pub record Through (rows via : List ℕ) (m : ℕ) : Type 0 where
-  pub only : (k : ℕ) → Token via 0 k → Token rows m k ⊎ (Token rows m (metBit + m) × Lifted (Token rows) m k)
-  pub row : (k : ℕ) → Token rows m k → Token via 0 k
-  pub again : (k : ℕ) → Token rows m (metBit + m) → Lifted (Token rows) m k → Token via 0 k
+-- ---- one row joined with it
 
-pub through : {rows u via : List ℕ} (m : ℕ) → Gains (replicate 4 0) u (λ p k. (p ≡ 0) × Token rows m k) → Gains u via (λ p k. Token u 0 (metBit + m) × ((p ≡ 0) × Lifted (Token rows) m k)) → Through rows via m
-through {rows} {u} {via} m first second = record {
-  only = λ k h. split k (second .only 0 k h);
-  row = λ k h. second .all 0 k (inl (first .all 0 k (inr (refl, h))));
-  again = λ k h l. second .all 0 k (inr (first .all 0 (metBit + m) (inr (refl, h)), (refl, l)));
-}
-  where
-    back : (k : ℕ) → Token (replicate 4 0) 0 k ⊎ ((_≡_ {A = ℕ} 0 0) × Token rows m k) → Token rows m k
-    back k (inl h) = absurd (none-set 4 0 k h)
-    back k (inr (e, h)) = h
+module _ {x via : List ℕ} (q m : ℕ) where
+  pub join-none : (Token x q (metBit + m) → Token x q m) → (Token x q m → ⊥)
+      → Gains x x (λ p k. (p ≡ q) × Via x via m q k)
+  join-none covered none = adds-none (λ p k h. ⊎-elim (λ v. none (v .0)) (λ v. none (covered (v .0))) (h .1))
 
-    split : (k : ℕ) → Token u 0 k ⊎ (Token u 0 (metBit + m) × ((_≡_ {A = ℕ} 0 0) × Lifted (Token rows) m k)) → Token rows m k ⊎ (Token rows m (metBit + m) × Lifted (Token rows) m k)
-    split k (inl h) = inl (back k (first .only 0 k h))
-    split k (inr (t, (e, l))) = inr (back (metBit + m) (first .only 0 (metBit + m) t), l)
+  module _ (b : Token x q m) {y : List ℕ} (row : Gains x y (λ p k. (p ≡ q) × Token via 0 k)) where
+    pub join-run : (Token x q (metBit + m) → ⊥) → Gains x y (λ p k. (p ≡ q) × Via x via m q k)
+    join-run none =
+        adds-as row (λ p k h. (h .0, inl (b, h .1)))
+        (λ p k h. (h .0, ⊎-elim (λ v. v .1) (λ v. absurd (none (v .0))) (h .1)))
 
-module _ {x via : List ℕ} (m n : ℕ) (t : Through x via m) where
+    pub join-met : Token x q (metBit + m) → {z : List ℕ} → Gains y z (λ p k. (p ≡ q) × Lifted (Token via) 0 k)
+        → Gains x z (λ p k. (p ≡ q) × Via x via m q k)
+    join-met c second = adds-as (adds-both row second) to from
+      where
+        to : (p k : ℕ) → ((p ≡ q) × Token via 0 k) ⊎ ((p ≡ q) × Lifted (Token via) 0 k) → (p ≡ q) × Via x via m q k
+        to p k (inl (e, h)) = (e, inl (b, h))
+        to p k (inr (e, l)) = (e, inr (c, l))
+
+        from : (p k : ℕ) → (p ≡ q) × Via x via m q k → ((p ≡ q) × Token via 0 k) ⊎ ((p ≡ q) × Lifted (Token via) 0 k)
+        from p k (e, inl (t, h)) = inl (e, h)
+        from p k (e, inr (t, l)) = inr (e, l)
+
+-- ---- all rows
+
+module _ {x via : List ℕ} (m n : ℕ) where
   -- a turn of the loop over the rows: row i is still as it was
-  pub turn-through : {y z : List ℕ} (i : ℕ) → Gathering x (λ p r k. (r ≡ p) × Via x via m p k) n y i → Gains y z (λ p k. (p ≡ i) × Via y via m i k) → Gains y z (λ p k. (p ≡ i) × Via x via m i k)
-  turn-through {y} {z} i inv adds = record { only = λ p k h. only p k (adds .only p k h); all = λ p k h. adds .all p k (all p k h) }
-    where
-      same : (k : ℕ) → Token x i k ⊎ ((j : ℕ) × (j < i) × ((i ≡ j) × Via x via m j k)) → Token x i k
-      same k (inl h) = h
-      same k (inr (j, lt, (e, v))) = absurd (omega arith)
+  module _ {y : List ℕ} (i : ℕ) (inv : Gathering x (λ p r k. (r ≡ p) × Via x via m p k) n y i) where
+    was : {k : ℕ} → Token y i k → Token x i k
+    was {k} h = ⊎-elim (λ t. t) (λ v. absurd (omega (arith, v .1, v .2 .0))) (inv .gathered .only i k h)
 
-      was : (k : ℕ) → Token y i k → Token x i k
-      was k h = same k (inv .gathered .only i k h)
+    is : {k : ℕ} → Token x i k → Token y i k
+    is {k} h = inv .gathered .all i k (inl h)
 
-      is : (k : ℕ) → Token x i k → Token y i k
-      is k h = inv .gathered .all i k (inl h)
+    pub turn-covered : m < metBit → Covered x → Token y i (metBit + m) → Token y i m
+    turn-covered lt covered h = is (covered i m lt (was h))
 
-      only : (p k : ℕ) → Token y p k ⊎ ((p ≡ i) × Via y via m i k) → Token y p k ⊎ ((p ≡ i) × Via x via m i k)
-      only p k (inl h) = inl h
-      only p k (inr (e, inl (b, h))) = inr (e, inl (was m b, h))
-      only p k (inr (e, inr (b, h))) = inr (e, inr (was (metBit + m) b, h))
+    pub turn-through : {z : List ℕ} → Gains y z (λ p k. (p ≡ i) × Via y via m i k)
+        → Gains y z (λ p k. (p ≡ i) × Via x via m i k)
+    turn-through adds = adds-as adds (λ p k h. (h .0, ⊎-map (λ v. (was (v .0), v .1)) (λ v. (was (v .0), v .1)) (h .1)))
+        (λ p k h. (h .0, ⊎-map (λ v. (is (v .0), v .1)) (λ v. (is (v .0), v .1)) (h .1)))
 
-      all : (p k : ℕ) → Token y p k ⊎ ((p ≡ i) × Via x via m i k) → Token y p k ⊎ ((p ≡ i) × Via y via m i k)
-      all p k (inl h) = inl h
-      all p k (inr (e, inl (b, h))) = inr (e, inl (is m b, h))
-      all p k (inr (e, inr (b, h))) = inr (e, inr (is (metBit + m) b, h))
-
-  pub all-through : {y : List ℕ} → Gains x y (λ q k. (p : ℕ) × (p < n) × ((q ≡ p) × Via x via m p k)) → Gains x y (λ q k. (q < n) × Joined (Token x) m q k)
-  all-through {y} adds = record { only = λ q k h. only q k (adds .only q k h); all = λ q k h. adds .all q k (all q k h) }
+  pub all-through : Through x via m → {y : List ℕ} → Gains x y (λ q k. (p : ℕ) × (p < n) × ((q ≡ p) × Via x via m p k))
+      → Gains x y (λ q k. (q < n) × Joined (Token x) m q k)
+  all-through t adds = adds-as adds to (λ q k h. (q, h .0, (refl, via-of q k (h .1))))
     where
       -- a bit of the lower half was not lifted
-      low : (k : ℕ) → k < metBit → Token x m k ⊎ (Token x m (metBit + m) × Lifted (Token x) m k) → Token x m k
-      low k lt (inl h) = h
-      low k lt (inr (b, l)) = absurd (omega (arith, l .high))
-
-      by : (q k : ℕ) → Token x q m → Token x m k ⊎ (Token x m (metBit + m) × Lifted (Token x) m k) → Joined (Token x) m q k
-      by q k b (inl h) = both b h
-      by q k b (inr (c, l)) = round b c l
+      low : {k : ℕ} (l : Lifted (Token via) 0 k) → Token x m (l .low)
+      low l = ⊎-elim (λ h. h) (λ b. absurd (omega (arith, l .half, b .1 .high))) (t .only (l .low) (l .held))
 
       joined : (q k : ℕ) → Via x via m q k → Joined (Token x) m q k
-      joined q k (inl (b, h)) = by q k b (t .only k h)
-      joined q k (inr (b, l)) = met b (record { low = l .low; half = l .half; high = l .high; held = low (l .low) (l .half) (t .only (l .low) (l .held)) })
+      joined q k (inl (b, h)) = ⊎-elim (λ h. both b h) (λ c. round b (c .0) (c .1)) (t .only k h)
+      joined q k (inr (b, l)) = met b (lift-as l (low l))
 
       via-of : (q k : ℕ) → Joined (Token x) m q k → Via x via m q k
       via-of q k (both b h) = inl (b, t .row k h)
-      via-of q k (met b l) = inr (b, record { low = l .low; half = l .half; high = l .high; held = t .row (l .low) (l .held) })
+      via-of q k (met b l) = inr (b, lift-as l (t .row (l .low) (l .held)))
       via-of q k (round b c l) = inl (b, t .again k c l)
 
-      only : (q k : ℕ) → Token x q k ⊎ ((p : ℕ) × (p < n) × ((q ≡ p) × Via x via m p k)) → Token x q k ⊎ ((q < n) × Joined (Token x) m q k)
-      only q k (inl h) = inl h
-      only q k (inr (p, lt, (e, v))) = inr (omega arith, rw e (joined p k v))
-
-      all : (q k : ℕ) → Token x q k ⊎ ((q < n) × Joined (Token x) m q k) → Token x q k ⊎ ((p : ℕ) × (p < n) × ((q ≡ p) × Via x via m p k))
-      all q k (inl h) = inl h
-      all q k (inr (lt, j)) = inr (q, lt, (refl, via-of q k j))
+      to : (q k : ℕ) → (p : ℕ) × (p < n) × ((q ≡ p) × Via x via m p k) → (q < n) × Joined (Token x) m q k
+      to q k (p, lt, (e, v)) = (omega arith, rw e (joined p k v))
 
 -- ---- from state to state
 
@@ -119,7 +107,7 @@ pub record Closed (n : ℕ) (R : (q k : ℕ) → Type 0) (p : ℕ) : Type 0 wher
 -- a loop over the states that stands at m
 pub record Closing (n : ℕ) (before after : List ℕ) (m : ℕ) : Type 0 where
   pub within : m ≤ n
-  pub size : length after ≡ length before
+  pub covered : Covered after
   pub sound : (q k : ℕ) → Token after q k → Linked n (Token before) q k
   pub kept : (q k : ℕ) → Token before q k → Token after q k
   pub closed : (p : ℕ) → p < m → Closed n (Token after) p
@@ -143,15 +131,13 @@ module _ (n m : ℕ) (few : n ≤ maxStates) (lm : m < n) {y z : List ℕ} (adds
 
   -- the state that was gone through now
   closed-here : Closed n (Token z) m
-  closed-here = record { runs = λ q k lq b h. run q k lq (to q (low q m (omega arith) b)) (adds .only m k h); mets = λ q k lq b l. go-met q k lq (adds .only q (metBit + m) b) l (from (l .low) (low m (l .low) (l .half) (l .held))) }
+  closed-here = record {
+    runs = λ q k lq b h. run q k lq (⊎-elim (λ h. h) (λ h. h .0) (low q m (omega arith) b)) (adds .only m k h);
+    mets = λ q k lq b l. go q k lq (lift-as l (from l)) (adds .only q (metBit + m) b);
+  }
     where
-      to : (q : ℕ) → Token y q m ⊎ (Token y q m × Token y m m) → Token y q m
-      to q (inl h) = h
-      to q (inr (h, g)) = h
-
-      from : (k : ℕ) → Token y m k ⊎ (Token y m m × Token y m k) → Token y m k
-      from k (inl h) = h
-      from k (inr (g, h)) = h
+      from : {k : ℕ} (l : Lifted (Token z) m k) → Token y m (l .low)
+      from l = ⊎-elim (λ h. h) (λ h. h .1) (low m (l .low) (l .half) (l .held))
 
       run : (q k : ℕ) → q < n → Token y q m → Token y m k ⊎ ((m < n) × Joined (Token y) m m k) → Token z q k
       run q k lq b (inl h) = new lq (both b h)
@@ -159,17 +145,12 @@ module _ (n m : ℕ) (few : n ≤ maxStates) (lm : m < n) {y z : List ℕ} (adds
       run q k lq b (inr (l, met c h)) = new lq (round b c h)
       run q k lq b (inr (l, round c d h)) = new lq (round b d h)
 
-      go-met : (q k : ℕ) → q < n → Token y q (metBit + m) ⊎ ((q < n) × Joined (Token y) m q (metBit + m)) → (l : Lifted (Token z) m k) → Token y m (l .low) → Token z q k
-      go-met q k lq d l h = pick d
-        where
-          lift : Lifted (Token y) m k
-          lift = record { low = l .low; half = l .half; high = l .high; held = h }
-
-          pick : Token y q (metBit + m) ⊎ ((q < n) × Joined (Token y) m q (metBit + m)) → Token z q k
-          pick (inl b) = new lq (met b lift)
-          pick (inr (x, both b c)) = new lq (round b c lift)
-          pick (inr (x, met b c)) = new lq (met b lift)
-          pick (inr (x, round b c e)) = new lq (round b c lift)
+      go : (q k : ℕ) → q < n → Lifted (Token y) m k
+          → Token y q (metBit + m) ⊎ ((q < n) × Joined (Token y) m q (metBit + m)) → Token z q k
+      go q k lq l (inl b) = new lq (met b l)
+      go q k lq l (inr (x, both b c)) = new lq (round b c l)
+      go q k lq l (inr (x, met b c)) = new lq (met b l)
+      go q k lq l (inr (x, round b c e)) = new lq (round b c l)
 
   -- and those before it
   module _ (p : ℕ) (lp : p < n) (c : Closed n (Token y) p) where
@@ -219,15 +200,28 @@ module _ (n m : ℕ) (few : n ≤ maxStates) (lm : m < n) {y z : List ℕ} (adds
       mets = λ q k lq b l. met-before q k (l .low) lq (l .half) (l .high) (adds .only q (metBit + p) b) (low p (l .low) (l .half) (l .held));
     }
 
-  pub closing-steps : {x : List ℕ} → Closing n x y m → length z ≡ length y → Closing n x z (m + 1)
-  closing-steps {x} inv size = record {
+  pub closing-steps : {x : List ℕ} → Closing n x y m → Closing n x z (m + 1)
+  closing-steps {x} inv = record {
     within = omega arith;
-    size = size ∙ inv .size;
+    covered = λ q k lt h. cover q k lt (adds .only q (metBit + k) h);
     sound = λ q k h. link q k (adds .only q k h);
     kept = λ q k h. old (inv .kept q k h);
     closed = λ p lt. pick p lt (ℕ-discrete p m);
   }
     where
+      -- a run to m goes on by bit k
+      on : (k : ℕ) → Lifted (Token y) m (metBit + k) → Token y m k
+      on k l =
+          let e : l .low ≡ k = omega (arith, l .high) in
+          rw e at (l .held)
+
+      cover : (q k : ℕ) → k < metBit → Token y q (metBit + k) ⊎ ((q < n) × Joined (Token y) m q (metBit + k))
+          → Token z q k
+      cover q k lt (inl h) = old (inv .covered q k lt h)
+      cover q k lt (inr (lq, both b h)) = new lq (both b (inv .covered m k lt h))
+      cover q k lt (inr (lq, met b l)) = new lq (both (inv .covered q m (omega arith) b) (on k l))
+      cover q k lt (inr (lq, round b c l)) = new lq (both b (on k l))
+
       pick : (p : ℕ) → p < m + 1 → Dec (p ≡ m) → Closed n (Token z) p
       pick p lt (yes e) = rw e closed-here
       pick p lt (no e) = closed-before p (omega arith) (inv .closed p (omega arith))
@@ -244,8 +238,14 @@ module _ (n m : ℕ) (few : n ≤ maxStates) (lm : m < n) {y z : List ℕ} (adds
       link q k (inr (lq, met b l)) = at l (joinMet m q (l .low) lm lq (l .half) (s b) (s (l .held)))
       link q k (inr (lq, round b c l)) = at l (join m q (metBit + l .low) lm lq (s b) (joinMet m m (l .low) lm lm (l .half) (s c) (s (l .held))))
 
-pub closing-begins : (n : ℕ) (x : List ℕ) → Closing n x x 0
-closing-begins n x = record { within = omega arith; size = refl; sound = λ q k h. one q k h; kept = λ q k h. h; closed = λ p lt. absurd (omega arith) }
+pub closing-begins : (n : ℕ) (x : List ℕ) → Covered x → Closing n x x 0
+closing-begins n x covered = record {
+  within = omega arith;
+  covered = covered;
+  sound = λ q k h. one q k h;
+  kept = λ q k h. h;
+  closed = λ p lt. absurd (omega arith);
+}
 
 pub closing-ends : (n m : ℕ) {x y : List ℕ} → n ≤ m → Closing n x y m → Is y (Linked n (Token x))
 closing-ends n m {x} {y} le inv = record { only = inv .sound; all = λ q k h. all h }

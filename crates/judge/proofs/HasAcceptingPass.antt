@@ -7,7 +7,7 @@ use mathlib.Core.List.{List}
 use mathlib.Core.Bool.{true, _&&_, and-eq-true-iff}
 use native.Mathlib.Omega.{arith}
 use native.Mathlib.Nat.{mul-le-mul-right, suc-mul}
-use native.Mathlib.Decide.{decLt}
+use native.Mathlib.Decide.{decLt, le-ind}
 use lib.ListN.{length}
 use Rattle.lasso.specs.Lasso.{letter}
 use Rattle.automaton.specs.Automaton.{Automaton, Step, Accepts, AcceptingPass}
@@ -59,10 +59,9 @@ module _ (a : Automaton) (range : InRange a) (stem cycle : List ℕ) (pos : 0 < 
 
   known-starts : All Known (starts a stem cycle)
   unfolding starts
-  known-starts x h = go (map-in (point 0) x (a .initial) h)
-    where
-      go : (q : ℕ) × In q (a .initial) × (x ≡ point 0 q) → Known x
-      go (q, m, e) = subst Known (sym e) (
+  known-starts x h =
+      let (q, m, e) = map-in (point 0) x (a .initial) h in
+      subst Known (sym e) (
         record { position = omega arith; state = range .initial q m },
         record { start = q; initial = m; count = 0; walk = walk-none a stem cycle (point 0 q) },
       )
@@ -181,18 +180,9 @@ module _ (a : Automaton) (range : InRange a) (stem cycle : List ℕ) (pos : 0 < 
 
     -- a search that meets one point of the run meets those after it
     module _ {P : Point → Type 0} {from points : List Point} (c : Reached a stem cycle P from points) where
-      taken-on : (d i : ℕ) → i + d ≤ high → In (here i) points → In (here (i + d)) points
-      taken-on zero i l h =
-          let z : i ≡ i + 0 = omega arith in
-          subst (λ (k : ℕ). In (here k) points) z h
-      taken-on (suc d) i l h =
-          let z : suc (i + d) ≡ i + suc d = omega arith in
-          subst (λ (k : ℕ). In (here k) points) z (c .closed (here (i + d)) (taken-on d i (omega arith) h) (here (suc (i + d))) (here-on (i + d) (omega arith)))
-
       taken-later : (i k : ℕ) → i ≤ k → k ≤ high → In (here i) points → In (here k) points
-      taken-later i k l m h =
-          let z : i + (k - i) ≡ k = omega arith in
-          subst (λ (j : ℕ). In (here j) points) z (taken-on (k - i) i (omega arith) h)
+      taken-later i k l m h = le-ind (λ j. j ≤ high → In (here j) points) (λ le. h)
+          (λ j lo ih le. c .closed (here j) (ih (omega arith)) (here (suc j)) (here-on j le)) k l m
 
     start-in : In (here 0) (starts a stem cycle)
     unfolding here onto starts
@@ -212,25 +202,26 @@ module _ (a : Automaton) (range : InRange a) (stem cycle : List ℕ) (pos : 0 < 
             (taken-later (from-after (here i)) (suc i) high m (omega arith) (from-after (here i) .has (here (suc i)) (here-on i m))))
 
     pass-shows : hasAcceptingPass a stem cycle ≡ true
-    pass-shows = go (pass .accepts)
+    pass-shows =
+        let (i, l, m, acc) = pass .accepts in
+        early i l m acc (decLt i high)
       where
-        go : (i : ℕ) × (low ≤ i) × (i ≤ high) × Accepts a (pass .at i) → hasAcceptingPass a stem cycle ≡ true
-        go (i, l, m, acc) = early (decLt i high)
-          where
-            early : Dec (i < high) → hasAcceptingPass a stem cycle ≡ true
-            early (yes lt) = found i l lt acc
-            early (no ge) =
-                let z : i ≡ high = omega arith in
-                found low (omega arith) low-high (subst (λ (k : ℕ). Accepts a k) (ap (pass .at) z ∙ sym (pass .same)) acc)
+        early : (i : ℕ) → low ≤ i → i ≤ high → Accepts a (pass .at i) → Dec (i < high) → hasAcceptingPass a stem cycle ≡ true
+        early i l m acc (yes lt) = found i l lt acc
+        early i l m acc (no ge) =
+            let z : i ≡ high = omega arith in
+            found low (omega arith) low-high (subst (λ (k : ℕ). Accepts a k) (ap (pass .at) z ∙ sym (pass .same)) acc)
 
   shown-pass : hasAcceptingPass a stem cycle ≡ true → AcceptingPass a stem cycle
   unfolding hasAcceptingPass
-  shown-pass e = go (any-iff (λ x. accepting a stem cycle x && member x (reachedFrom a stem cycle (onward a stem cycle x))) (reachedFrom a stem cycle (starts a stem cycle)) .0 e)
-    where
-      go : (x : Point) × In x (reachedFrom a stem cycle (starts a stem cycle)) × ((accepting a stem cycle x && member x (reachedFrom a stem cycle (onward a stem cycle x))) ≡ true) → AcceptingPass a stem cycle
-      go (x, m, t) =
-          let (acc, again) = and-eq-true-iff (accepting a stem cycle x) _ .0 t in
-          looped x (from-starts .sound x m .1) (from-after x .sound x (member-iff x (reachedFrom a stem cycle (onward a stem cycle x)) .0 again) .1) acc
+  shown-pass e =
+      let found = any-iff
+      (λ x. accepting a stem cycle x && member x (reachedFrom a stem cycle (onward a stem cycle x)))
+      (reachedFrom a stem cycle (starts a stem cycle)) .0 e in
+      let (x, m, t) = found in
+      let (acc, again) = and-eq-true-iff (accepting a stem cycle x) _ .0 t in
+      let after = member-iff x (reachedFrom a stem cycle (onward a stem cycle x)) .0 again in
+      looped x (from-starts .sound x m .1) (from-after x .sound x after .1) acc
 
   -- the search is right about accepting passes
   pub has-accepting-pass-iff : (hasAcceptingPass a stem cycle ≡ true) ↔ AcceptingPass a stem cycle

@@ -1,13 +1,13 @@
 -- The bits of all rows after a letter, and after the letters of a word. Assumes of the automaton only that its targets
 -- are states.
 use Prim.Native.Nat.{ℕ, zero, suc, _+_, _<_, _≤_}
-use mathlib.Core.Path.{_≡_, refl, sym, _∙_, subst}
+use mathlib.Core.Path.{_≡_, refl}
 use mathlib.Core.List.{List}
 use mathlib.Core.Bool.{true, false}
-use mathlib.Core.Logic.{_⊎_, inl, inr}
+use mathlib.Core.Logic.{inl, inr, ⊎-elim}
 use native.Mathlib.Omega.{arith}
 use native.Mathlib.Numerals.{add-one}
-use native.Mathlib.Decide.{ℕ-discrete}
+use native.Mathlib.Decide.{le-ind}
 use lib.ListN.{length, getD, replicate}
 use Rattle.automaton.specs.Automaton.{Automaton, Step, Accepts}
 use Rattle.judge.specs.Memory.{Token, Lifted, Is, Gains, Confined, Moved, moved, lifted, After, Ran}
@@ -17,36 +17,38 @@ use Rattle.judge.proofs.Decisions.{true-false, false-true}
 
 module _ (a : Automaton) (x : ℕ) where
   -- the transitions taken into empty rows, and what stands in an accepting state lifted
-  pub stepped : (n : ℕ) {empty next copied after : List ℕ} (rows : List ℕ) → ((p q : ℕ) → Step a p x q → p < n) → ((q k : ℕ) → Token empty q k → ⊥)
-      → Gains empty next (λ t k. (q : ℕ) × (q < n) × (Step a q x t × Token rows q k)) → Is copied (Token next) → Gains copied after (λ q k. Accepts a q × Lifted (Token next) q k) → Is after (Moved a x (Token rows))
-  stepped n {empty} {next} {copied} {after} rows inside none step copy lift = record { only = λ q k h. only q k (lift .only q k h); all = λ q k h. all h }
-    where
-      taken : (q k : ℕ) → Token empty q k ⊎ ((p : ℕ) × (p < n) × (Step a p x q × Token rows p k)) → (p : ℕ) × (Step a p x q × Token rows p k)
-      taken q k (inl h) = absurd (none q k h)
-      taken q k (inr (p, lt, h)) = (p, h)
+  module _ (n : ℕ) {empty next rows : List ℕ} (none : (q k : ℕ) → Token empty q k → ⊥)
+      (step : Gains empty next (λ t k. (q : ℕ) × (q < n) × (Step a q x t × Token rows q k))) where
+    taken : (q k : ℕ) → Token next q k → (p : ℕ) × (p < n) × (Step a p x q × Token rows p k)
+    taken q k h = ⊎-elim (λ e. absurd (none q k e)) (λ t. t) (step .only q k h)
 
-      move : (q k : ℕ) → (p : ℕ) × (Step a p x q × Token rows p k) → Moved a x (Token rows) q k
-      move q k (p, (s, h)) = moved p q k h s
+    pub stepped : {copied after : List ℕ} → ((p q : ℕ) → Step a p x q → p < n) → Is copied (Token next)
+        → Gains copied after (λ q k. Accepts a q × Lifted (Token next) q k) → Is after (Moved a x (Token rows))
+    stepped {copied} {after} inside copy lift = record {
+      only = λ q k h. ⊎-elim (λ t. move q k (copy .only q k t))
+          (λ (l : Accepts a q × Lifted (Token next) q k). raise q k (l .0) (l .1)) (lift .only q k h);
+      all = λ q k h. all h;
+    }
+      where
+        move : (q k : ℕ) → Token next q k → Moved a x (Token rows) q k
+        move q k t = let (p, lt, (s, h)) = taken q k t in moved p q k h s
 
-      raise : (q k : ℕ) (l : Lifted (Token next) q k) → Accepts a q → (p : ℕ) × (Step a p x q × Token rows p (l .low)) → Moved a x (Token rows) q k
-      raise q k l acc (p, (s, h)) = subst (λ (j : ℕ). Moved a x (Token rows) q j) (sym (l .high)) (lifted p q (l .low) (l .half) h s acc)
+        raise : (q k : ℕ) → Accepts a q → Lifted (Token next) q k → Moved a x (Token rows) q k
+        raise q k acc l =
+            let (p, lt, (s, h)) = taken q (l .low) (l .held) in
+            rw (l .high) (lifted p q (l .low) (l .half) h s acc)
 
-      only : (q k : ℕ) → Token copied q k ⊎ (Accepts a q × Lifted (Token next) q k) → Moved a x (Token rows) q k
-      only q k (inl h) = move q k (taken q k (step .only q k (copy .only q k h)))
-      only q k (inr (acc, l)) = raise q k l acc (taken q (l .low) (step .only q (l .low) (l .held)))
+        new : {p q k : ℕ} → Token rows p k → Step a p x q → Token next q k
+        new {p} {q} {k} h s = step .all q k (inr (p, inside p q s, (s, h)))
 
-      all : {q k : ℕ} → Moved a x (Token rows) q k → Token after q k
-      all (moved p q k h s) = lift .all q k (inl (copy .all q k (step .all q k (inr (p, inside p q s, (s, h))))))
-      all (lifted p q j lt h s acc) = lift .all q (metBit + j) (inr (acc, record { low = j; half = lt; high = refl; held = step .all q j (inr (p, inside p q s, (s, h))) }))
+        all : {q k : ℕ} → Moved a x (Token rows) q k → Token after q k
+        all (moved p q k h s) = lift .all q k (inl (copy .all q k (new h s)))
+        all (lifted p q j lt h s acc) =
+            lift .all q (metBit + j) (inr (acc, record { low = j; half = lt; high = refl; held = new h s }))
 
-  -- no run stands behind the n states
-  pub taken-confined : (n : ℕ) {empty next rows : List ℕ} → ((p q : ℕ) → Step a p x q → q < n) → ((q k : ℕ) → Token empty q k → ⊥)
-      → Gains empty next (λ t k. (q : ℕ) × (q < n) × (Step a q x t × Token rows q k)) → Confined n next
-  taken-confined n {empty} {next} {rows} target none step q k h = go (step .only q k h)
-    where
-      go : Token empty q k ⊎ ((p : ℕ) × (p < n) × (Step a p x q × Token rows p k)) → q < n
-      go (inl h) = absurd (none q k h)
-      go (inr (p, lt, (s, h))) = target p q s
+    -- no run stands behind the n states
+    pub taken-confined : ((p q : ℕ) → Step a p x q → q < n) → Confined n next
+    taken-confined target q k h = let (p, lt, (s, t)) = taken q k h in target p q s
 
   moved-inside : {n : ℕ} {Held : (q k : ℕ) → Type 0} → ((p q : ℕ) → Step a p x q → q < n) → {q k : ℕ} → Moved a x Held q k → q < n
   moved-inside target (moved p q k h s) = target p q s
@@ -60,51 +62,50 @@ module _ (a : Automaton) (x : ℕ) where
   moved-map f (moved p q k h s) = moved p q k (f p k h) s
   moved-map f (lifted p q j lt h s acc) = lifted p q j lt (f p j h) s acc
 
+-- runs that have met an accepting state are runs
+pub after-covered : (a : Automaton) (w : ℕ → ℕ) {Held : (q k : ℕ) → Type 0}
+    → ((q k : ℕ) → k < metBit → Held q (metBit + k) → Held q k)
+    → (i q k : ℕ) → k < metBit → After a w Held i q (metBit + k) → After a w Held i q k
+after-covered a w held zero q k lt h = held q k lt h
+after-covered a w {Held} held (suc i) q k lt h = go refl h (λ p. after-covered a w held i p k lt)
+  where
+    go : {q j : ℕ} → j ≡ metBit + k → Moved a (w i) (After a w Held i) q j
+        → ((p : ℕ) → After a w Held i p (metBit + k) → After a w Held i p k) → Moved a (w i) (After a w Held i) q k
+    go e (moved p q j h s) low = moved p q k (low p (rw e at h)) s
+    go e (lifted p q j lj h s acc) low =
+        let f : j ≡ k = omega arith in
+        moved p q k (rw f at h) s
+
 pub after-inside : (a : Automaton) (w : ℕ → ℕ) {n : ℕ} {Held : (q k : ℕ) → Type 0} → ((p x q : ℕ) → Step a p x q → q < n) → ((q k : ℕ) → Held q k → q < n)
     → (i q k : ℕ) → After a w Held i q k → q < n
 after-inside a w target held zero q k h = held q k h
 after-inside a w target held (suc i) q k h = moved-inside a (w i) (λ p t s. target p (w i) t s) h
 
 -- where no run from an initial state is left, none will be
-lost-later : (a : Automaton) (w : ℕ → ℕ) (Held : (q k : ℕ) → Type 0) (i : ℕ) → ((q : ℕ) → After a w Held i q startBit → ⊥) → (d : ℕ) → i ≤ d → (q : ℕ) → After a w Held d q startBit → ⊥
-lost-later a w Held i lost zero le q h =
-    let e : i ≡ 0 = omega arith in
-    lost q (rw e h)
-lost-later a w Held i lost (suc d) le q h = go (ℕ-discrete i (suc d)) (λ l. lost-later a w Held i lost d l)
-  where
-    go : Dec (i ≡ suc d) → (i ≤ d → (q : ℕ) → After a w Held d q startBit → ⊥) → ⊥
-    go (yes e) before = lost q (rw e h)
-    go (no e) before =
-        let m : (p : ℕ) × After a w Held d p startBit = moved-low a (w d) (omega arith) h in
-        before (omega arith) (m .0) (m .1)
+lost-later : (a : Automaton) (w : ℕ → ℕ) (Held : (q k : ℕ) → Type 0) (i : ℕ)
+    → ((q : ℕ) → After a w Held i q startBit → ⊥) → (d : ℕ) → i ≤ d → (q : ℕ) → After a w Held d q startBit → ⊥
+lost-later a w Held i lost = le-ind (λ d. (q : ℕ) → After a w Held d q startBit → ⊥) lost (λ d le before q h.
+    let m : (p : ℕ) × After a w Held d p startBit = moved-low a (w d) (omega arith) h in
+    before (m .0) (m .1))
 
 -- a loop that has taken the first i letters of a word; `next` is what the last one left there
 pub record Running (a : Automaton) (n : ℕ) (word before after next : List ℕ) (i : ℕ) : Type 0 where
   pub within : i ≤ length word
-  pub size : length after ≡ length before
   pub bits : Is after (After a (λ j. getD word j 0) (Token before) i)
-  pub room : length next ≡ rowsWords
   pub confined : Confined n next
 
 module _ (a : Automaton) (n : ℕ) (word before : List ℕ) where
   pub run-begins : Running a n word before before (replicate rowsWords 0) 0
   run-begins = record {
     within = omega arith;
-    size = refl;
     bits = record { only = λ q k h. h; all = λ q k h. h };
-    room = refl;
     confined = λ q k h. absurd (none-set rowsWords q k h);
   }
 
-  pub run-confined : ((p x q : ℕ) → Step a p x q → q < n) → Confined n before → {y next : List ℕ} (i : ℕ) → Running a n word before y next i → Confined n y
-  run-confined target held i inv q k h = after-inside a (λ j. getD word j 0) target held i q k (inv .bits .only q k h)
-
-  pub run-steps : (y z : List ℕ) {next after : List ℕ} (i : ℕ) → i < length word → Running a n word before y next i → length z ≡ length y → Is z (Moved a (getD word i 0) (Token y))
-      → length after ≡ rowsWords → Confined n after → Running a n word before z after (i + 1)
-  run-steps y z i lt inv size is room confined = record {
+  pub run-steps : (y z : List ℕ) {next after : List ℕ} (i : ℕ) → i < length word → Running a n word before y next i
+      → Is z (Moved a (getD word i 0) (Token y)) → Confined n after → Running a n word before z after (i + 1)
+  run-steps y z i lt inv is confined = record {
     within = omega arith;
-    size = size ∙ inv .size;
-    room = room;
     confined = confined;
     bits = rw add-one (record {
       only = λ q k h. moved-map a (getD word i 0) (inv .bits .only) (is .only q k h);
@@ -112,17 +113,25 @@ module _ (a : Automaton) (n : ℕ) (word before : List ℕ) where
     });
   }
 
-  pub run-ends : (y : List ℕ) {next : List ℕ} (i : ℕ) → length word ≤ i → Running a n word before y next i → Ran true y (After a (λ j. getD word j 0) (Token before) (length word))
+  pub run-ends : (y : List ℕ) {next : List ℕ} (i : ℕ) → length word ≤ i → Running a n word before y next i
+      → Ran true y (After a (λ j. getD word j 0) (Token before) (length word))
   run-ends y i le inv =
       let e : i ≡ length word = omega (arith, inv .within) in
       record { on = λ t. rw e at (inv .bits); lost = λ t. true-false t }
 
-  pub run-stops : ((p x q : ℕ) → Step a p x q → q < n) → Confined n before → (y : List ℕ) {next : List ℕ} (i : ℕ) → Running a n word before y next i → ((q : ℕ) × (q < n) × Token y q startBit → ⊥)
-      → Ran false y (After a (λ j. getD word j 0) (Token before) (length word))
-  run-stops target held y i inv none = record {
-    on = λ t. false-true t;
-    lost = λ t. lost-later a (λ j. getD word j 0) (Token before) i (λ q h. left q (inv .bits .all q startBit h)) (length word) (inv .within);
-  }
-    where
-      left : (q : ℕ) → Token y q startBit → ⊥
-      left q h = none (q, run-confined target held i inv q startBit h, h)
+  -- runs stay within the n states
+  module _ (target : (p x q : ℕ) → Step a p x q → q < n) (held : Confined n before) {y next : List ℕ} (i : ℕ)
+      (inv : Running a n word before y next i) where
+    pub run-confined : Confined n y
+    run-confined q k h = after-inside a (λ j. getD word j 0) target held i q k (inv .bits .only q k h)
+
+    pub run-stops : ((q : ℕ) × (q < n) × Token y q startBit → ⊥)
+        → Ran false y (After a (λ j. getD word j 0) (Token before) (length word))
+    run-stops none = record {
+      on = λ t. false-true t;
+      lost = λ t. lost-later a (λ j. getD word j 0) (Token before) i (λ q h. left q (inv .bits .all q startBit h))
+          (length word) (inv .within);
+    }
+      where
+        left : (q : ℕ) → Token y q startBit → ⊥
+        left q h = none (q, run-confined q startBit h, h)

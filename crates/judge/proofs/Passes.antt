@@ -5,18 +5,19 @@ use mathlib.Core.Path.{_≡_, refl, sym, _∙_, ap, subst}
 use mathlib.Core.List.{List}
 use mathlib.Core.Logic.{_⊎_, inl, inr}
 use native.Mathlib.Omega.{arith}
-use native.Mathlib.Nat.{mod-eq-of-lt, mul-add-mod-self-right, mul-le-mul-right}
-use native.Mathlib.Decide.{ℕ-discrete, decLt}
+use native.Mathlib.Nat.{mod-eq-of-lt, mul-add-mod-self-right, mul-le-mul-right, suc-mul}
+use native.Mathlib.Decide.{decLt, le-ind}
 use lib.ListN.{length, getD}
 use borrow.Author.Tests.{lt-ltb, le-ltb}
 use Rattle.lasso.specs.Lasso.{letter}
 use Rattle.automaton.specs.Automaton.{Automaton, Step, Accepts, AcceptingPass, passBegin}
 use Rattle.sets.specs.Sets.{In}
-use Rattle.judge.specs.Memory.{Lifted, After, Linked, one, join, joinMet}
+use Rattle.judge.specs.Memory.{After, Linked, one, join, joinMet}
 use Rattle.judge.specs.Limits.{startBit, metBit}
 use Rattle.automaton.specs.Limits.{maxStates}
 use Rattle.judge.proofs.Runs.{Leads, Meets, leads-as, meets-as, leads-on, on-early, on-late}
-use Rattle.judge.proofs.Arrivals.{Arrived, ArrivedMet, low-runs, high-runs, run-bits, met-bits}
+use Rattle.judge.proofs.Letters.{after-covered}
+use Rattle.judge.proofs.Arrivals.{Arrived, low-runs, high-runs, run-bits, met-bits}
 
 -- ---- the letters of a lasso
 
@@ -58,12 +59,9 @@ module _ (a : Automaton) (n : ℕ) (stem cycle : List ℕ) where
   abbrev pub Stemmed : (q k : ℕ) → Type 0
   Stemmed q k = After a inStem Initial (length stem) q k
 
-  -- each state bit-is-set with its own number, and the accepting ones lifted
-  abbrev pub Placed : (q k : ℕ) → Type 0
-  Placed q k = Stemmed q k ⊎ ((q < n) × (k ≡ q))
-
+  -- a pass begins in each state
   abbrev pub Begun : (q k : ℕ) → Type 0
-  Begun q k = Placed q k ⊎ (Accepts a q × Lifted Placed q k)
+  Begun q k = Stemmed q k ⊎ ((q < n) × (k ≡ q))
 
   -- after one pass
   abbrev pub Passed : (q k : ℕ) → Type 0
@@ -90,43 +88,36 @@ module _ (a : Automaton) (n : ℕ) (stem cycle : List ℕ) where
         omega (arith, m .held .1)
 
     stemmed-high : (q k p : ℕ) → p < maxStates → k ≡ metBit + p → Stemmed q k → ⊥
-    stemmed-high q k p lt e h = go (high-runs a inStem Initial (length stem) p (omega arith) e h)
-      where
-        go : Arrived a inStem Initial (length stem) q (metBit + p) ⊎ ArrivedMet a inStem Initial (length stem) q p → ⊥
-        go (inl m) = omega (arith, m .held .1)
-        go (inr m) = omega (arith, m .held .1)
-
-    placed-low : (q p : ℕ) → p < maxStates → Placed q p → q ≡ p
-    placed-low q p lt (inl h) = absurd (stemmed-low q p lt h)
-    placed-low q p lt (inr (l, e)) = sym e
+    stemmed-high q k p lt e h =
+        let m = high-runs a inStem Initial (length stem) p (λ s i. omega (arith, i .1)) (omega arith) e h in
+        omega (arith, m .held .1)
 
     begun-low : (q p : ℕ) → p < maxStates → Begun q p → q ≡ p
-    begun-low q p lt (inl h) = placed-low q p lt h
-    begun-low q p lt (inr (acc, l)) = absurd (omega (arith, l .high))
+    begun-low q p lt (inl h) = absurd (stemmed-low q p lt h)
+    begun-low q p lt (inr (l, e)) = sym e
 
-    begun-high : (q p : ℕ) → p < maxStates → Begun q (metBit + p) → (q ≡ p) × Accepts a q
-    begun-high q p lt (inl (inl h)) = absurd (stemmed-high q (metBit + p) p lt refl h)
-    begun-high q p lt (inl (inr (l, e))) = absurd (omega arith)
-    begun-high q p lt (inr (acc, l)) =
-        let e : l .low ≡ p = omega (arith, l .high) in
-        (placed-low q (l .low) (omega arith) (l .held) ∙ e, acc)
+    begun-high : (q p : ℕ) → p < maxStates → Begun q (metBit + p) → ⊥
+    begun-high q p lt (inl h) = stemmed-high q (metBit + p) p lt refl h
+    begun-high q p lt (inr (l, e)) = omega arith
+
+    -- runs that have met an accepting state are runs
+    pub passed-covered : (q k : ℕ) → k < metBit → Passed q (metBit + k) → Passed q k
+    passed-covered = after-covered a inCycle begun (length cycle)
+      where
+        begun : (q k : ℕ) → k < metBit → Begun q (metBit + k) → Begun q k
+        begun q k lt (inl h) =
+            inl (after-covered a inStem (λ p j lj (h, e). absurd (omega arith)) (length stem) q k lt h)
+        begun q k lt (inr (l, e)) = absurd (omega arith)
 
     passed-low : {q p : ℕ} → p < maxStates → Passed q p → Leads a inCycle (length cycle) p q
     passed-low {q} {p} lt h =
         let m : Arrived a inCycle Begun (length cycle) q p = low-runs a inCycle Begun (length cycle) (omega arith) h in
         subst (λ (s : ℕ). Leads a inCycle (length cycle) s q) (begun-low (m .start) p lt (m .held)) (m .run)
 
-    passed-high : {q : ℕ} (p : ℕ) → p < maxStates → Passed q (metBit + p) → Meets a inCycle 0 (length cycle) p q
-    passed-high {q} p lt h = go (high-runs a inCycle Begun (length cycle) p (omega arith) refl h)
-      where
-        from : {s : ℕ} → s ≡ p → Meets a inCycle 0 (length cycle) s q → Meets a inCycle 0 (length cycle) p q
-        from e m = subst (λ (s : ℕ). Meets a inCycle 0 (length cycle) s q) e m
-
-        go : Arrived a inCycle Begun (length cycle) q (metBit + p) ⊎ ArrivedMet a inCycle Begun (length cycle) q p → Meets a inCycle 0 (length cycle) p q
-        go (inl m) =
-            let b = begun-high (m .start) p lt (m .held) in
-            from (b .0) (record { run = m .run; index = 0; after = omega arith; before = omega arith; accepts = rw (m .run .from) (b .1) })
-        go (inr m) = from (begun-low (m .start) p lt (m .held)) (record { run = m .run .run; index = m .run .index; after = omega arith; before = m .run .before; accepts = m .run .accepts })
+    passed-high : {q : ℕ} (p : ℕ) → p < maxStates → Passed q (metBit + p) → Meets a inCycle (length cycle) p q
+    passed-high {q} p lt h =
+        let m = high-runs a inCycle Begun (length cycle) p (λ s b. begun-high s p lt b) (omega arith) refl h in
+        subst (λ (s : ℕ). Meets a inCycle (length cycle) s q) (begun-low (m .start) p lt (m .held)) (m .run)
 
     passed-start : {q : ℕ} → Passed q startBit → FromStart (length cycle) q
     passed-start {q} h = go (m .held)
@@ -142,9 +133,8 @@ module _ (a : Automaton) (n : ℕ) (stem cycle : List ℕ) where
         }
 
         go : Begun (m .start) startBit → FromStart (length cycle) q
-        go (inl (inl b)) = made (low-runs a inStem Initial (length stem) (omega arith) b)
-        go (inl (inr (l, e))) = absurd (omega arith)
-        go (inr (acc, l)) = absurd (omega (arith, l .high))
+        go (inl b) = made (low-runs a inStem Initial (length stem) (omega arith) b)
+        go (inr (l, e)) = absurd (omega arith)
 
     -- ---- and so are those of several
 
@@ -152,7 +142,7 @@ module _ (a : Automaton) (n : ℕ) (stem cycle : List ℕ) where
     record Means (q k : ℕ) : Type 0 where
       pub runs : k < maxStates → (e : ℕ) × Leads a turn (suc e * length cycle) k q
       pub starts : k ≡ startBit → (e : ℕ) × FromStart (suc e * length cycle) q
-      pub mets : (p : ℕ) → p < maxStates → k ≡ metBit + p → (e : ℕ) × Meets a turn 0 (suc e * length cycle) p q
+      pub mets : (p : ℕ) → p < maxStates → k ≡ metBit + p → (e : ℕ) × Meets a turn (suc e * length cycle) p q
 
     once : (P : ℕ → Type 0) → P (length cycle) → (e : ℕ) × P (suc e * length cycle)
     once P h =
@@ -171,7 +161,8 @@ module _ (a : Automaton) (n : ℕ) (stem cycle : List ℕ) where
     means-one q k h = record {
       runs = λ lt. once (λ d. Leads a turn d k q) (leads-as a in-turn (passed-low lt h));
       starts = λ e. once (λ d. FromStart d q) (passed-start (subst (λ (j : ℕ). Passed q j) e h));
-      mets = λ p lt e. once (λ d. Meets a turn 0 d p q) (meets-as a in-turn (passed-high p lt (subst (λ (j : ℕ). Passed q j) e h)));
+      mets = λ p lt e. once (λ d. Meets a turn d p q)
+          (meets-as a in-turn (passed-high p lt (subst (λ (j : ℕ). Passed q j) e h)));
     }
 
     -- a run on through further passes
@@ -195,51 +186,47 @@ module _ (a : Automaton) (n : ℕ) (stem cycle : List ℕ) where
           run = subst (λ (c : ℕ). Leads a word c (f .start) q) z (leads-on a (λ i lt. later-word d i) (f .run) g);
         })
 
-    met-on : {p m q : ℕ} → (d : ℕ) × Meets a turn 0 (suc d * length cycle) p m → (e : ℕ) × Leads a turn (suc e * length cycle) m q → (e : ℕ) × Meets a turn 0 (suc e * length cycle) p q
-    met-on {p} {m} {q} (d, f) (e, g) = more (λ c. Meets a turn 0 c p q) d e (record {
+    met-on : {p m q : ℕ} → (d : ℕ) × Meets a turn (suc d * length cycle) p m
+        → (e : ℕ) × Leads a turn (suc e * length cycle) m q → (e : ℕ) × Meets a turn (suc e * length cycle) p q
+    met-on {p} {m} {q} (d, f) (e, g) = more (λ c. Meets a turn c p q) d e (record {
       run = leads-on a (λ i lt. later d i) (f .run) g;
       index = f .index;
-      after = omega arith;
+      after = f .after;
       before = omega (arith, f .before);
       accepts = rw (on-early a (λ i lt. later d i) (f .run) g (f .index) (f .before)) (f .accepts);
     })
 
-    on-met : {p m q : ℕ} → (d : ℕ) × Leads a turn (suc d * length cycle) p m → (e : ℕ) × Meets a turn 0 (suc e * length cycle) m q → (e : ℕ) × Meets a turn 0 (suc e * length cycle) p q
-    on-met {p} {m} {q} (d, f) (e, g) = more (λ c. Meets a turn 0 c p q) d e (record {
+    on-met : {p m q : ℕ} → (d : ℕ) × Leads a turn (suc d * length cycle) p m
+        → (e : ℕ) × Meets a turn (suc e * length cycle) m q → (e : ℕ) × Meets a turn (suc e * length cycle) p q
+    on-met {p} {m} {q} (d, f) (e, g) = more (λ c. Meets a turn c p q) d e (record {
       run = leads-on a (λ i lt. later d i) f (g .run);
       index = suc d * length cycle + g .index;
-      after = omega arith;
+      after = omega (arith, g .after);
       before = omega (arith, g .before);
       accepts = rw (on-late a (λ i lt. later d i) f (g .run) (g .index)) (g .accepts);
     })
 
     means : {q k : ℕ} → Linked n Passed q k → Means q k
     means (one q k h) = means-one q k h
-    means (join m q k lm lq b h) = put (means b) (means h)
-      where
-        put : Means q m → Means m k → Means q k
-        put f g =
-            let on = f .runs (omega arith) in
-            record {
-              runs = λ lt. runs-on (g .runs lt) on;
-              starts = λ e. start-on (g .starts e) on;
-              mets = λ p lt e. met-on (g .mets p lt e) on;
-            }
-    means (joinMet m q k lm lq lk b h) = put (means b) (means h)
-      where
-        put : Means q (metBit + m) → Means m k → Means q (metBit + k)
-        put f g = record {
-          runs = λ lt. absurd (omega arith);
-          starts = λ e. absurd (omega arith);
-          mets = λ p lt e.
-              let z : k ≡ p = omega arith in
-              on-met (subst (λ (j : ℕ). (e : ℕ) × Leads a turn (suc e * length cycle) j m) z (g .runs (omega arith))) (f .mets m (omega arith) refl);
-        }
+    means (join m q k lm lq b h) = record {
+      runs = λ lt. runs-on (means h .runs lt) (means b .runs (omega arith));
+      starts = λ e. start-on (means h .starts e) (means b .runs (omega arith));
+      mets = λ p lt e. met-on (means h .mets p lt e) (means b .runs (omega arith));
+    }
+    means (joinMet m q k lm lq lk b h) = record {
+      runs = λ lt. absurd (omega arith);
+      starts = λ e. absurd (omega arith);
+      mets = λ p lt e.
+          let z : k ≡ p = omega arith in
+          let to = subst (λ (j : ℕ). (e : ℕ) × Leads a turn (suc e * length cycle) j m) z (means h .runs (omega arith)) in
+          on-met to (means b .mets m (omega arith) refl);
+    }
 
     pub found-pass : (q : ℕ) → q < n → Linked n Passed q startBit → Linked n Passed q (metBit + q) → AcceptingPass a stem cycle
     found-pass q lt b h = made (means b .starts refl) (means h .mets q (omega arith) refl)
       where
-        made : (d : ℕ) × FromStart (suc d * length cycle) q → (e : ℕ) × Meets a turn 0 (suc e * length cycle) q q → AcceptingPass a stem cycle
+        made : (d : ℕ) × FromStart (suc d * length cycle) q → (e : ℕ) × Meets a turn (suc e * length cycle) q q
+            → AcceptingPass a stem cycle
         made (d, f) (e, g) = record {
           at = whole .at;
           first = suc d;
@@ -265,21 +252,14 @@ module _ (a : Automaton) (n : ℕ) (stem cycle : List ℕ) where
     -- ---- runs are bits
 
     run-passed : {q : ℕ} (p : ℕ) → p < n → Leads a inCycle (length cycle) p q → Passed q p
-    run-passed p lt r = run-bits a inCycle Begun (length cycle) (inl (inr (lt, refl))) r
+    run-passed p lt r = run-bits a inCycle Begun (length cycle) (inr (lt, refl)) r
 
-    met-passed : {q : ℕ} (p : ℕ) → p < n → Meets a inCycle 0 (length cycle) p q → Passed q (metBit + p)
-    met-passed {q} p lt m = go (ℕ-discrete (m .index) 0)
-      where
-        go : Dec (m .index ≡ 0) → Passed q (metBit + p)
-        go (yes e) =
-            let acc : Accepts a p = subst (λ (t : ℕ). Accepts a t) (ap (m .run .at) e ∙ m .run .from) (m .accepts) in
-            run-bits a inCycle Begun (length cycle) {p = p} (inr (acc, record { low = p; half = omega arith; high = refl; held = inr (lt, refl) })) (m .run)
-        go (no e) =
-            met-bits a inCycle Begun (length cycle) {p = p} (omega arith) (inl (inr (lt, refl))) (record { run = m .run; index = m .index; after = omega arith; before = m .before; accepts = m .accepts })
+    met-passed : {q : ℕ} (p : ℕ) → p < n → Meets a inCycle (length cycle) p q → Passed q (metBit + p)
+    met-passed p lt m = met-bits a inCycle Begun (length cycle) (omega arith) (inr (lt, refl)) m
 
     start-passed : {m q : ℕ} (p : ℕ) → In p (a .initial) → Leads a inStem (length stem) p m → Leads a inCycle (length cycle) m q → Passed q startBit
     start-passed p h r t =
-        run-bits a inCycle Begun (length cycle) (inl (inl (run-bits a inStem Initial (length stem) (h, refl) r))) t
+        run-bits a inCycle Begun (length cycle) (inl (run-bits a inStem Initial (length stem) (h, refl) r)) t
 
     -- ---- an accepting pass shows in the bits
 
@@ -325,47 +305,57 @@ module _ (a : Automaton) (n : ℕ) (stem cycle : List ℕ) where
             (subst (λ (x : ℕ). Step a (pass .at (passAt e + i)) x (pass .at (suc (passAt e + i)))) (pass-letter e i l) (pass .steps (passAt e + i) (omega (arith, next e lt))));
       }
 
-      pass-met : (e i : ℕ) → e < pass .second → passAt e ≤ i → i ≤ passAt (suc e) → Accepts a (pass .at i) → Meets a inCycle 0 (length cycle) (state e) (state (suc e))
-      unfolding pass-run
-      pass-met e i lt lo hi acc =
-          let z : i ≡ passAt e + (i - passAt e) = omega arith in
-          record { run = pass-run e lt; index = i - passAt e; after = omega arith; before = omega arith; accepts = subst (λ (j : ℕ). Accepts a (pass .at j)) z acc }
+      -- runs over one pass, and from pass to pass
 
       link : (e : ℕ) → e < pass .second → Linked n Passed (state (suc e)) (state e)
       link e lt = one _ _ (run-passed (state e) (state-inside e (omega arith)) (pass-run e lt))
 
+      met-link : (e i : ℕ) → e < pass .second → passAt e < i → i ≤ passAt (suc e) → Accepts a (pass .at i)
+          → Linked n Passed (state (suc e)) (metBit + state e)
+      unfolding pass-run
+      met-link e i lt lo hi acc =
+          let z : i ≡ passAt e + (i - passAt e) = omega arith in
+          one _ _ (met-passed (state e) (state-inside e (omega arith)) (record {
+            run = pass-run e lt;
+            index = i - passAt e;
+            after = omega arith;
+            before = omega arith;
+            accepts = subst (λ (j : ℕ). Accepts a (pass .at j)) z acc;
+          }))
+
       through : (e k : ℕ) → e < pass .second → Linked n Passed (state e) k → Linked n Passed (state (suc e)) k
-      through e k lt h = join (state e) (state (suc e)) k (state-inside e (omega arith)) (state-inside (suc e) lt) (link e lt) h
+      through e k lt h =
+          join (state e) (state (suc e)) k (state-inside e (omega arith)) (state-inside (suc e) lt) (link e lt) h
 
-      reached : (e : ℕ) → e < pass .second → Linked n Passed (state (suc e)) startBit
-      reached zero lt = one _ _ (start-passed (pass .at 0) (pass .begins) stem-run (pass-run 0 lt))
-      reached (suc e) lt = through (suc e) startBit lt (reached e (omega arith))
+      reached : (e : ℕ) → 0 < e → e ≤ pass .second → Linked n Passed (state e) startBit
+      reached = le-ind (λ e. e ≤ pass .second → Linked n Passed (state e) startBit)
+          (λ le. one _ _ (start-passed (pass .at 0) (pass .begins) stem-run (pass-run 0 le)))
+          (λ e lo ih le. through e startBit le (ih (omega arith)))
 
-      back : (d : ℕ) → pass .first + d < pass .second → Linked n Passed (state (suc (pass .first + d))) (state (pass .first))
-      back zero lt =
-          let z : pass .first ≡ pass .first + 0 = omega arith in
-          subst (λ (e : ℕ). Linked n Passed (state (suc e)) (state (pass .first))) z (link (pass .first) (omega arith))
-      back (suc d) lt =
-          let z : suc (pass .first + d) ≡ pass .first + suc d = omega arith in
-          subst (λ (e : ℕ). Linked n Passed (state (suc e)) (state (pass .first))) z (through (suc (pass .first + d)) (state (pass .first)) (omega arith) (back d (omega arith)))
+      -- a run from the state where pass `first` begins to the one where pass e does, and one that has accepted by then
+      abbrev Round : ℕ → Type 0
+      Round e = e ≤ pass .second → Linked n Passed (state e) (state (pass .first))
+          × ((i : ℕ) → passAt (pass .first) < i → i ≤ passAt e → Accepts a (pass .at i)
+          → Linked n Passed (state e) (metBit + state (pass .first)))
 
-      met : (d i : ℕ) → pass .first + d < pass .second → passAt (pass .first) ≤ i → i ≤ passAt (suc (pass .first + d)) → Accepts a (pass .at i)
-          → Linked n Passed (state (suc (pass .first + d))) (metBit + state (pass .first))
-      met zero i lt lo hi acc =
-          let z : pass .first ≡ pass .first + 0 = omega arith in
-          subst (λ (e : ℕ). Linked n Passed (state (suc e)) (metBit + state (pass .first))) z
-          (one _ _ (met-passed (state (pass .first)) (state-inside (pass .first) (omega arith)) (pass-met (pass .first) i (omega arith) lo (subst (λ (e : ℕ). i ≤ passAt (suc e)) (sym z) hi) acc)))
-      met (suc d) i lt lo hi acc = go (decLt (passAt (suc (pass .first + d))) i) (λ le. met d i (omega arith) lo le acc)
+      rounds : (e : ℕ) → pass .first < e → Round e
+      rounds = le-ind Round (λ le. (link (pass .first) le, λ i lo hi acc. met-link (pass .first) i le lo hi acc)) on
         where
-          z : suc (pass .first + d) ≡ pass .first + suc d
-          z = omega arith
-
-          go : Dec (passAt (suc (pass .first + d)) < i) → (i ≤ passAt (suc (pass .first + d)) → Linked n Passed (state (suc (pass .first + d))) (metBit + state (pass .first)))
-              → Linked n Passed (state (suc (pass .first + suc d))) (metBit + state (pass .first))
-          go (yes l) below = subst (λ (e : ℕ). Linked n Passed (state (suc e)) (metBit + state (pass .first))) z
-              (joinMet (state (suc (pass .first + d))) (state (suc (suc (pass .first + d)))) (state (pass .first)) (state-inside (suc (pass .first + d)) (omega arith)) (state-inside (suc (suc (pass .first + d))) (omega arith)) (omega (arith, state-inside (pass .first) (omega arith)))
-              (one _ _ (met-passed (state (suc (pass .first + d))) (state-inside (suc (pass .first + d)) (omega arith)) (pass-met (suc (pass .first + d)) i (omega arith) (omega arith) (subst (λ (e : ℕ). i ≤ passAt (suc e)) (sym z) hi) acc))) (back d (omega arith)))
-          go (no l) below = subst (λ (e : ℕ). Linked n Passed (state (suc e)) (metBit + state (pass .first))) z (through (suc (pass .first + d)) (metBit + state (pass .first)) (omega arith) (below (omega arith)))
+          on : (e : ℕ) → pass .first < e → Round e → Round (suc e)
+          on e lo ih le = (
+            through e (state (pass .first)) le (ih (omega arith) .0),
+            λ i l h acc. pick i l h acc (decLt (passAt e) i),
+          )
+            where
+              pick : (i : ℕ) → passAt (pass .first) < i → i ≤ passAt (suc e) → Accepts a (pass .at i)
+                  → Dec (passAt e < i)
+                  → Linked n Passed (state (suc e)) (metBit + state (pass .first))
+              pick i l h acc (yes lt) =
+                  joinMet (state e) (state (suc e)) (state (pass .first)) (state-inside e (omega arith))
+                  (state-inside (suc e) le)
+                  (omega (arith, state-inside (pass .first) (omega arith))) (met-link e i le lt h acc)
+                  (ih (omega arith) .0)
+              pick i l h acc (no ge) = through e _ le (ih (omega arith) .1 i l (omega arith) acc)
 
       -- its run shows after the stem, and after the first pass
       pub pass-stemmed : (q : ℕ) × Stemmed q startBit
@@ -374,19 +364,32 @@ module _ (a : Automaton) (n : ℕ) (stem cycle : List ℕ) where
       pub pass-passed : (q : ℕ) × Passed q startBit
       pass-passed = (state 1, start-passed (pass .at 0) (pass .begins) stem-run (pass-run 0 (omega (arith, pass .later))))
 
-      pub pass-found : (q : ℕ) × (q < n) × (Linked n Passed q startBit × Linked n Passed q (metBit + q))
-      pass-found = made (pass .accepts)
-        where
-          z : suc (pass .first + (pass .second - suc (pass .first))) ≡ pass .second
-          z = omega (arith, pass .later)
+      abbrev pub Found : Type 0
+      Found = (q : ℕ) × (q < n) × (Linked n Passed q startBit × Linked n Passed q (metBit + q))
 
-          made : (i : ℕ) × (passAt (pass .first) ≤ i) × (i ≤ passAt (pass .second)) × Accepts a (pass .at i) → (q : ℕ) × (q < n) × (Linked n Passed q startBit × Linked n Passed q (metBit + q))
-          made (i, lo, hi, acc) = (
+      pub pass-found : 0 < length cycle → Found
+      pass-found some =
+          let (i, lo, hi, acc) = pass .accepts in
+          made i lo hi acc (decLt (passAt (pass .first)) i)
+        where
+          -- where the run accepts after it stood in the state for the first time
+          shown : (i : ℕ) → passAt (pass .first) < i → i ≤ passAt (pass .second) → Accepts a (pass .at i) → Found
+          shown i lo hi acc = (
             state (pass .second),
             state-inside (pass .second) (omega arith),
             (
-              subst (λ (e : ℕ). Linked n Passed (state e) startBit) z (reached (pass .first + (pass .second - suc (pass .first))) (omega (arith, pass .later))),
+              reached (pass .second) (omega (arith, pass .later)) (omega arith),
               subst (λ (q : ℕ). Linked n Passed (state (pass .second)) (metBit + q)) (pass .same)
-                  (subst (λ (e : ℕ). Linked n Passed (state e) (metBit + state (pass .first))) z (met (pass .second - suc (pass .first)) i (omega (arith, pass .later)) lo (subst (λ (e : ℕ). i ≤ passAt e) (sym z) hi) acc)),
+                  (rounds (pass .second) (pass .later) (omega arith) .1 i lo hi acc),
             ),
           )
+
+          -- or then: it stands there again
+          made : (i : ℕ) → passAt (pass .first) ≤ i → i ≤ passAt (pass .second) → Accepts a (pass .at i)
+              → Dec (passAt (pass .first) < i) → Found
+          made i lo hi acc (yes lt) = shown i lt hi acc
+          made i lo hi acc (no ge) =
+              let e : i ≡ passAt (pass .first) = omega arith in
+              let le = mul-le-mul-right (length cycle) (pass .later) in
+              shown (passAt (pass .second)) (omega (arith, suc-mul (pass .first) (length cycle))) (omega arith)
+              (subst (λ (q : ℕ). Accepts a q) (ap (pass .at) e ∙ pass .same) acc)

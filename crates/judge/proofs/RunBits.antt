@@ -3,7 +3,7 @@ use Prim.Native.Nat.{ℕ, zero, suc, _+_, _-_, _*_, _/_, _%_, _^_, _<_, _≤_}
 use mathlib.Core.Path.{_≡_, refl, sym, _∙_, ap, subst}
 use mathlib.Core.List.{List, _++_}
 use mathlib.Core.Bool.{_&&_}
-use mathlib.Core.Logic.{_⊎_, inl, inr}
+use mathlib.Core.Logic.{_⊎_, inl, inr, ⊎-elim, ⊎-map}
 use native.Mathlib.Omega.{arith}
 use native.Mathlib.Decide.{ℕ-discrete, decLt}
 use lib.ListN.{length, getD, set, replicate, take, drop, length-set, length-replicate, List·getD-append}
@@ -58,18 +58,23 @@ module _ (x : List ℕ) (a : ℕ) (from : List ℕ) (b n : ℕ) where
       let e : i ≡ n = omega (arith, inv .within) in
       rw e at (inv .ored)
 
--- a word that is two joined
-joined-only : {u v w : ℕ} (n : ℕ) → u ≡ bitOr v w → Has u n → Has v n ⊎ Has w n
-joined-only {u} {v} {w} n e h = or-has v w n (subst (λ (d : ℕ). Has d n) e h)
+-- a bit of a word that is the same in both lists
+same-token : {x y : List ℕ} {q k : ℕ} → getD x (4 * q + k / 64) 0 ≡ getD y (4 * q + k / 64) 0 → Token x q k
+    → Token y q k
+same-token {x} {y} {q} {k} e h = record { within = h .within; bit = subst (λ (d : ℕ). Has d (k % 64)) e (h .bit) }
 
-joined-left : {u v : ℕ} (w n : ℕ) → u ≡ bitOr v w → Has v n → Has u n
-joined-left {u} {v} w n e h = subst (λ (d : ℕ). Has d n) (sym e) (has-or-l v w n h)
+-- and of one that is joined with another word
+module _ (x y : List ℕ) (q k w : ℕ) (e : getD y (4 * q + k / 64) 0 ≡ bitOr (getD x (4 * q + k / 64) 0) w) where
+  joined-only : Token y q k → Token x q k ⊎ Has w (k % 64)
+  joined-only h =
+      ⊎-map (λ b. record { within = h .within; bit = b }) (λ b. b)
+      (or-has _ w (k % 64) (subst (λ (d : ℕ). Has d (k % 64)) e (h .bit)))
 
-joined-right : {u w : ℕ} (v n : ℕ) → u ≡ bitOr v w → Has w n → Has u n
-joined-right {u} {w} v n e h = subst (λ (d : ℕ). Has d n) (sym e) (has-or-r v w n h)
+  joined-old : Token x q k → Token y q k
+  joined-old h = record { within = h .within; bit = rw e (has-or-l _ w (k % 64) (h .bit)) }
 
-same-bit : {u v : ℕ} (n : ℕ) → u ≡ v → Has u n → Has v n
-same-bit n e h = subst (λ (d : ℕ). Has d n) e h
+  joined-new : k < rowBits → Has w (k % 64) → Token y q k
+  joined-new lt b = record { within = lt; bit = rw e (has-or-r (getD x (4 * q + k / 64) 0) w (k % 64) b) }
 
 -- words of other rows
 apart : (r t k : ℕ) → k < rowBits → (r ≡ t → ⊥) → (4 * r + k / 64 < 4 * t) ⊎ (4 * t + 4 ≤ 4 * r + k / 64)
@@ -84,65 +89,75 @@ module _ (x from y : List ℕ) (t q : ℕ) where
   pub ored-row : Ored x (4 * t) from (4 * q) 4 y → Gains x y (λ r k. (r ≡ t) × Token from q k)
   ored-row o = record { only = λ r k h. only r k h (ℕ-discrete r t); all = λ r k h. all r k h (ℕ-discrete r t) }
     where
-      word : (r k : ℕ) → r ≡ t → k < rowBits → getD y (4 * r + k / 64) 0 ≡ bitOr (getD x (4 * r + k / 64) 0) (getD from (4 * q + k / 64) 0)
+      word : (r k : ℕ) → r ≡ t → k < rowBits
+          → getD y (4 * r + k / 64) 0 ≡ bitOr (getD x (4 * r + k / 64) 0) (getD from (4 * q + k / 64) 0)
       word r k e w = rw e (o .inside (k / 64) (omega arith))
 
+      other : (r k : ℕ) → (r ≡ t → ⊥) → k < rowBits → getD y (4 * r + k / 64) 0 ≡ getD x (4 * r + k / 64) 0
+      other r k e w = o .outside (4 * r + k / 64) (apart r t k w e)
+
       only : (r k : ℕ) → Token y r k → Dec (r ≡ t) → Token x r k ⊎ ((r ≡ t) × Token from q k)
-      only r k h (yes e) = split (joined-only (k % 64) (word r k e (h .within)) (h .bit))
-        where
-          split : Has (getD x (4 * r + k / 64) 0) (k % 64) ⊎ Has (getD from (4 * q + k / 64) 0) (k % 64) → Token x r k ⊎ ((r ≡ t) × Token from q k)
-          split (inl b) = inl (record { within = h .within; bit = b })
-          split (inr b) = inr (e, record { within = h .within; bit = b })
-      only r k h (no e) = inl (record { within = h .within; bit = same-bit (k % 64) (o .outside (4 * r + k / 64) (apart r t k (h .within) e)) (h .bit) })
+      only r k h (yes e) =
+          ⊎-map (λ b. b) (λ b. (e, record { within = h .within; bit = b }))
+          (joined-only x y r k _ (word r k e (h .within)) h)
+      only r k h (no e) = inl (same-token (other r k e (h .within)) h)
 
       all : (r k : ℕ) → Token x r k ⊎ ((r ≡ t) × Token from q k) → Dec (r ≡ t) → Token y r k
-      all r k (inr (e, h)) d = record { within = h .within; bit = joined-right (getD x (4 * r + k / 64) 0) (k % 64) (word r k e (h .within)) (h .bit) }
-      all r k (inl h) (yes e) = record { within = h .within; bit = joined-left (getD from (4 * q + k / 64) 0) (k % 64) (word r k e (h .within)) (h .bit) }
-      all r k (inl h) (no e) = record { within = h .within; bit = same-bit (k % 64) (sym (o .outside (4 * r + k / 64) (apart r t k (h .within) e))) (h .bit) }
+      all r k (inr (e, h)) d = joined-new x y r k _ (word r k e (h .within)) (h .within) (h .bit)
+      all r k (inl h) (yes e) = joined-old x y r k _ (word r k e (h .within)) h
+      all r k (inl h) (no e) = same-token (sym (other r k e (h .within))) h
 
   -- the upper half of a row, from the lower half of another
   pub ored-met : Ored x (4 * t + 2) from (4 * q) 2 y → Gains x y (λ r k. (r ≡ t) × Lifted (Token from) q k)
-  ored-met o = record { only = λ r k h. only r k h (ℕ-discrete r t) (decLt k metBit); all = λ r k h. all r k h (ℕ-discrete r t) (decLt k metBit) }
+  ored-met o = record { only = λ r k h. only r k h (upper r k (h .within)); all = λ r k h. all r k h }
     where
-      word : (r k : ℕ) → r ≡ t → k < rowBits → metBit ≤ k → getD y (4 * r + k / 64) 0 ≡ bitOr (getD x (4 * r + k / 64) 0) (getD from (4 * q + (k - metBit) / 64) 0)
-      word r k e w l =
+      -- a word is joined, or it is as it was
+      Joins : (r k : ℕ) → Type 0
+      Joins r k = (r ≡ t) × (metBit ≤ k)
+          × (getD y (4 * r + k / 64) 0 ≡ bitOr (getD x (4 * r + k / 64) 0) (getD from (4 * q + (k - metBit) / 64) 0))
+
+      Stays : (r k : ℕ) → Type 0
+      Stays r k = getD y (4 * r + k / 64) 0 ≡ getD x (4 * r + k / 64) 0
+
+      joins : (r k : ℕ) → k < rowBits → r ≡ t → metBit ≤ k → Joins r k
+      joins r k w e l =
           let i : 4 * r + k / 64 ≡ 4 * t + 2 + (k - metBit) / 64 = omega arith in
-          rw i (o .inside ((k - metBit) / 64) (omega arith))
+          (e, l, rw i (o .inside ((k - metBit) / 64) (omega arith)))
 
-      low : (r k : ℕ) → r ≡ t → k < metBit → getD y (4 * r + k / 64) 0 ≡ getD x (4 * r + k / 64) 0
-      low r k e l = o .outside (4 * r + k / 64) (inl (omega arith))
-
-      other : (r k : ℕ) → k < rowBits → (r ≡ t → ⊥) → getD y (4 * r + k / 64) 0 ≡ getD x (4 * r + k / 64) 0
-      other r k w e = o .outside (4 * r + k / 64) (go (apart r t k w e))
+      upper : (r k : ℕ) → k < rowBits → Joins r k ⊎ Stays r k
+      upper r k w = go (ℕ-discrete r t) (decLt k metBit)
         where
-          go : (4 * r + k / 64 < 4 * t) ⊎ (4 * t + 4 ≤ 4 * r + k / 64) → (4 * r + k / 64 < 4 * t + 2) ⊎ (4 * t + 2 + 2 ≤ 4 * r + k / 64)
-          go (inl l) = inl (omega arith)
-          go (inr l) = inr (omega arith)
+          go : Dec (r ≡ t) → Dec (k < metBit) → Joins r k ⊎ Stays r k
+          go (yes e) (yes l) = inr (o .outside (4 * r + k / 64) (inl (omega arith)))
+          go (yes e) (no l) = inl (joins r k w e (omega arith))
+          go (no e) d =
+              inr (o .outside (4 * r + k / 64) (⊎-map (λ l. omega arith) (λ l. omega arith) (apart r t k w e)))
 
-      only : (r k : ℕ) → Token y r k → Dec (r ≡ t) → Dec (k < metBit) → Token x r k ⊎ ((r ≡ t) × Lifted (Token from) q k)
-      only r k h (no e) d = inl (record { within = h .within; bit = same-bit (k % 64) (other r k (h .within) e) (h .bit) })
-      only r k h (yes e) (yes l) = inl (record { within = h .within; bit = same-bit (k % 64) (low r k e l) (h .bit) })
-      only r k h (yes e) (no l) = split (joined-only (k % 64) (word r k e (h .within) (omega arith)) (h .bit))
+      only : (r k : ℕ) → Token y r k → Joins r k ⊎ Stays r k → Token x r k ⊎ ((r ≡ t) × Lifted (Token from) q k)
+      only r k h (inr e) = inl (same-token e h)
+      only r k h (inl (e, l, f)) = ⊎-map (λ b. b) (λ b. (e, made b)) (joined-only x y r k _ f h)
         where
-          split : Has (getD x (4 * r + k / 64) 0) (k % 64) ⊎ Has (getD from (4 * q + (k - metBit) / 64) 0) (k % 64) → Token x r k ⊎ ((r ≡ t) × Lifted (Token from) q k)
-          split (inl b) = inl (record { within = h .within; bit = b })
-          split (inr b) =
+          made : Has (getD from (4 * q + (k - metBit) / 64) 0) (k % 64) → Lifted (Token from) q k
+          made b =
               let w = h .within in
               let m : k % 64 ≡ (k - metBit) % 64 = omega arith in
-              inr (e, record { low = k - metBit; half = omega arith; high = omega arith; held = record { within = omega arith; bit = rw m at b } })
+              record {
+                low = k - metBit;
+                half = omega arith;
+                high = omega arith;
+                held = record { within = omega arith; bit = rw m at b };
+              }
 
-      all : (r k : ℕ) → Token x r k ⊎ ((r ≡ t) × Lifted (Token from) q k) → Dec (r ≡ t) → Dec (k < metBit) → Token y r k
-      all r k (inl h) (no e) d = record { within = h .within; bit = same-bit (k % 64) (sym (other r k (h .within) e)) (h .bit) }
-      all r k (inl h) (yes e) (yes l) = record { within = h .within; bit = same-bit (k % 64) (sym (low r k e l)) (h .bit) }
-      all r k (inl h) (yes e) (no l) = record { within = h .within; bit = joined-left (getD from (4 * q + (k - metBit) / 64) 0) (k % 64) (word r k e (h .within) (omega arith)) (h .bit) }
-      all r k (inr (e, l)) d f = record { within = omega (arith, l .half, l .high); bit = joined-right (getD x (4 * r + k / 64) 0) (k % 64) (word r k e (omega (arith, l .half, l .high)) (omega (arith, l .high))) bit }
-        where
-          bit : Has (getD from (4 * q + (k - metBit) / 64) 0) (k % 64)
-          bit =
-              let h = l .high in
-              let i : k - metBit ≡ l .low = omega arith in
-              let m : k % 64 ≡ l .low % 64 = omega arith in
-              rw (i, m) (l .held .bit)
+      all : (r k : ℕ) → Token x r k ⊎ ((r ≡ t) × Lifted (Token from) q k) → Token y r k
+      all r k (inl h) =
+          ⊎-elim (λ (j : Joins r k). joined-old x y r k _ (j .2) h) (λ e. same-token (sym e) h) (upper r k (h .within))
+      all r k (inr (e, l)) =
+          let g = l .high in
+          let lt = l .half in
+          let w : k < rowBits = omega arith in
+          let i : k - metBit ≡ l .low = omega arith in
+          let m : k % 64 ≡ l .low % 64 = omega arith in
+          joined-new x y r k _ (joins r k w e (omega arith) .2) w (rw (i, m) (l .held .bit))
 
 -- ---- words that are 0
 
@@ -174,7 +189,7 @@ tests-joined a b c = go (ℕ-discrete a b) (ℕ-discrete c 0)
 -- ---- no bit
 
 pub none-set : (n q k : ℕ) → Token (replicate n 0) q k → ⊥
-none-set n q k h = zero-has (same-bit (k % 64) (zeros-at n (4 * q + k / 64)) (h .bit))
+none-set n q k h = zero-has (rw (zeros-at n (4 * q + k / 64)) at (h .bit))
 
 four : (rows : List ℕ) (at j : ℕ) → j < 4 → getD rows at 0 ≡ 0 → getD rows (at + 1) 0 ≡ 0 → getD rows (at + 2) 0 ≡ 0 → getD rows (at + 3) 0 ≡ 0 → getD rows (at + j) 0 ≡ 0
 four rows at zero lt a b c d = rw add-zero a
@@ -190,7 +205,7 @@ row-none rows q e k h =
     let f = or-none _ (getD rows (4 * q + 3) 0) e in
     let g = or-none _ (getD rows (4 * q + 2) 0) (f .0) in
     let w = or-none (getD rows (4 * q) 0) (getD rows (4 * q + 1) 0) (g .0) in
-    zero-has (same-bit (k % 64) (four rows (4 * q) (k / 64) (omega (arith, h .within)) (w .0) (w .1) (g .1) (f .1)) (h .bit))
+    zero-has (rw (four rows (4 * q) (k / 64) (omega (arith, h .within)) (w .0) (w .1) (g .1) (f .1)) at (h .bit))
 
 -- ---- the first rows stored
 
@@ -210,20 +225,27 @@ module _ (n : ℕ) (old : List ℕ) (confined : Confined n old) where
   stored : (new : List ℕ) → length new ≡ 4 * n → Is (new ++ drop (4 * n) old) (λ q k. (q < n) × Token new q k)
   stored new size = record { only = λ q k h. only q k h (decLt q n); all = λ q k h. all q k (h .0) (h .1) }
     where
+      word : (q k : ℕ) → q < n → k < rowBits
+          → getD (new ++ drop (4 * n) old) (4 * q + k / 64) 0 ≡ getD new (4 * q + k / 64) 0
+      word q k lt w = front (4 * n) new old size (4 * q + k / 64) (omega arith)
+
       only : (q k : ℕ) → Token (new ++ drop (4 * n) old) q k → Dec (q < n) → (q < n) × Token new q k
-      only q k h (yes lt) = (lt, record { within = h .within; bit = same-bit (k % 64) (front (4 * n) new old size (4 * q + k / 64) (omega (arith, h .within))) (h .bit) })
-      only q k h (no ge) = absurd (ge (confined q k (record { within = h .within; bit = same-bit (k % 64) (behind (4 * n) new old size (4 * q + k / 64) (omega arith)) (h .bit) })))
+      only q k h (yes lt) = (lt, same-token (word q k lt (h .within)) h)
+      only q k h (no ge) =
+          absurd (ge (confined q k (same-token (behind (4 * n) new old size (4 * q + k / 64) (omega arith)) h)))
 
       all : (q k : ℕ) → q < n → Token new q k → Token (new ++ drop (4 * n) old) q k
-      all q k lt h = record { within = h .within; bit = same-bit (k % 64) (sym (front (4 * n) new old size (4 * q + k / 64) (omega (arith, h .within)))) (h .bit) }
+      all q k lt h = same-token (sym (word q k lt (h .within))) h
 
   pub cleared : {rows : List ℕ} → rows ≡ replicate (4 * n) 0 ++ drop (4 * n) old → (q k : ℕ) → Token rows q k → ⊥
-  cleared {rows} e q k h = none-set (4 * n) q k (stored (replicate (4 * n) 0) (length-replicate (4 * n) 0) .only q k (subst (λ (r : List ℕ). Token r q k) e h) .1)
+  cleared {rows} e q k h =
+      none-set (4 * n) q k (stored (replicate (4 * n) 0) (length-replicate (4 * n) 0) .only q k (rw e at h) .1)
 
-  pub copied : {rows : List ℕ} (from : List ℕ) → 4 * n ≤ length from → Confined n from → rows ≡ take (4 * n) from ++ drop (4 * n) old → Is rows (Token from)
+  pub copied : {rows : List ℕ} (from : List ℕ) → 4 * n ≤ length from → Confined n from
+      → rows ≡ take (4 * n) from ++ drop (4 * n) old → Is rows (Token from)
   copied {rows} from fits within e = record {
-    only = λ q k h. only q k (is .only q k (subst (λ (r : List ℕ). Token r q k) e h));
-    all = λ q k h. subst (λ (r : List ℕ). Token r q k) (sym e) (is .all q k (all q k (within q k h) h));
+    only = λ q k h. let (lt, t) = is .only q k (rw e at h) in same-token (word q k lt (h .within)) t;
+    all = λ q k h. let lt = within q k h in rw e (is .all q k (lt, same-token (sym (word q k lt (h .within))) h));
   }
     where
       is : Is (take (4 * n) from ++ drop (4 * n) old) (λ q k. (q < n) × Token (take (4 * n) from) q k)
@@ -231,12 +253,6 @@ module _ (n : ℕ) (old : List ℕ) (confined : Confined n old) where
 
       word : (q k : ℕ) → q < n → k < rowBits → getD (take (4 * n) from) (4 * q + k / 64) 0 ≡ getD from (4 * q + k / 64) 0
       word q k lt w = getD-take (4 * n) from (4 * q + k / 64) 0 (omega arith)
-
-      only : (q k : ℕ) → (q < n) × Token (take (4 * n) from) q k → Token from q k
-      only q k (lt, h) = record { within = h .within; bit = same-bit (k % 64) (word q k lt (h .within)) (h .bit) }
-
-      all : (q k : ℕ) → q < n → Token from q k → (q < n) × Token (take (4 * n) from) q k
-      all q k lt h = (lt, record { within = h .within; bit = same-bit (k % 64) (sym (word q k lt (h .within))) (h .bit) })
 
 -- ---- one bit
 
@@ -246,7 +262,10 @@ withBits x q k word = set x (4 * q + k / 64) (bitOr (getD x (4 * q + k / 64) 0) 
 
 module _ (x : List ℕ) (q k : ℕ) (fits : 4 * q + 4 ≤ length x) (within : k < rowBits) where
   pub bit-is-set : (word : ℕ) → word ≡ 2 ^ (k % 64) → Gains x (withBits x q k word) (λ r j. (r ≡ q) × (j ≡ k))
-  bit-is-set word e = record { only = λ r j h. only r j h (ℕ-discrete (4 * r + j / 64) (4 * q + k / 64)); all = λ r j h. all r j h (ℕ-discrete (4 * r + j / 64) (4 * q + k / 64)) }
+  bit-is-set word e = record {
+    only = λ r j h. only r j h (ℕ-discrete (4 * r + j / 64) (4 * q + k / 64));
+    all = λ r j h. all r j h (ℕ-discrete (4 * r + j / 64) (4 * q + k / 64));
+  }
     where
       at : (i : ℕ) → i ≡ 4 * q + k / 64 → getD (withBits x q k word) i 0 ≡ bitOr (getD x i 0) word
       at i h = rw h (getD-set-same x (4 * q + k / 64) (bitOr (getD x (4 * q + k / 64) 0) word) 0 (omega arith))
@@ -254,30 +273,33 @@ module _ (x : List ℕ) (q k : ℕ) (fits : 4 * q + 4 ≤ length x) (within : k 
       other : (i : ℕ) → (i ≡ 4 * q + k / 64 → ⊥) → getD (withBits x q k word) i 0 ≡ getD x i 0
       other i h = getD-set-other x (4 * q + k / 64) i (bitOr (getD x (4 * q + k / 64) 0) word) 0 h
 
-      only : (r j : ℕ) → Token (withBits x q k word) r j → Dec (4 * r + j / 64 ≡ 4 * q + k / 64) → Token x r j ⊎ ((r ≡ q) × (j ≡ k))
-      only r j h (no f) = inl (record { within = h .within; bit = same-bit (j % 64) (other (4 * r + j / 64) f) (h .bit) })
-      only r j h (yes f) = split (joined-only (j % 64) (at (4 * r + j / 64) f) (h .bit))
+      only : (r j : ℕ) → Token (withBits x q k word) r j → Dec (4 * r + j / 64 ≡ 4 * q + k / 64)
+          → Token x r j ⊎ ((r ≡ q) × (j ≡ k))
+      only r j h (no f) = inl (same-token (other (4 * r + j / 64) f) h)
+      only r j h (yes f) = ⊎-map (λ t. t) it (joined-only x (withBits x q k word) r j word (at (4 * r + j / 64) f) h)
         where
-          split : Has (getD x (4 * r + j / 64) 0) (j % 64) ⊎ Has word (j % 64) → Token x r j ⊎ ((r ≡ q) × (j ≡ k))
-          split (inl b) = inl (record { within = h .within; bit = b })
-          split (inr b) =
+          it : Has word (j % 64) → (r ≡ q) × (j ≡ k)
+          it b =
               let m = has-pow (k % 64) (j % 64) (rw e at b) in
               let w = h .within in
-              inr (omega arith, omega arith)
+              (omega arith, omega arith)
 
       all : (r j : ℕ) → Token x r j ⊎ ((r ≡ q) × (j ≡ k)) → Dec (4 * r + j / 64 ≡ 4 * q + k / 64) → Token (withBits x q k word) r j
-      all r j (inl h) (yes f) = record { within = h .within; bit = joined-left word (j % 64) (at (4 * r + j / 64) f) (h .bit) }
-      all r j (inl h) (no f) = record { within = h .within; bit = same-bit (j % 64) (sym (other (4 * r + j / 64) f)) (h .bit) }
+      all r j (inl h) (yes f) = joined-old x (withBits x q k word) r j word (at (4 * r + j / 64) f) h
+      all r j (inl h) (no f) = same-token (sym (other (4 * r + j / 64) f)) h
       all r j (inr (a, b)) d =
-          let p : Has word (k % 64) = rw e (pow-has (k % 64)) in
-          record { within = omega arith; bit = joined-right (getD x (4 * r + j / 64) 0) (j % 64) (at (4 * r + j / 64) (rw (a, b) refl)) (rw b p) }
+          let p : Has word (j % 64) = rw (e, b) (pow-has (k % 64)) in
+          joined-new x (withBits x q k word) r j word (at (4 * r + j / 64) (rw (a, b) refl)) (omega arith) p
 
 -- a word's bit, as the code looks at it
-pub looked : (rows : List ℕ) (q k : ℕ) → k < rowBits → Tells (eqb (bitAnd (getD rows (4 * q + k / 64) 0 / 2 ^ (k % 64)) 1) 1) (Token rows q k)
-looked rows q k w = record {
-  yes = λ e. record { within = w; bit = record { set = rw (and-mask (getD rows (4 * q + k / 64) 0 / 2 ^ (k % 64)) 1) at (eqb-true (bitAnd (getD rows (4 * q + k / 64) 0 / 2 ^ (k % 64)) 1) 1 e) } };
-  no = λ e h. eqb-false (bitAnd (getD rows (4 * q + k / 64) 0 / 2 ^ (k % 64)) 1) 1 e (and-mask (getD rows (4 * q + k / 64) 0 / 2 ^ (k % 64)) 1 ∙ h .bit .set);
-}
+pub looked : (rows : List ℕ) (q k : ℕ) → k < rowBits
+    → Tells (eqb (bitAnd (getD rows (4 * q + k / 64) 0 / 2 ^ (k % 64)) 1) 1) (Token rows q k)
+looked rows q k w =
+    let bits = getD rows (4 * q + k / 64) 0 / 2 ^ (k % 64) in
+    record {
+      yes = λ e. record { within = w; bit = record { set = rw (and-mask bits 1) at (eqb-true (bitAnd bits 1) 1 e) } };
+      no = λ e h. eqb-false (bitAnd bits 1) 1 e (and-mask bits 1 ∙ h .bit .set);
+    }
 
 -- 1 shifted by less than the word's width
 pub shifted-one : (n : ℕ) → n < 64 → 1 * 2 ^ n % 2 ^ 64 ≡ 2 ^ n

@@ -17,11 +17,11 @@ pub record Leads (a : Automaton) (w : ℕ → ℕ) (d p q : ℕ) : Type 0 where
   pub to : at d ≡ q
   pub steps : (i : ℕ) → i < d → Step a (at i) (w i) (at (suc i))
 
--- one that stands in an accepting state somewhere from its index `low` on
-pub record Meets (a : Automaton) (w : ℕ → ℕ) (low d p q : ℕ) : Type 0 where
+-- one that stands in an accepting state after its first letter or later
+pub record Meets (a : Automaton) (w : ℕ → ℕ) (d p q : ℕ) : Type 0 where
   pub run : Leads a w d p q
   pub index : ℕ
-  pub after : low ≤ index
+  pub after : 0 < index
   pub before : index ≤ d
   pub accepts : Accepts a (run .at index)
 
@@ -38,7 +38,7 @@ module _ (a : Automaton) where
     steps = λ i lt. subst (λ (x : ℕ). Step a (r .at i) x (r .at (suc i))) (same i lt) (r .steps i lt);
   }
 
-  pub meets-as : {w w' : ℕ → ℕ} {low d p q : ℕ} → ((i : ℕ) → i < d → w i ≡ w' i) → Meets a w low d p q → Meets a w' low d p q
+  pub meets-as : {w w' : ℕ → ℕ} {d p q : ℕ} → ((i : ℕ) → i < d → w i ≡ w' i) → Meets a w d p q → Meets a w' d p q
   meets-as same m = record { run = leads-as same (m .run); index = m .index; after = m .after; before = m .before; accepts = m .accepts }
 
   -- all letters but the last, and the last
@@ -105,8 +105,8 @@ module _ (a : Automaton) where
     leads-snoc = subst (λ (i : ℕ). Leads a w i p t) (add-one d) (leads-on (λ i lt. refl) r last)
 
     -- what was met stays met, and the state reached counts
-    pub meets-snoc : (low index : ℕ) → low ≤ index → index ≤ d → Accepts a (r .at index) → Meets a w low (suc d) p t
-    meets-snoc low index lo hi acc = subst (λ (i : ℕ). Meets a w low i p t) (add-one d) (record {
+    pub meets-snoc : (index : ℕ) → 0 < index → index ≤ d → Accepts a (r .at index) → Meets a w (suc d) p t
+    meets-snoc index lo hi acc = subst (λ (i : ℕ). Meets a w i p t) (add-one d) (record {
       run = leads-on (λ i lt. refl) r last;
       index = index;
       after = lo;
@@ -114,5 +114,12 @@ module _ (a : Automaton) where
       accepts = rw (on-early (λ i lt. refl) r last index hi) acc;
     })
 
-    pub meets-here : (low : ℕ) → low ≤ suc d → Accepts a t → Meets a w low (suc d) p t
-    meets-here low le acc = record { run = leads-snoc; index = suc d; after = le; before = omega arith; accepts = rw (leads-snoc .to) acc }
+    pub meets-here : Accepts a t → Meets a w (suc d) p t
+    meets-here acc =
+        record {
+          run = leads-snoc;
+          index = suc d;
+          after = omega arith;
+          before = omega arith;
+          accepts = rw (leads-snoc .to) acc;
+        }

@@ -1,6 +1,6 @@
 -- What each turn of the loops over records and states adds, and what the loops add together. Assumes of the image only
 -- that it is not refused.
-use Prim.Native.Nat.{ℕ, _+_, _*_, _<_, _≤_}
+use Prim.Native.Nat.{ℕ, _+_, _-_, _*_, _<_, _≤_}
 use mathlib.Core.Path.{_≡_, refl, sym, _∙_}
 use mathlib.Core.List.{List}
 use mathlib.Core.Bool.{Bool, true, false, not}
@@ -15,19 +15,13 @@ use Rattle.answer.specs.Bytes.{numberAt}
 use Rattle.image.specs.Reader.{countsAt, countSum}
 use Rattle.judge.specs.Memory.{Token, Lifted, Gains, ByRecord}
 use Rattle.image.specs.Lookup.{imageAutomaton, recordsAt, Readable, AcceptingByte, transitionCountOf}
-use Rattle.judge.specs.Limits.{startBit, rowsWords}
+use Rattle.automaton.specs.Limits.{maxStates}
+use Rattle.judge.specs.Limits.{startBit}
 use Rattle.judge.proofs.Decisions.{false-true}
-use Rattle.judge.proofs.Gathers.{adds-none, adds-as, Gathering}
+use Rattle.judge.proofs.Gathers.{adds-as, Gathering}
 use Rattle.image.proofs.Lookup.{step-taken, taken-step, accepts-inside, accepts-byte, byte-accepts, initial-number, number-initial, number-drop, records-end, target-inside, initial-inside}
 
--- ---- a turn that a test guards
-
--- more that holds anyway
-pub adds-if : {x y : List ℕ} {New : (q k : ℕ) → Type 0} {P : Type 0} → P → Gains x y New → Gains x y (λ q k. P × New q k)
-adds-if p adds = adds-as adds (λ q k h. (p, h)) (λ q k h. h .1)
-
-pub adds-not : {x : List ℕ} {New : (q k : ℕ) → Type 0} {P : Type 0} → (P → ⊥) → Gains x x (λ q k. P × New q k)
-adds-not np = adds-none (λ q k h. np (h .0))
+-- ---- whether a record reads the letter
 
 pub reads-not : {r t : Bool} → r ≡ t → not r ≡ true → t ≡ true → ⊥
 reads-not {r} e f g = false-true (sym (not-true r f) ∙ e ∙ g)
@@ -37,41 +31,47 @@ reads-so {r} e f = sym e ∙ not-false r f
 
 -- ---- all records of a state
 
-module _ (image : List ℕ) (rows : List ℕ) (q x : ℕ) where
-  abbrev pub ByRecords : (at i t k : ℕ) → Type 0
-  ByRecords at i t k = ByRecord image (at + 4 * i) x (Token rows) q t k
+abbrev pub ByRecords : (image rows : List ℕ) (q x at i t k : ℕ) → Type 0
+ByRecords image rows q x at i t k = ByRecord image (at + 4 * i) x (Token rows) q t k
 
-  pub all-records : (before after : List ℕ) (at n : ℕ) → q < countsAt image .states → at ≡ recordsAt image q → n ≡ transitionCountOf image q
-      → Gains before after (λ t k. (i : ℕ) × (i < n) × ByRecords at i t k) → Gains before after (λ t k. Step (imageAutomaton image) q x t × Token rows q k)
-  all-records before after at n lq ea en adds = adds-as adds to from
-    where
-      to : (t k : ℕ) → ((i : ℕ) × (i < n) × ByRecords at i t k) → Step (imageAutomaton image) q x t × Token rows q k
-      to t k (i, lt, (r, (e, h))) = (
-        taken-step image q x t lq (record { index = i; below = rw en at lt; takes = rw ea at r; reaches = rw ea at e }),
-        h,
-      )
-
-      from : (t k : ℕ) → Step (imageAutomaton image) q x t × Token rows q k → (i : ℕ) × (i < n) × ByRecords at i t k
-      from t k (s, h) =
-          let d = step-taken image q x t s in
-          (d .index, rw en (d .below), (rw ea (d .takes), (rw ea (d .reaches), h)))
-
-  pub records-next : (at n : ℕ) → at ≡ recordsAt image q → n ≡ transitionCountOf image q → at + 4 * n ≡ recordsAt image (q + 1)
+module _ (image : List ℕ) (q : ℕ) {at n : ℕ} (ea : at ≡ recordsAt image q) (en : n ≡ transitionCountOf image q) where
+  pub records-next : at + 4 * n ≡ recordsAt image (q + 1)
   unfolding countSum
-  records-next at n ea en =
+  records-next =
       let e : n ≡ numberAt (drop contentsBytes image) (4 * q) = en ∙ sym (number-drop contentsBytes image (4 * q)) in
       rw (add-one q) (omega arith)
 
-  -- where record i of state q lies, and where it leads
-  pub transition-fits : Readable image → (at n i : ℕ) → q < countsAt image .states → at ≡ recordsAt image q → n ≡ transitionCountOf image q → i < n
-      → (at + 4 * i + 3 < length image) × (4 * numberAt image (at + 4 * i + 2) + 4 ≤ rowsWords)
-  transition-fits fine at n i lq ea en lt =
-      let e = records-end image fine q lq in
-      let t = target-inside image fine q i lq (rw en at lt) in
-      (omega arith, rw ea (omega (arith, fine .few)))
+  module _ (lq : q < countsAt image .states) where
+    pub all-records : {rows before after : List ℕ} (x : ℕ)
+        → Gains before after (λ t k. (i : ℕ) × (i < n) × ByRecords image rows q x at i t k)
+        → Gains before after (λ t k. Step (imageAutomaton image) q x t × Token rows q k)
+    all-records {rows} x adds = adds-as adds to from
+      where
+        to : (t k : ℕ) → (i : ℕ) × (i < n) × ByRecords image rows q x at i t k
+            → Step (imageAutomaton image) q x t × Token rows q k
+        to t k (i, lt, (r, (e, h))) = (
+          taken-step image q x t lq (record {
+            index = i;
+            below = rw en at lt;
+            takes = rw ea at r;
+            reaches = rw ea at e;
+          }),
+          h,
+        )
 
-  pub records-fit : Readable image → (at n : ℕ) → q < countsAt image .states → at ≡ recordsAt image q → n ≡ transitionCountOf image q → at + 4 * n ≤ length image
-  records-fit fine at n lq ea en = rw (ea, en) (records-end image fine q lq)
+        from : (t k : ℕ) → Step (imageAutomaton image) q x t × Token rows q k
+            → (i : ℕ) × (i < n) × ByRecords image rows q x at i t k
+        from t k (s, h) =
+            let d = step-taken image q x t s in
+            (d .index, rw en (d .below), (rw ea (d .takes), (rw ea (d .reaches), h)))
+
+    -- where the records of state q lie, and where record i leads
+    module _ (fine : Readable image) where
+      pub records-fit : at + 4 * n ≤ length image
+      records-fit = rw (ea, en) (records-end image fine q lq)
+
+      pub target-fits : (i : ℕ) → i < n → numberAt image (at + 4 * i + 2) < maxStates
+      target-fits i lt = rw ea (omega (arith, fine .few, target-inside image fine q i lq (rw en at lt)))
 
 -- ---- all states
 
@@ -85,39 +85,39 @@ unfolding countSum
 records-begin image n e = omega arith
 
 pub all-lifted : (image : List ℕ) {before after held : List ℕ} (n : ℕ) → n ≡ countsAt image .states
-    → Gains before after (λ q k. (p : ℕ) × (p < n) × ((AcceptingByte image p) × ((q ≡ p) × Lifted (Token held) p k))) → Gains before after (λ q k. Accepts (imageAutomaton image) q × Lifted (Token held) q k)
-all-lifted image {before} {after} {held} n en adds = adds-as adds to from
+    → Gains before after (λ q k. (p : ℕ) × (p < n) × ((AcceptingByte image p) × ((q ≡ p) × Lifted (Token held) p k)))
+    → Gains before after (λ q k. Accepts (imageAutomaton image) q × Lifted (Token held) q k)
+all-lifted image {before} {after} {held} n en adds =
+    adds-as adds to (λ q k h. (q, rw en (accepts-inside image q (h .0)), (accepts-byte image q (h .0), (refl, h .1))))
   where
-    to : (q k : ℕ) → ((p : ℕ) × (p < n) × ((AcceptingByte image p) × ((q ≡ p) × Lifted (Token held) p k))) → Accepts (imageAutomaton image) q × Lifted (Token held) q k
+    to : (q k : ℕ) → ((p : ℕ) × (p < n) × ((AcceptingByte image p) × ((q ≡ p) × Lifted (Token held) p k)))
+        → Accepts (imageAutomaton image) q × Lifted (Token held) q k
     to q k (p, lt, (b, (e, l))) = rw e (byte-accepts image p (rw en at lt) b, l)
 
-    from : (q k : ℕ) → Accepts (imageAutomaton image) q × Lifted (Token held) q k → (p : ℕ) × (p < n) × ((AcceptingByte image p) × ((q ≡ p) × Lifted (Token held) p k))
-    from q k (a, l) = (q, rw en (accepts-inside image q a), (accepts-byte image q a, (refl, l)))
+-- the initial numbers are the image's last
+module _ (image : List ℕ) (fine : Readable image) (n : ℕ) (en : n ≡ countsAt image .initial) where
+  initial-offset : length image - 2 * n ≡ initialAt (countsAt image)
+  initial-offset = omega (arith, fine .size)
 
-pub initial-offset : (image : List ℕ) {a b : ℕ} → a ≡ countsAt image .states → b ≡ countsAt image .transitions → contentsBytes + 4 * a + 4 * b ≡ initialAt (countsAt image)
-initial-offset image ea eb = rw (ea, eb)
+  pub initial-fits : (i : ℕ) → i < n → numberAt image (length image - 2 * n + 2 * i) < maxStates
+  initial-fits i lt = rw initial-offset (omega (arith, fine .few, initial-inside image fine i (rw en at lt)))
 
-pub initial-fits : (image : List ℕ) → Readable image → (at n i : ℕ) {q : ℕ} → at ≡ initialAt (countsAt image) → n ≡ countsAt image .initial → i < n → q ≡ numberAt image (at + 2 * i) → 4 * q + 4 ≤ rowsWords
-initial-fits image fine at n i ea en lt eq = rw (eq, ea) (omega (arith, fine .few, initial-inside image fine i (rw en at lt)))
+  abbrev Given : (q k : ℕ) → Type 0
+  Given q k = (i : ℕ) × (i < n) × ((q ≡ numberAt image (length image - 2 * n + 2 * i)) × (k ≡ startBit))
 
-pub all-initial : (image : List ℕ) {before after : List ℕ} (n at : ℕ) → n ≡ countsAt image .initial → at ≡ initialAt (countsAt image)
-    → Gains before after (λ q k. (i : ℕ) × (i < n) × ((q ≡ numberAt image (at + 2 * i)) × (k ≡ startBit))) → Gains before after (λ q k. In q (imageAutomaton image .initial) × (k ≡ startBit))
-all-initial image n at en ea adds = adds-as adds to from
-  where
-    to : (q k : ℕ) → ((i : ℕ) × (i < n) × ((q ≡ numberAt image (at + 2 * i)) × (k ≡ startBit))) → In q (imageAutomaton image .initial) × (k ≡ startBit)
-    to q k (i, lt, (e, f)) = (rw (e, ea) (number-initial image i (rw en at lt)), f)
+  pub all-initial : {before after : List ℕ}
+      → Gains before after Given → Gains before after (λ q k. In q (imageAutomaton image .initial) × (k ≡ startBit))
+  all-initial adds = adds-as adds to from
+    where
+      to : (q k : ℕ) → Given q k → In q (imageAutomaton image .initial) × (k ≡ startBit)
+      to q k (i, lt, (e, f)) = (rw (e, initial-offset) (number-initial image i (rw en at lt)), f)
 
-    put : (q k : ℕ) → k ≡ startBit → (i : ℕ) × (i < countsAt image .initial) × (q ≡ numberAt image (initialAt (countsAt image) + 2 * i)) → (i : ℕ) × (i < n) × ((q ≡ numberAt image (at + 2 * i)) × (k ≡ startBit))
-    put q k f (i, lt, e) = (i, rw en lt, (rw ea e, f))
+      from : (q k : ℕ) → In q (imageAutomaton image .initial) × (k ≡ startBit) → Given q k
+      from q k (h, f) =
+          let (i, lt, e) = initial-number image q h in
+          (i, rw en lt, (rw initial-offset e, f))
 
-    from : (q k : ℕ) → In q (imageAutomaton image .initial) × (k ≡ startBit) → (i : ℕ) × (i < n) × ((q ≡ numberAt image (at + 2 * i)) × (k ≡ startBit))
-    from q k (h, f) = put q k f (initial-number image q h)
-
-pub all-states : {before after : List ℕ} (n : ℕ) → Gains before after (λ q k. (p : ℕ) × (p < n) × ((q ≡ p) × (k ≡ p))) → Gains before after (λ q k. (q < n) × (k ≡ q))
-all-states n adds = adds-as adds to from
-  where
-    to : (q k : ℕ) → ((p : ℕ) × (p < n) × ((q ≡ p) × (k ≡ p))) → (q < n) × (k ≡ q)
-    to q k (p, lt, (e, f)) = (omega arith, omega arith)
-
-    from : (q k : ℕ) → (q < n) × (k ≡ q) → (p : ℕ) × (p < n) × ((q ≡ p) × (k ≡ p))
-    from q k (lt, e) = (q, lt, (refl, e))
+pub all-states : {before after : List ℕ} (n : ℕ) → Gains before after (λ q k. (p : ℕ) × (p < n) × ((q ≡ p) × (k ≡ p)))
+    → Gains before after (λ q k. (q < n) × (k ≡ q))
+all-states n adds =
+    adds-as adds (λ q k h. (omega (arith, h .1, h .2), omega (arith, h .2))) (λ q k h. (q, h .0, (refl, h .1)))

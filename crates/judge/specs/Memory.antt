@@ -1,7 +1,8 @@
 -- What the rows of bits hold while a lasso is judged, and what each step of judging makes of them. For every state
 -- there is a row of `rowBits` in four words of 64. Bit p of row q, p being a state: a run that stood in p when the pass
 -- began stands in q now. Bit `startBit`: a run from an initial state at letter 0 stands in q now. Bit `metBit` + p: the
--- same as bit p, of a run that has stood in an accepting state since the pass began, then and now included.
+-- same as bit p, of a run that has stood in an accepting state since the pass began, now included and then not: a run
+-- that comes back to where it stood then is there now.
 use Prim.Native.Nat.{ℕ, zero, suc, _+_, _*_, _/_, _%_, _<_, _≤_}
 use mathlib.Core.Path.{_≡_}
 use mathlib.Core.List.{List}
@@ -13,17 +14,9 @@ use Rattle.answer.specs.Bytes.{numberAt}
 use Rattle.sets.specs.Bits.{Has}
 use Rattle.automaton.specs.Automaton.{Automaton, reads, Step, Accepts}
 use Rattle.image.specs.Lookup.{recordAt}
-use Rattle.judge.specs.Limits.{rowBits, startBit, metBit, rowsWords}
+use Rattle.judge.specs.Limits.{rowBits, startBit, metBit}
 
 -- ---- rows
-
--- there is a row q
-abbrev pub HasRow : (rows : List ℕ) (q : ℕ) → Type 0
-HasRow rows q = 4 * q + 4 ≤ length rows
-
--- and one for every state that an automaton may have
-abbrev pub Full : (rows : List ℕ) → Type 0
-Full rows = length rows ≡ rowsWords
 
 -- row q has bit k
 pub record Token (rows : List ℕ) (q k : ℕ) : Type 0 where
@@ -90,7 +83,13 @@ pub record Ran (r : Bool) (rows : List ℕ) (Held : (q k : ℕ) → Type 0) : Ty
   pub on : r ≡ true → Is rows Held
   pub lost : r ≡ false → (q : ℕ) → Held q startBit → ⊥
 
--- what is joined to row q when its bits m and `metBit` + m are looked at; `via` has the one row of the runs to m
+-- the one row of `via` has the runs to m, and those of its lower half lifted if m comes back to itself
+pub record Through (rows via : List ℕ) (m : ℕ) : Type 0 where
+  pub only : (k : ℕ) → Token via 0 k → Token rows m k ⊎ (Token rows m (metBit + m) × Lifted (Token rows) m k)
+  pub row : (k : ℕ) → Token rows m k → Token via 0 k
+  pub again : (k : ℕ) → Token rows m (metBit + m) → Lifted (Token rows) m k → Token via 0 k
+
+-- what is joined to row q when its bits m and `metBit` + m are looked at
 abbrev pub Via : (rows via : List ℕ) (m q k : ℕ) → Type 0
 Via rows via m q k = (Token rows q m × Token via 0 k) ⊎ (Token rows q (metBit + m) × Lifted (Token via) 0 k)
 
@@ -99,6 +98,10 @@ pub data Joined (Held : (q k : ℕ) → Type 0) (m q k : ℕ) : Type 0 where
   both : Held q m → Held m k → Joined Held m q k
   met : Held q (metBit + m) → Lifted Held m k → Joined Held m q k
   round : Held q m → Held m (metBit + m) → Lifted Held m k → Joined Held m q k
+
+-- runs that have met an accepting state are runs
+abbrev pub Covered : (rows : List ℕ) → Type 0
+Covered rows = (q k : ℕ) → k < metBit → Token rows q (metBit + k) → Token rows q k
 
 -- what holds of one pass, put together through the n states: of runs over one or more passes
 pub data Linked (n : ℕ) (Held : (q k : ℕ) → Type 0) : (q k : ℕ) → Type 0 where

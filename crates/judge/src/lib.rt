@@ -7,7 +7,6 @@ use image::CONTENTS_BYTES;
 use image::INITIAL_COUNT_AT;
 use image::Loaded;
 use image::STATE_COUNT_AT;
-use image::TRANSITION_COUNT_AT;
 use image::check;
 use lasso::check_lasso;
 ghost use mathlib.Core.Path.{_≡_};
@@ -23,7 +22,8 @@ ghost use Rattle.sets.specs.Sets.{In};
 ghost use Rattle.answer.specs.Bytes.{numberAt};
 ghost use Rattle.judge.specs.Judge.{judgeAnswer, judgement, judgedOn, judged};
 ghost use Rattle.judge.specs.Limits.{startBit, metBit, rowBits};
-ghost use Rattle.judge.specs.Memory.{HasRow, Full, Token, Lifted, Is, Gains, Ored, Tells, Onward, ByRecord, Moved, AfterAll, Via, Joined, Linked, Started, SomeStarted, Confined, Ran};
+ghost use Rattle.judge.specs.Memory.{Token, Lifted, Is, Gains, Ored, Tells, Onward, ByRecord, Moved, AfterAll};
+ghost use Rattle.judge.specs.Memory.{Confined, Ran, Through, Via, Joined, Covered, Linked, Started, SomeStarted};
 ghost use Rattle.image.specs.Image.{acceptingAt};
 ghost use Rattle.image.specs.Reader.{countsAt};
 ghost use Rattle.image.specs.Lookup.{imageAutomaton, AcceptingByte, transitionCountOf, recordsAt, Readable};
@@ -33,6 +33,8 @@ pub const WORK_BYTES: usize = automaton::MAX_STATES * lasso::MAX_LETTERS;
 
 // The words of the rows of all states, four each (specs/Memory.antt has what the bits are).
 const ROWS_WORDS: usize = 4 * automaton::MAX_STATES;
+
+type Rows = [u64; ROWS_WORDS];
 
 // The bit of the runs from an initial state at letter 0, and how far above a bit the one lies that says the same of
 // runs that have met an accepting state.
@@ -70,33 +72,17 @@ fn or_words(into: &mut [u64], a: usize, from: &[u64], b: usize, n: usize)
     }
 }
 
-// Row t joined with row q.
-fn or_row(into: &mut [u64], t: usize, from: &[u64], q: usize)
-    requires { ⌜ HasRow (now into) t × HasRow (now from) q ⌝ }
-    ensures { λ _. ⌜ Gains (now (into .entry)) (now (into .exit)) (λ r k. (r ≡ t) × Token (now (from .entry)) q k) ⌝ }
-{
-    or_words(into, 4 * t, from, 4 * q, 4);
-}
-
-// The upper half of row t joined with the lower half of row q.
-fn or_met(into: &mut [u64], t: usize, from: &[u64], q: usize)
-    requires { ⌜ HasRow (now into) t × HasRow (now from) q ⌝ }
-    ensures { λ _. ⌜ Gains (now (into .entry)) (now (into .exit)) (λ r k. (r ≡ t) × Lifted (Token (now (from .entry))) q k) ⌝ }
-{
-    or_words(into, 4 * t + 2, from, 4 * q, 2);
-}
-
 // Whether row q has bit k.
-fn has_bit(rows: &[u64], q: usize, k: usize) -> bool
-    requires { ⌜ HasRow (now rows) q × (k < rowBits) ⌝ }
+fn has_bit(rows: &Rows, q: usize, k: usize) -> bool
+    requires { ⌜ (q < maxStates) × (k < rowBits) ⌝ }
     ensures { λ r. ⌜ Tells r (Token (now (rows .entry)) q k) ⌝ }
 {
     (rows[4 * q + k / 64] >> (k % 64)) & 1 == 1
 }
 
 // Whether row q has no bit. Callers rest on a yes alone.
-fn row_empty(rows: &[u64], q: usize) -> bool
-    requires { ⌜ HasRow (now rows) q ⌝ }
+fn row_empty(rows: &Rows, q: usize) -> bool
+    requires { ⌜ q < maxStates ⌝ }
     ensures { λ r. ⌜ (r ≡ true → (k : ℕ) → Token (now (rows .entry)) q k → ⊥) ⌝ }
 {
     let at = 4 * q;
@@ -105,21 +91,22 @@ fn row_empty(rows: &[u64], q: usize) -> bool
 
 // Bit k of row q set.
 fn set_bit(rows: &mut [u64], q: usize, k: usize)
-    requires { ⌜ HasRow (now rows) q × (k < rowBits) ⌝ }
+    requires { ⌜ (4 * q + 4 ≤ length (now rows)) × (k < rowBits) ⌝ }
     ensures { λ _. ⌜ Gains (now (rows .entry)) (now (rows .exit)) (λ r j. (r ≡ q) × (j ≡ k)) ⌝ }
 {
     rows[4 * q + k / 64] |= 1 << (k % 64);
 }
 
 // The runs of row q in the target's row, if the transition record at byte `at` reads the letter.
-fn take_transition(image: &[u8], at: usize, letter: u8, rows: &[u64], q: usize, next: &mut [u64])
-    requires { ⌜ (at + 3 < length (now image)) × HasRow (now rows) q × HasRow (now next) (numberAt (now image) (at + 2)) ⌝ }
-    ensures { λ _. ⌜ Gains (now (next .entry)) (now (next .exit)) (ByRecord (now (image .entry)) at letter (Token (now (rows .entry))) q) ⌝ }
+fn take_transition(image: &[u8], at: usize, letter: u8, rows: &Rows, q: usize, next: &mut Rows)
+    requires { ⌜ (at + 3 < length (now image)) × (q < maxStates) × (numberAt (now image) (at + 2) < maxStates) ⌝ }
+    ensures { λ _. ⌜ Gains (now (next .entry)) (now (next .exit))
+        (ByRecord (now (image .entry)) at letter (Token (now (rows .entry))) q) ⌝ }
 {
     if !reads_letter(image[at], image[at + 1], letter) {
         return;
     }
-    or_row(next, number_at(image, at + 2), rows, q);
+    or_words(next, 4 * number_at(image, at + 2), rows, 4 * q, 4);
 }
 
 // The runs of row q after the letter, by the transitions of state q, whose `count` records begin at byte `at`.
@@ -129,11 +116,13 @@ fn take_transitions(
     at: usize,
     count: usize,
     letter: u8,
-    rows: &[u64],
-    next: &mut [u64],
+    rows: &Rows,
+    next: &mut Rows,
 )
-    requires { ⌜ Readable (now image) × (q < countsAt (now image) .states) × (at ≡ recordsAt (now image) q) × (count ≡ transitionCountOf (now image) q) × Full (now rows) × Full (now next) ⌝ }
-    ensures { λ _. ⌜ Gains (now (next .entry)) (now (next .exit)) (Onward (imageAutomaton (now (image .entry))) letter (Token (now (rows .entry))) q) ⌝ }
+    requires { ⌜ Readable (now image) × (q < countsAt (now image) .states) × (at ≡ recordsAt (now image) q)
+        × (count ≡ transitionCountOf (now image) q) ⌝ }
+    ensures { λ _. ⌜ Gains (now (next .entry)) (now (next .exit))
+        (Onward (imageAutomaton (now (image .entry))) letter (Token (now (rows .entry))) q) ⌝ }
 {
     let mut i = 0;
     while i < count {
@@ -143,16 +132,11 @@ fn take_transitions(
 }
 
 // The same, with the transitions passed over if row q is empty; where the records of the next state begin.
-fn step_state(
-    image: &[u8],
-    q: usize,
-    at: usize,
-    letter: u8,
-    rows: &[u64],
-    next: &mut [u64],
-) -> usize
-    requires { ⌜ Readable (now image) × (q < countsAt (now image) .states) × (at ≡ recordsAt (now image) q) × Full (now rows) × Full (now next) ⌝ }
-    ensures { λ r. ⌜ (r ≡ recordsAt (now (image .entry)) (q + 1)) × Gains (now (next .entry)) (now (next .exit)) (Onward (imageAutomaton (now (image .entry))) letter (Token (now (rows .entry))) q) ⌝ }
+fn step_state(image: &[u8], q: usize, at: usize, letter: u8, rows: &Rows, next: &mut Rows) -> usize
+    requires { ⌜ Readable (now image) × (q < countsAt (now image) .states) × (at ≡ recordsAt (now image) q) ⌝ }
+    ensures { λ r. ⌜ (r ≡ recordsAt (now (image .entry)) (q + 1))
+        × Gains (now (next .entry)) (now (next .exit))
+        (Onward (imageAutomaton (now (image .entry))) letter (Token (now (rows .entry))) q) ⌝ }
 {
     let count = number_at(image, CONTENTS_BYTES + 4 * q);
     let end = at + 4 * count;
@@ -164,9 +148,10 @@ fn step_state(
 }
 
 // The runs of all rows after the letter.
-fn step_states(image: &[u8], n: usize, letter: u8, rows: &[u64], next: &mut [u64])
-    requires { ⌜ Readable (now image) × (n ≡ countsAt (now image) .states) × Full (now rows) × Full (now next) ⌝ }
-    ensures { λ _. ⌜ Gains (now (next .entry)) (now (next .exit)) (λ t k. (q : ℕ) × (q < n) × Onward (imageAutomaton (now (image .entry))) letter (Token (now (rows .entry))) q t k) ⌝ }
+fn step_states(image: &[u8], n: usize, letter: u8, rows: &Rows, next: &mut Rows)
+    requires { ⌜ Readable (now image) × (n ≡ countsAt (now image) .states) ⌝ }
+    ensures { λ _. ⌜ Gains (now (next .entry)) (now (next .exit)) (λ t k. (q : ℕ) × (q < n)
+        × Onward (imageAutomaton (now (image .entry))) letter (Token (now (rows .entry))) q t k) ⌝ }
 {
     let mut at = CONTENTS_BYTES + 4 * n;
     let mut q = 0;
@@ -177,20 +162,22 @@ fn step_states(image: &[u8], n: usize, letter: u8, rows: &[u64], next: &mut [u64
 }
 
 // The runs of row q of `from` have met an accepting state, if q is one.
-fn lift_state(image: &[u8], q: usize, rows: &mut [u64], from: &[u64])
-    requires { ⌜ (acceptingAt + 4 * q < length (now image)) × HasRow (now rows) q × HasRow (now from) q ⌝ }
-    ensures { λ _. ⌜ Gains (now (rows .entry)) (now (rows .exit)) (λ r k. (AcceptingByte (now (image .entry)) q) × ((r ≡ q) × Lifted (Token (now (from .entry))) q k)) ⌝ }
+fn lift_state(image: &[u8], q: usize, rows: &mut Rows, from: &Rows)
+    requires { ⌜ (acceptingAt + 4 * q < length (now image)) × (q < maxStates) ⌝ }
+    ensures { λ _. ⌜ Gains (now (rows .entry)) (now (rows .exit)) (λ r k. (AcceptingByte (now (image .entry)) q)
+        × ((r ≡ q) × Lifted (Token (now (from .entry))) q k)) ⌝ }
 {
     if image[ACCEPTING_AT + 4 * q] != 1 {
         return;
     }
-    or_met(rows, q, from, q);
+    or_words(rows, 4 * q + 2, from, 4 * q, 2);
 }
 
 // The runs that stand in an accepting state have met one.
-fn lift(image: &[u8], n: usize, rows: &mut [u64], from: &[u64])
-    requires { ⌜ Readable (now image) × (n ≡ countsAt (now image) .states) × Full (now rows) × Full (now from) ⌝ }
-    ensures { λ _. ⌜ Gains (now (rows .entry)) (now (rows .exit)) (λ q k. Accepts (imageAutomaton (now (image .entry))) q × Lifted (Token (now (from .entry))) q k) ⌝ }
+fn lift(image: &[u8], n: usize, rows: &mut Rows, from: &Rows)
+    requires { ⌜ Readable (now image) × (n ≡ countsAt (now image) .states) ⌝ }
+    ensures { λ _. ⌜ Gains (now (rows .entry)) (now (rows .exit))
+        (λ q k. Accepts (imageAutomaton (now (image .entry))) q × Lifted (Token (now (from .entry))) q k) ⌝ }
 {
     let mut q = 0;
     while q < n {
@@ -212,9 +199,12 @@ fn clear_words(rows: &mut [u64], n: usize)
 }
 
 // The runs after one letter. In `next` are those that have taken a transition; what it held does not count.
-fn step(image: &[u8], n: usize, letter: u8, rows: &mut [u64], next: &mut [u64])
-    requires { ⌜ Readable (now image) × (n ≡ countsAt (now image) .states) × Full (now rows) × Full (now next) × Confined n (now rows) × Confined n (now next) ⌝ }
-    ensures { λ _. ⌜ Is (now (rows .exit)) (Moved (imageAutomaton (now (image .entry))) letter (Token (now (rows .entry)))) × Confined n (now (next .exit)) ⌝ }
+fn step(image: &[u8], n: usize, letter: u8, rows: &mut Rows, next: &mut Rows)
+    requires { ⌜ Readable (now image) × (n ≡ countsAt (now image) .states)
+        × Confined n (now rows) × Confined n (now next) ⌝ }
+    ensures { λ _. ⌜ Is (now (rows .exit))
+        (Moved (imageAutomaton (now (image .entry))) letter (Token (now (rows .entry))))
+        × Confined n (now (next .exit)) ⌝ }
 {
     clear_words(next, 4 * n);
     step_states(image, n, letter, rows, next);
@@ -224,8 +214,8 @@ fn step(image: &[u8], n: usize, letter: u8, rows: &mut [u64], next: &mut [u64])
 
 // Whether a run from an initial state at letter 0 stands in state q; with `back`, whether q also comes back to itself
 // through an accepting state.
-fn started(rows: &[u64], q: usize, back: bool) -> bool
-    requires { ⌜ HasRow (now rows) q × (q < maxStates) ⌝ }
+fn started(rows: &Rows, q: usize, back: bool) -> bool
+    requires { ⌜ q < maxStates ⌝ }
     ensures { λ r. ⌜ Tells r (Started back (now (rows .entry)) q) ⌝ }
 {
     if !has_bit(rows, q, START) {
@@ -238,8 +228,8 @@ fn started(rows: &[u64], q: usize, back: bool) -> bool
 }
 
 // Whether that is so of any state.
-fn some_started(rows: &[u64], n: usize, back: bool) -> bool
-    requires { ⌜ (n ≤ maxStates) × Full (now rows) ⌝ }
+fn some_started(rows: &Rows, n: usize, back: bool) -> bool
+    requires { ⌜ n ≤ maxStates ⌝ }
     ensures { λ r. ⌜ Tells r (SomeStarted back n (now (rows .entry))) ⌝ }
 {
     let mut q = 0;
@@ -254,9 +244,10 @@ fn some_started(rows: &[u64], n: usize, back: bool) -> bool
 
 // The runs after all letters of a word. False at the first letter after which none from an initial state is left: then
 // none will be.
-fn run(image: &[u8], n: usize, word: &[u8], rows: &mut [u64]) -> bool
-    requires { ⌜ Readable (now image) × (n ≡ countsAt (now image) .states) × Full (now rows) × Confined n (now rows) ⌝ }
-    ensures { λ r. ⌜ Ran r (now (rows .exit)) (AfterAll (imageAutomaton (now (image .entry))) (now (word .entry)) (Token (now (rows .entry)))) ⌝ }
+fn run(image: &[u8], n: usize, word: &[u8], rows: &mut Rows) -> bool
+    requires { ⌜ Readable (now image) × (n ≡ countsAt (now image) .states) × Confined n (now rows) ⌝ }
+    ensures { λ r. ⌜ Ran r (now (rows .exit))
+        (AfterAll (imageAutomaton (now (image .entry))) (now (word .entry)) (Token (now (rows .entry)))) ⌝ }
 {
     let mut next = [0u64; ROWS_WORDS];
     let mut i = 0;
@@ -270,15 +261,14 @@ fn run(image: &[u8], n: usize, word: &[u8], rows: &mut [u64]) -> bool
     true
 }
 
-// A run begins in each initial state.
-fn begin_runs(image: &[u8], rows: &mut [u64])
-    requires { ⌜ Readable (now image) × Full (now rows) ⌝ }
-    ensures { λ _. ⌜ Gains (now (rows .entry)) (now (rows .exit)) (λ q k. In q (imageAutomaton (now (image .entry)) .initial) × (k ≡ startBit)) ⌝ }
+// A run begins in each initial state. Their numbers are the image's last.
+fn begin_runs(image: &[u8], rows: &mut Rows)
+    requires { ⌜ Readable (now image) ⌝ }
+    ensures { λ _. ⌜ Gains (now (rows .entry)) (now (rows .exit))
+        (λ q k. In q (imageAutomaton (now (image .entry)) .initial) × (k ≡ startBit)) ⌝ }
 {
-    let at = CONTENTS_BYTES
-        + 4 * number_at(image, STATE_COUNT_AT)
-        + 4 * number_at(image, TRANSITION_COUNT_AT);
     let count = number_at(image, INITIAL_COUNT_AT);
+    let at = image.len() - 2 * count;
     let mut i = 0;
     while i < count {
         set_bit(rows, number_at(image, at + 2 * i), START);
@@ -287,8 +277,8 @@ fn begin_runs(image: &[u8], rows: &mut [u64])
 }
 
 // A pass begins in each state.
-fn begin_passes(n: usize, rows: &mut [u64])
-    requires { ⌜ (n ≤ maxStates) × Full (now rows) ⌝ }
+fn begin_passes(n: usize, rows: &mut Rows)
+    requires { ⌜ n ≤ maxStates ⌝ }
     ensures { λ _. ⌜ Gains (now (rows .entry)) (now (rows .exit)) (λ q k. (q < n) × (k ≡ q)) ⌝ }
 {
     let mut q = 0;
@@ -298,46 +288,46 @@ fn begin_passes(n: usize, rows: &mut [u64])
     }
 }
 
-// Row r of `from` joined to row q, if row q has bit m: the runs to m go on to q.
-fn join_runs(rows: &mut [u64], q: usize, m: usize, from: &[u64], r: usize)
-    requires { ⌜ HasRow (now rows) q × HasRow (now from) r × (m < maxStates) ⌝ }
-    ensures { λ _. ⌜ Gains (now (rows .entry)) (now (rows .exit)) (λ p k. Token (now (rows .entry)) q m × ((p ≡ q) × Token (now (from .entry)) r k)) ⌝ }
+// The row by which runs go on through m: the runs to m; if one of them goes from m to m and meets an accepting state,
+// all that go round with it meet one too.
+fn runs_to(rows: &Rows, m: usize) -> [u64; 4]
+    requires { ⌜ m < maxStates ⌝ }
+    ensures { λ r. ⌜ Through (now (rows .entry)) r m ⌝ }
+{
+    let mut via = [0u64; 4];
+    or_words(&mut via, 0, rows, 4 * m, 4);
+    if !has_bit(rows, m, MET + m) {
+        return via;
+    }
+    or_words(&mut via, 2, rows, 4 * m, 2);
+    via
+}
+
+// The runs to m in `via` go on to q. If those from m to q meet an accepting state, they have met one. Runs that meet
+// one are runs: without bit m in row q there is nothing to join.
+fn join_state(rows: &mut Rows, q: usize, m: usize, via: &[u64; 4])
+    requires { ⌜ (q < maxStates) × (m < maxStates) × (Token (now rows) q (metBit + m) → Token (now rows) q m) ⌝ }
+    ensures { λ _. ⌜ Gains (now (rows .entry)) (now (rows .exit))
+        (λ p k. (p ≡ q) × Via (now (rows .entry)) (now (via .entry)) m q k) ⌝ }
 {
     if !has_bit(rows, q, m) {
         return;
     }
-    or_row(rows, q, from, r);
-}
-
-// The same for the runs from m to q that meet an accepting state: those that go on have met one.
-fn join_met(rows: &mut [u64], q: usize, m: usize, from: &[u64], r: usize)
-    requires { ⌜ HasRow (now rows) q × HasRow (now from) r × (m < maxStates) ⌝ }
-    ensures { λ _. ⌜ Gains (now (rows .entry)) (now (rows .exit)) (λ p k. Token (now (rows .entry)) q (metBit + m) × ((p ≡ q) × Lifted (Token (now (from .entry))) r k)) ⌝ }
-{
-    if !has_bit(rows, q, MET + m) {
+    let met = has_bit(rows, q, MET + m);
+    or_words(rows, 4 * q, via, 0, 4);
+    if !met {
         return;
     }
-    or_met(rows, q, from, r);
+    or_words(rows, 4 * q + 2, via, 0, 2);
 }
 
-// Both, of the runs to m in the one row of `via`.
-fn join_state(rows: &mut [u64], q: usize, m: usize, via: &[u64])
-    requires { ⌜ HasRow (now rows) q × HasRow (now via) 0 × (m < maxStates) ⌝ }
-    ensures { λ _. ⌜ Gains (now (rows .entry)) (now (rows .exit)) (λ p k. (p ≡ q) × Via (now (rows .entry)) (now (via .entry)) m q k) ⌝ }
+// All runs that pass through state m when a pass begins, put together.
+fn join_through(rows: &mut Rows, n: usize, m: usize)
+    requires { ⌜ (n ≤ maxStates) × (m < n) × Covered (now rows) ⌝ }
+    ensures { λ _. ⌜ Gains (now (rows .entry)) (now (rows .exit))
+        (λ q k. (q < n) × Joined (Token (now (rows .entry))) m q k) ⌝ }
 {
-    join_met(rows, q, m, via, 0);
-    join_runs(rows, q, m, via, 0);
-}
-
-// All runs that pass through state m when a pass begins, put together. In `via` are the runs to m; if one of them
-// goes from m to m and meets an accepting state, all that go round with it meet one too.
-fn join_through(rows: &mut [u64], n: usize, m: usize)
-    requires { ⌜ (n ≤ maxStates) × (m < n) × Full (now rows) ⌝ }
-    ensures { λ _. ⌜ Gains (now (rows .entry)) (now (rows .exit)) (λ q k. (q < n) × Joined (Token (now (rows .entry))) m q k) ⌝ }
-{
-    let mut via = [0u64; 4];
-    or_row(&mut via, 0, rows, m);
-    join_met(&mut via, 0, m, rows, m);
+    let via = runs_to(rows, m);
     let mut q = 0;
     while q < n {
         join_state(rows, q, m, &via);
@@ -346,8 +336,8 @@ fn join_through(rows: &mut [u64], n: usize, m: usize)
 }
 
 // From runs over one pass to runs over one or more.
-fn close(rows: &mut [u64], n: usize)
-    requires { ⌜ (n ≤ maxStates) × Full (now rows) ⌝ }
+fn close(rows: &mut Rows, n: usize)
+    requires { ⌜ (n ≤ maxStates) × Covered (now rows) ⌝ }
     ensures { λ _. ⌜ Is (now (rows .exit)) (Linked n (Token (now (rows .entry)))) ⌝ }
 {
     let mut m = 0;
@@ -374,8 +364,9 @@ fn some_accepting(image: &[u8], n: usize) -> bool
 
 // Whether the automaton of an image that is not refused has an accepting pass on the lasso.
 fn search(image: &[u8], n: usize, stem: &[u8], cycle: &[u8]) -> bool
-    requires { ⌜ Readable (now image) × (n ≡ countsAt (now image) .states) ⌝ }
-    ensures { λ r. ⌜ Tells r (AcceptingPass (imageAutomaton (now (image .entry))) (now (stem .entry)) (now (cycle .entry))) ⌝ }
+    requires { ⌜ Readable (now image) × (n ≡ countsAt (now image) .states) × (0 < length (now cycle)) ⌝ }
+    ensures { λ r. ⌜ Tells r
+        (AcceptingPass (imageAutomaton (now (image .entry))) (now (stem .entry)) (now (cycle .entry))) ⌝ }
 {
     if !some_accepting(image, n) {
         return false;
@@ -386,8 +377,6 @@ fn search(image: &[u8], n: usize, stem: &[u8], cycle: &[u8]) -> bool
         return false;
     }
     begin_passes(n, &mut rows);
-    let begin = rows;
-    lift(image, n, &mut rows, &begin);
     if !run(image, n, cycle, &mut rows) {
         return false;
     }
@@ -398,7 +387,9 @@ fn search(image: &[u8], n: usize, stem: &[u8], cycle: &[u8]) -> bool
 // 8 and 9, then the verdict of an image that is not refused, and the working bytes zero.
 fn judge_lasso(image: &[u8], n: usize, stem: &[u8], cycle: &[u8], work: &mut [u8]) -> Judged
     requires { ⌜ Readable (now image) × (n ≡ countsAt (now image) .states) ⌝ }
-    ensures { λ r. ⌜ judgement (judgeAnswer r) (now (work .exit)) ≡ judgedOn (imageAutomaton (now (image .entry))) (now (stem .entry)) (now (cycle .entry)) (now (work .entry)) ⌝ }
+    ensures { λ r. ⌜ judgement (judgeAnswer r) (now (work .exit))
+        ≡ judgedOn (imageAutomaton (now (image .entry)))
+        (now (stem .entry)) (now (cycle .entry)) (now (work .entry)) ⌝ }
 {
     let checked = check_lasso(stem, cycle);
     if let Checked::Refused(number, place) = checked {
@@ -414,7 +405,8 @@ fn judge_lasso(image: &[u8], n: usize, stem: &[u8], cycle: &[u8], work: &mut [u8
 
 // The verdict on a lasso: 25, then 10 to 13 of the image, then 8 and 9 of the lasso.
 pub fn judge(image: &[u8], stem: &[u8], cycle: &[u8], work: &mut [u8]) -> Judged
-    ensures { λ r. ⌜ judgement (judgeAnswer r) (now (work .exit)) ≡ judged (now (image .entry)) (now (stem .entry)) (now (cycle .entry)) (now (work .entry)) ⌝ }
+    ensures { λ r. ⌜ judgement (judgeAnswer r) (now (work .exit))
+        ≡ judged (now (image .entry)) (now (stem .entry)) (now (cycle .entry)) (now (work .entry)) ⌝ }
 {
     if work.len() < WORK_BYTES {
         return Judged::Refused(TABLE_TOO_SHORT, 0);

@@ -1,4 +1,4 @@
--- `judge::begin_passes` meets its contract: each turn bits one state (`Gathers`).
+-- `judge::begin_passes` meets its contract: each turn sets the bit of one state (`Gathers`).
 -- Assumes nothing.
 use borrow.Author.Needs.{needs}
 use native.Mathlib.Omega.{arith}
@@ -29,11 +29,8 @@ loop-less c = search needs
 
 loop-again : tie.Need-loop-again Inv-loop μ-loop
 loop-again c =
-    let at = c .before .before .before .before .before in
-    gather-steps _ _ _ _ _ (at .loop .q) (omega arith) (at .loop .inv) (c .before .before .set-bit .kept .0) (c .before .before .set-bit .ensures)
-
-same-length : tie.Need-same-length Inv-loop μ-loop
-same-length c = c .before .loop .inv .size
+    let at = c .before .before .before in
+    gather-steps _ _ _ _ _ (at .loop .q) (omega arith) (at .loop .inv) (c .set-bit .ensures)
 
 returns : tie.Need-returns Inv-loop μ-loop
 returns c = all-states _ (gather-ends _ _ _ _ (c .before .loop .q) (omega arith) (c .before .loop .inv))
@@ -41,13 +38,4 @@ returns c = all-states _ (gather-ends _ _ _ _ (c .before .loop .q) (omega arith)
 pub begin-passes-spec : {M : Type 1} → statement M
 begin-passes-spec =
     tie.close
-    (tie.spec
-    Inv-loop
-    μ-loop
-    loop-holds
-    set-bit-requires
-    add-q
-    loop-less
-    loop-again
-    same-length
-    returns)
+    (tie.spec Inv-loop μ-loop loop-holds set-bit-requires add-q loop-less loop-again returns)

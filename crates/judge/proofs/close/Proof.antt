@@ -14,10 +14,12 @@ abbrev μ-loop : tie.MeasureT-loop
 μ-loop rows₀ n m₀ rows m = n - m
 
 loop-holds : tie.Need-loop-holds Inv-loop μ-loop
-loop-holds c = closing-begins _ _
+loop-holds c = closing-begins _ _ (c .pre .1)
 
 join-through-requires : tie.Need-join-through-requires Inv-loop μ-loop
-join-through-requires c κs = search needs
+join-through-requires c κs =
+    let at = c .before .before in
+    (omega arith, omega arith, at .loop .inv .covered)
 
 add-m : tie.Need-add-m Inv-loop μ-loop
 add-m c = search needs
@@ -27,12 +29,8 @@ loop-less c = search needs
 
 loop-again : tie.Need-loop-again Inv-loop μ-loop
 loop-again c =
-    let at = c .before .before .before .before .before in
-    let s = at .before .before in
-    closing-steps (s .args .n) (at .loop .m) (s .pre .0) (omega arith) (c .before .before .join-through .ensures) (at .loop .inv) (c .before .before .join-through .kept .0)
-
-same-length : tie.Need-same-length Inv-loop μ-loop
-same-length c = c .before .loop .inv .size
+    let at = c .before .before .before in
+    closing-steps _ (at .loop .m) (omega arith) (omega arith) (c .join-through .ensures) (at .loop .inv)
 
 returns : tie.Need-returns Inv-loop μ-loop
 returns c = closing-ends _ (c .before .loop .m) (omega arith) (c .before .loop .inv)
@@ -40,13 +38,4 @@ returns c = closing-ends _ (c .before .loop .m) (omega arith) (c .before .loop .
 pub close-spec : {M : Type 1} → statement M
 close-spec =
     tie.close
-    (tie.spec
-    Inv-loop
-    μ-loop
-    loop-holds
-    join-through-requires
-    add-m
-    loop-less
-    loop-again
-    same-length
-    returns)
+    (tie.spec Inv-loop μ-loop loop-holds join-through-requires add-m loop-less loop-again returns)

@@ -1,24 +1,69 @@
--- `judge::join_state` meets its contract: the upper half is joined first, which leaves the bit that is looked at next.
+-- `judge::join_state` meets its contract: nothing is joined, the row, or the row and then its lower half lifted.
 -- Assumes nothing.
-use native.Mathlib.Omega.{arith}
-use Rattle.judge.proofs.Closure.{both-joined}
 use borrow.Author.Needs.{needs}
+use Rattle.judge.proofs.Decisions.{decided-not, decided-so}
+use Rattle.judge.proofs.RunBits.{ored-row, ored-met}
+use Rattle.judge.proofs.Closure.{join-none, join-run, join-met}
 use Rattle.judge.proofs.join_state.Statement.{statement}
 use Rattle.judge.proofs.join_state.Tie as tie
 
-join-met-requires : tie.Need-join-met-requires
-join-met-requires c κs = search needs
-
-join-runs-requires : tie.Need-join-runs-requires
-join-runs-requires c κs = search needs
-
-same-length : tie.Need-same-length
-same-length c = search needs
+has-bit-requires : tie.Need-has-bit-requires
+has-bit-requires c κs = search needs
 
 returns : tie.Need-returns
 returns c =
-    let s = c .before .before .before .before .before .before .before .before .before .before in
-    both-joined (s .args .q) (s .args .m) (omega arith) (c .before .before .before .before .before .before .join-met .ensures) (c .before .before .join-runs .ensures)
+    join-none _ _ (c .before .before .before .pre .2) (decided-not (c .before .has-bit .ensures) (c .if1 .taken))
+
+add-has-bit : tie.Need-add-has-bit
+add-has-bit c = search needs
+
+has-bit-requires-2 : tie.Need-has-bit-requires-2
+has-bit-requires-2 c κs = search needs
+
+mul-or-words : tie.Need-mul-or-words
+mul-or-words c = search needs
+
+or-words-requires : tie.Need-or-words-requires
+or-words-requires c κs = search needs
+
+returns-2 : tie.Need-returns-2
+returns-2 c =
+    let test = c .before .before .before .before .before .before in
+    join-run _ _ (decided-so (test .before .has-bit .ensures) (test .if1 .left))
+    (ored-row _ _ _ _ 0 (c .before .or-words .ensures))
+    (decided-not (c .before .before .before .before .has-bit2 .ensures) (c .if2 .taken))
+
+mul-or-words-2 : tie.Need-mul-or-words-2
+mul-or-words-2 c = search needs
+
+add-or-words : tie.Need-add-or-words
+add-or-words c = search needs
+
+or-words-requires-2 : tie.Need-or-words-requires-2
+or-words-requires-2 c κs = search needs
+
+returns-3 : tie.Need-returns-3
+returns-3 c =
+    let joined = c .before .before .before .before in
+    let met = joined .before .before .before in
+    let test = met .before .before in
+    join-met _ _ (decided-so (test .before .has-bit .ensures) (test .if1 .left))
+    (ored-row _ _ _ _ 0 (joined .or-words .ensures))
+    (decided-so (met .has-bit2 .ensures) (c .before .before .before .if2 .left))
+    (ored-met _ _ _ _ 0 (c .or-words2 .ensures))
 
 pub join-state-spec : {M : Type 1} → statement M
-join-state-spec = tie.close (tie.spec join-met-requires join-runs-requires same-length returns)
+join-state-spec =
+    tie.close
+    (tie.spec
+    has-bit-requires
+    returns
+    add-has-bit
+    has-bit-requires-2
+    mul-or-words
+    or-words-requires
+    returns-2
+    mul-or-words-2
+    add-or-words
+    or-words-requires-2
+    returns-3)

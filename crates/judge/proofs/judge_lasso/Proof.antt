@@ -3,6 +3,7 @@
 use borrow.Author.Needs.{needs}
 use mathlib.Core.Path.{sym, ap, _∙_}
 use Rattle.answer.specs.Result.{answer}
+use Rattle.lasso.proofs.Checking.{lasso-some}
 use Rattle.image.proofs.Accepted.{readable-in-range}
 use Rattle.judge.proofs.Judgements.{lasso-refused, lasso-kept, lasso-broken}
 use Rattle.judge.proofs.judge_lasso.Statement.{statement}
@@ -21,7 +22,11 @@ enum-told : tie.Need-enum-told
 enum-told c = search needs
 
 search-requires : tie.Need-search-requires
-search-requires c κs = search needs
+search-requires c κs =
+    let checked = c .before .before in
+    let start = checked .before .before .before .before .before in
+    let some = lasso-some _ _ (sym (ap answer (c .enum-told .given .1)) ∙ checked .check-lasso .ensures) in
+    (start .pre .0, start .pre .1, some)
 
 zero-requires : tie.Need-zero-requires
 zero-requires c κs = search needs

@@ -12,7 +12,8 @@ use Rattle.judge.proofs.lift.Statement.{statement}
 use Rattle.judge.proofs.lift.Tie as tie
 
 abbrev Inv-loop : tie.InvT-loop
-Inv-loop image n rows₀ from q₀ rows q = Gathering rows₀ (λ p r k. (AcceptingByte image p) × ((r ≡ p) × Lifted (Token from) p k)) n rows q
+Inv-loop image n rows₀ from q₀ rows q =
+    Gathering rows₀ (λ p r k. (AcceptingByte image p) × ((r ≡ p) × Lifted (Token from) p k)) n rows q
 
 abbrev μ-loop : tie.MeasureT-loop
 μ-loop image n rows₀ from q₀ rows q = n - q
@@ -31,27 +32,16 @@ loop-less c = search needs
 
 loop-again : tie.Need-loop-again Inv-loop μ-loop
 loop-again c =
-    let at = c .before .before .before .before .before in
-    gather-steps _ _ _ _ _ (at .loop .q) (omega arith) (at .loop .inv) (c .before .before .lift-state .kept .1 .1 .0) (c .before .before .lift-state .ensures)
-
-same-length : tie.Need-same-length Inv-loop μ-loop
-same-length c = c .before .loop .inv .size
+    let at = c .before .before .before in
+    gather-steps _ _ _ _ _ (at .loop .q) (omega arith) (at .loop .inv) (c .lift-state .ensures)
 
 returns : tie.Need-returns Inv-loop μ-loop
 returns c =
-    let s = c .before .before .before .before .before in
-    all-lifted (s .args .image .now) _ (s .pre .1) (gather-ends _ _ _ _ (c .before .loop .q) (omega arith) (c .before .loop .inv))
+    let s = c .before .before .before in
+    all-lifted (s .args .image .now) _ (s .pre .1)
+    (gather-ends _ _ _ _ (c .before .loop .q) (omega arith) (c .before .loop .inv))
 
 pub lift-spec : {M : Type 1} → statement M
 lift-spec =
     tie.close
-    (tie.spec
-    Inv-loop
-    μ-loop
-    loop-holds
-    lift-state-requires
-    add-q
-    loop-less
-    loop-again
-    same-length
-    returns)
+    (tie.spec Inv-loop μ-loop loop-holds lift-state-requires add-q loop-less loop-again returns)

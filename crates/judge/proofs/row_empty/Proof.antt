@@ -1,8 +1,8 @@
 -- `judge::row_empty` meets its contract: the row's four words joined are 0 only if each is.
 -- Assumes nothing.
+use borrow.Author.Needs.{needs}
 use borrow.Author.Tests.{eqb-true}
 use Rattle.judge.proofs.RunBits.{row-none}
-use borrow.Author.Needs.{needs}
 use Rattle.judge.proofs.row_empty.Statement.{statement}
 use Rattle.judge.proofs.row_empty.Tie as tie
 
@@ -12,8 +12,8 @@ mul-at c = search needs
 mul-result : tie.Need-mul-result
 mul-result c = search needs
 
-shared-slice-read-result : tie.Need-shared-slice-read-result
-shared-slice-read-result c = search needs
+element-copy-out-result : tie.Need-element-copy-out-result
+element-copy-out-result c = search needs
 
 add-result : tie.Need-add-result
 add-result c = search needs
@@ -21,8 +21,8 @@ add-result c = search needs
 mul-result-2 : tie.Need-mul-result-2
 mul-result-2 c = search needs
 
-shared-slice-read-result-2 : tie.Need-shared-slice-read-result-2
-shared-slice-read-result-2 c = search needs
+element-copy-out-result-2 : tie.Need-element-copy-out-result-2
+element-copy-out-result-2 c = search needs
 
 add-result-2 : tie.Need-add-result-2
 add-result-2 c = search needs
@@ -30,8 +30,8 @@ add-result-2 c = search needs
 mul-result-3 : tie.Need-mul-result-3
 mul-result-3 c = search needs
 
-shared-slice-read-result-3 : tie.Need-shared-slice-read-result-3
-shared-slice-read-result-3 c = search needs
+element-copy-out-result-3 : tie.Need-element-copy-out-result-3
+element-copy-out-result-3 c = search needs
 
 add-result-3 : tie.Need-add-result-3
 add-result-3 c = search needs
@@ -39,8 +39,8 @@ add-result-3 c = search needs
 mul-result-4 : tie.Need-mul-result-4
 mul-result-4 c = search needs
 
-shared-slice-read-result-4 : tie.Need-shared-slice-read-result-4
-shared-slice-read-result-4 c = search needs
+element-copy-out-result-4 : tie.Need-element-copy-out-result-4
+element-copy-out-result-4 c = search needs
 
 returns : tie.Need-returns
 returns c e = row-none _ _ (eqb-true _ 0 e)
@@ -51,14 +51,14 @@ row-empty-spec =
     (tie.spec
     mul-at
     mul-result
-    shared-slice-read-result
+    element-copy-out-result
     add-result
     mul-result-2
-    shared-slice-read-result-2
+    element-copy-out-result-2
     add-result-2
     mul-result-3
-    shared-slice-read-result-3
+    element-copy-out-result-3
     add-result-3
     mul-result-4
-    shared-slice-read-result-4
+    element-copy-out-result-4
     returns)

@@ -3,7 +3,6 @@
 use borrow.Author.Needs.{needs}
 use native.Mathlib.Omega.{arith}
 use Prim.Native.Nat.{ℕ, _+_, _-_, _<_}
-use mathlib.Core.Path.{_∙_}
 use lib.ListN.{length}
 use Rattle.automaton.specs.Automaton.{Step}
 use Rattle.image.specs.Lookup.{imageAutomaton}
@@ -14,13 +13,15 @@ use Rattle.judge.proofs.run.Statement.{statement}
 use Rattle.judge.proofs.run.Tie as tie
 
 abbrev Inv-loop : tie.InvT-loop
-Inv-loop image n word rows₀ next₀ i₀ rows next i = Running (imageAutomaton image) n word rows₀ rows next i
+Inv-loop image n word rows₀ next₀ i₀ rows next i =
+    Running (imageAutomaton image) n word rows₀ rows next i
 
 abbrev μ-loop : tie.MeasureT-loop
 μ-loop image n word rows₀ next₀ i₀ rows next i = length word - i
 
 -- every transition leads to one of the n states
-target : (c : tie.Start Inv-loop μ-loop) → (p x q : ℕ) → Step (imageAutomaton (c .args .image .now)) p x q → q < c .args .n
+target : (c : tie.Start Inv-loop μ-loop)
+    → (p x q : ℕ) → Step (imageAutomaton (c .args .image .now)) p x q → q < c .args .n
 target c p x q h = rw (c .pre .1) (step-target (c .args .image .now) (c .pre .0) p x q h)
 
 loop-holds : tie.Need-loop-holds Inv-loop μ-loop
@@ -29,27 +30,24 @@ loop-holds c = run-begins _ _ _ _
 shared-slice-read-step : tie.Need-shared-slice-read-step Inv-loop μ-loop
 shared-slice-read-step c = search needs
 
-slice-aggregate-step : tie.Need-slice-aggregate-step Inv-loop μ-loop
-slice-aggregate-step c = search needs
-
 step-requires : tie.Need-step-requires Inv-loop μ-loop
 step-requires c κs =
     let at = c .before .before .before .before in
-    let s = at .before .before .before .before in
-    (s .pre .0, s .pre .1, omega (arith, at .loop .inv .size), at .loop .inv .room, run-confined _ _ _ _ (target s) (s .pre .3) (at .loop .i) (at .loop .inv), at .loop .inv .confined)
+    let s = at .before .before .before in
+    let confined = run-confined _ _ _ _ (target s) (s .pre .2) (at .loop .i) (at .loop .inv) in
+    (s .pre .0, s .pre .1, confined, at .loop .inv .confined)
 
 some-started-requires : tie.Need-some-started-requires Inv-loop μ-loop
 some-started-requires c κs = search needs
 
-same-length : tie.Need-same-length Inv-loop μ-loop
-same-length c = search needs
-
 returns : tie.Need-returns Inv-loop μ-loop
 returns c =
-    let at = c .before .before .before .before .before .before .before .before .before .before .before in
-    let s = at .before .before .before .before in
-    let step = c .before .before .before .before .before .before .step in
-    run-stops _ _ _ _ (target s) (s .pre .3) _ (at .loop .i + 1) (run-steps _ _ _ _ _ _ (at .loop .i) (omega arith) (at .loop .inv) (step .kept .1 .1 .1 .0) (step .ensures .0) (step .kept .1 .1 .1 .1 .0 ∙ at .loop .inv .room) (step .ensures .1)) (decided-not (c .before .some-started .ensures) (c .if1 .taken))
+    let at = c .before .before .before .before .before .before .before .before in
+    let s = at .before .before .before in
+    let step = c .before .before .before .step in
+    run-stops _ _ _ _ (target s) (s .pre .2) (at .loop .i + 1)
+    (run-steps _ _ _ _ _ _ (at .loop .i) (omega arith) (at .loop .inv) (step .ensures .0) (step .ensures .1))
+    (decided-not (c .before .some-started .ensures) (c .if1 .taken))
 
 add-i : tie.Need-add-i Inv-loop μ-loop
 add-i c = search needs
@@ -59,12 +57,9 @@ loop-less c = search needs
 
 loop-again : tie.Need-loop-again Inv-loop μ-loop
 loop-again c =
-    let at = c .before .before .before .before .before .before .before .before .before .before .before in
-    let step = c .before .before .before .before .before .before .step in
-    run-steps _ _ _ _ _ _ (at .loop .i) (omega arith) (at .loop .inv) (step .kept .1 .1 .1 .0) (step .ensures .0) (step .kept .1 .1 .1 .1 .0 ∙ at .loop .inv .room) (step .ensures .1)
-
-same-length-2 : tie.Need-same-length-2 Inv-loop μ-loop
-same-length-2 c = c .before .loop .inv .size
+    let at = c .before .before .before .before .before .before .before .before in
+    let step = c .before .before .before .step in
+    run-steps _ _ _ _ _ _ (at .loop .i) (omega arith) (at .loop .inv) (step .ensures .0) (step .ensures .1)
 
 returns-2 : tie.Need-returns-2 Inv-loop μ-loop
 returns-2 c = run-ends _ _ _ _ _ (c .before .loop .i) (omega arith) (c .before .loop .inv)
@@ -77,13 +72,10 @@ run-spec =
     μ-loop
     loop-holds
     shared-slice-read-step
-    slice-aggregate-step
     step-requires
     some-started-requires
-    same-length
     returns
     add-i
     loop-less
     loop-again
-    same-length-2
     returns-2)

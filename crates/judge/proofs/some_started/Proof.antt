@@ -22,8 +22,7 @@ started-requires c κs = search needs
 
 returns : tie.Need-returns Inv-loop μ-loop
 returns c =
-    let at = c .before .before .before in
-    miss-finds _ _ (at .loop .q) (omega arith) (c .before .started .ensures) (c .if1 .taken)
+    miss-finds _ _ (c .before .before .before .loop .q) (omega arith) (c .before .started .ensures) (c .if1 .taken)
 
 add-q : tie.Need-add-q Inv-loop μ-loop
 add-q c = search needs
@@ -42,4 +41,13 @@ returns-2 c = miss-ends _ _ (c .before .loop .q) (omega arith) (c .before .loop 
 pub some-started-spec : {M : Type 1} → statement M
 some-started-spec =
     tie.close
-    (tie.spec Inv-loop μ-loop loop-holds started-requires returns add-q loop-less loop-again returns-2)
+    (tie.spec
+    Inv-loop
+    μ-loop
+    loop-holds
+    started-requires
+    returns
+    add-q
+    loop-less
+    loop-again
+    returns-2)

@@ -1,5 +1,6 @@
 -- `judge::started` meets its contract: the first bit, and the second where it is asked for.
 -- Assumes nothing.
+use borrow.Author.Needs.{needs}
 use mathlib.Core.Path.{_≡_}
 use mathlib.Core.Bool.{Bool, true, false, not}
 use mathlib.Core.List.{List}
@@ -7,7 +8,6 @@ use Prim.Native.Nat.{ℕ, _+_}
 use Rattle.judge.specs.Limits.{startBit, metBit}
 use Rattle.judge.specs.Memory.{Token, Tells, Started}
 use Rattle.judge.proofs.Decisions.{false-true, true-false, decided-not, decided-so, holds-not, holds-so, both-so}
-use borrow.Author.Needs.{needs}
 use Rattle.judge.proofs.started.Statement.{statement}
 use Rattle.judge.proofs.started.Tie as tie
 
@@ -28,10 +28,12 @@ has-bit-requires : tie.Need-has-bit-requires
 has-bit-requires c κs = search needs
 
 returns : tie.Need-returns
-returns c = not-started _ _ (c .before .before .before .args .back) (decided-not (c .before .has-bit .ensures) (c .if1 .taken))
+returns c = not-started _ _ (c .before .before .args .back) (decided-not (c .before .has-bit .ensures) (c .if1 .taken))
 
 returns-2 : tie.Need-returns-2
-returns-2 c = once _ _ (c .before .before .before .before .args .back) (c .if2 .taken) (decided-so (c .before .before .has-bit .ensures) (c .before .if1 .left))
+returns-2 c =
+    once _ _ (c .before .before .before .args .back) (c .if2 .taken)
+    (decided-so (c .before .before .has-bit .ensures) (c .before .if1 .left))
 
 add-has-bit : tie.Need-add-has-bit
 add-has-bit c = search needs
@@ -41,9 +43,11 @@ has-bit-requires-2 c κs = search needs
 
 returns-3 : tie.Need-returns-3
 returns-3 c =
-    let second = c .before in
-    twice _ _ (second .before .before .before .before .args .back) (second .if2 .left) (decided-so (second .before .before .has-bit .ensures) (second .before .if1 .left)) (c .has-bit2 .ensures)
+    twice _ _ (c .before .before .before .before .args .back) (c .before .if2 .left)
+    (decided-so (c .before .before .before .has-bit .ensures) (c .before .before .if1 .left))
+    (c .has-bit2 .ensures)
 
 pub started-spec : {M : Type 1} → statement M
 started-spec =
-    tie.close (tie.spec has-bit-requires returns returns-2 add-has-bit has-bit-requires-2 returns-3)
+    tie.close
+    (tie.spec has-bit-requires returns returns-2 add-has-bit has-bit-requires-2 returns-3)

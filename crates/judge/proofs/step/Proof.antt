@@ -25,24 +25,21 @@ copy-words-requires : tie.Need-copy-words-requires
 copy-words-requires c κs = search needs
 
 lift-requires : tie.Need-lift-requires
-lift-requires c κs =
-    let s = c .before .before .before .before .before .before .before .before .before .before .before .before .before .before .before .before .before .before .before in
-    (s .pre .0, s .pre .1, omega (arith, c .before .before .before .before .copy-words .kept .0), omega (arith, c .before .before .before .before .before .before .before .before .before .step-states .kept .1 .1 .1 .1 .0, c .before .before .before .before .before .before .before .before .before .before .before .before .before .before .clear-words .kept .0))
-
-same-length : tie.Need-same-length
-same-length c = search needs
-
-same-length-2 : tie.Need-same-length-2
-same-length-2 c = search needs
+lift-requires c κs = search needs
 
 returns : tie.Need-returns
 returns c =
-    let s = c .before .before .before .before .before .before .before .before .before .before .before .before .before .before .before .before .before .before .before .before .before .before in
+    let s = c .before .before .before .before .before .before .before .before .before .before .before .before .before in
     let image = s .args .image .now in
-    let none = cleared (s .args .n) _ (s .pre .5) (c .before .before .before .before .before .before .before .before .before .before .before .before .before .before .before .before .before .clear-words .ensures) in
-    let taken = c .before .before .before .before .before .before .before .before .before .before .before .before .step-states .ensures in
-    let confined = taken-confined (imageAutomaton image) (s .args .letter) (s .args .n) (λ p q h. rw (s .pre .1) (step-target image (s .pre .0) p (s .args .letter) q h)) none taken in
-    (stepped (imageAutomaton image) (s .args .letter) (s .args .n) (s .args .rows .now) (λ p q h. rw (s .pre .1) (step-inside image p (s .args .letter) q h)) none taken (copied (s .args .n) _ (s .pre .4) _ (omega (arith, s .pre .0 .few, c .before .before .before .before .before .before .before .before .before .before .before .before .step-states .kept .1 .1 .1 .1 .0, c .before .before .before .before .before .before .before .before .before .before .before .before .before .before .before .before .before .clear-words .kept .0)) confined (c .before .before .before .before .before .before .before .copy-words .ensures)) (c .before .before .lift .ensures), confined)
+    let a = imageAutomaton image in
+    let x = s .args .letter in
+    let stepped-on = c .before .before .before .before .before .before .before in
+    let none = cleared (s .args .n) _ (s .pre .3) (stepped-on .before .before .before .clear-words .ensures) in
+    let taken = stepped-on .step-states .ensures in
+    let confined = taken-confined a x _ none taken (λ p q h. rw (s .pre .1) (step-target image (s .pre .0) p x q h)) in
+    let same = c .before .before .before .copy-words .ensures in
+    let copy = copied (s .args .n) _ (s .pre .2) _ (omega (arith, s .pre .0 .few)) confined same in
+    (stepped a x _ none taken (λ p q h. rw (s .pre .1) (step-inside image p x q h)) copy (c .lift .ensures), confined)
 
 pub step-spec : {M : Type 1} → statement M
 step-spec =
@@ -54,6 +51,4 @@ step-spec =
     mul-copy-words
     copy-words-requires
     lift-requires
-    same-length
-    same-length-2
     returns)

@@ -1,19 +1,26 @@
 -- `judge::step_state` meets its contract: an empty row has no run to take along, and the records of the next state
 -- follow. Assumes nothing.
+use borrow.Author.Needs.{needs}
 use native.Mathlib.Omega.{arith}
 use Prim.Native.Nat.{_+_, _*_, _≤_}
+use mathlib.Core.Path.{_≡_}
 use lib.ListN.{length}
+use Rattle.image.specs.Lookup.{recordsAt}
 use Rattle.judge.proofs.Gathers.{adds-none}
 use Rattle.judge.proofs.Turns.{records-next, records-fit}
-use borrow.Author.Needs.{needs}
 use Rattle.judge.proofs.step_state.Statement.{statement}
 use Rattle.judge.proofs.step_state.Tie as tie
 
--- the records of the state lie within the image
-records-inside : (c : tie.After-number-at) → c .before .before .before .before .args .at + 4 * c .number-at .result ≤ length (c .before .before .before .before .args .image .now)
-records-inside c =
-    let s = c .before .before .before .before in
-    records-fit _ (s .args .rows .now) (s .args .q) (s .args .letter) (s .pre .0) _ _ (s .pre .1) (s .pre .2) (c .number-at .ensures)
+-- the records of the state lie within the image, and those of the next state follow
+module _ (c : tie.After-number-at) where
+  abbrev s : tie.Start
+  s = c .before .before
+
+  records-inside : s .args .at + 4 * c .number-at .result ≤ length (s .args .image .now)
+  records-inside = records-fit _ (s .args .q) (s .pre .2) (c .number-at .ensures) (s .pre .1) (s .pre .0)
+
+  next : s .args .at + 4 * c .number-at .result ≡ recordsAt (s .args .image .now) (s .args .q + 1)
+  next = records-next (s .args .image .now) (s .args .q) (s .pre .2) (c .number-at .ensures)
 
 mul-number-at : tie.Need-mul-number-at
 mul-number-at c = search needs
@@ -35,23 +42,13 @@ row-empty-requires c κs = search needs
 
 returns : tie.Need-returns
 returns c =
-    let s = c .before .before .before .before .before .before in (
-      records-next (s .args .image .now) (s .args .rows .now) _ (s .args .letter) _ _ (s .pre .2) (c .before .before .number-at .ensures),
-      adds-none (λ t k h. c .before .row-empty .ensures (c .if1 .taken) k (h .1)),
-    )
+    (next (c .before .before), adds-none (λ t k h. c .before .row-empty .ensures (c .if1 .taken) k (h .1)))
 
 take-transitions-requires : tie.Need-take-transitions-requires
 take-transitions-requires c κs = search needs
 
-same-length : tie.Need-same-length
-same-length c = search needs
-
 returns-2 : tie.Need-returns-2
-returns-2 c =
-    let s = c .before .before .before .before .before .before .before .before .before .before in (
-      records-next (s .args .image .now) (s .args .rows .now) _ (s .args .letter) _ _ (s .pre .2) (c .before .before .before .before .before .before .number-at .ensures),
-      c .before .before .take-transitions .ensures,
-    )
+returns-2 c = (next (c .before .before .before .before), c .take-transitions .ensures)
 
 pub step-state-spec : {M : Type 1} → statement M
 step-state-spec =
@@ -65,5 +62,4 @@ step-state-spec =
     row-empty-requires
     returns
     take-transitions-requires
-    same-length
     returns-2)

@@ -9,7 +9,8 @@ use Rattle.judge.proofs.step_states.Statement.{statement}
 use Rattle.judge.proofs.step_states.Tie as tie
 
 abbrev Inv-loop : tie.InvT-loop
-Inv-loop image n letter rows next₀ at₀ q₀ next at q = Stepping image rows n letter next₀ next at q
+Inv-loop image n letter rows next₀ at₀ q₀ next at q =
+    Stepping image rows n letter next₀ next at q
 
 abbrev μ-loop : tie.MeasureT-loop
 μ-loop image n letter rows next₀ at₀ q₀ next at q = n - q
@@ -22,14 +23,12 @@ add-at c = search needs
 
 loop-holds : tie.Need-loop-holds Inv-loop μ-loop
 loop-holds c =
-    let s = c .before .before .before in
-    record { offset = records-begin (s .args .image .now) _ (s .pre .1); turns = gather-begins _ _ _ }
+    record { offset = records-begin (c .before .args .image .now) _ (c .before .pre .1); turns = gather-begins _ _ _ }
 
 step-state-requires : tie.Need-step-state-requires Inv-loop μ-loop
 step-state-requires c κs =
     let at = c .before .before in
-    let s = at .before .before .before .before in
-    (s .pre .0, omega arith, at .loop .inv .offset, omega arith, omega (arith, at .loop .inv .turns .size))
+    (at .before .before .pre .0, omega arith, at .loop .inv .offset)
 
 add-q : tie.Need-add-q Inv-loop μ-loop
 add-q c = search needs
@@ -39,14 +38,11 @@ loop-less c = search needs
 
 loop-again : tie.Need-loop-again Inv-loop μ-loop
 loop-again c =
-    let at = c .before .before .before .before .before in
+    let at = c .before .before .before in
     record {
-      offset = c .before .before .step-state .ensures .0;
-      turns = gather-steps _ _ _ _ _ (at .loop .q) (omega arith) (at .loop .inv .turns) (c .before .before .step-state .kept .1 .1 .1 .1 .1 .0) (c .before .before .step-state .ensures .1);
+      offset = c .step-state .ensures .0;
+      turns = gather-steps _ _ _ _ _ (at .loop .q) (omega arith) (at .loop .inv .turns) (c .step-state .ensures .1);
     }
-
-same-length : tie.Need-same-length Inv-loop μ-loop
-same-length c = c .before .loop .inv .turns .size
 
 returns : tie.Need-returns Inv-loop μ-loop
 returns c = gather-ends _ _ _ _ (c .before .loop .q) (omega arith) (c .before .loop .inv .turns)
@@ -64,5 +60,4 @@ step-states-spec =
     add-q
     loop-less
     loop-again
-    same-length
     returns)

@@ -1,7 +1,9 @@
 -- `judge::take_transition` meets its contract: a row is joined if the record reads the letter, and nothing else.
 -- Assumes nothing.
-use Rattle.judge.proofs.Turns.{adds-if, adds-not, reads-not, reads-so}
 use borrow.Author.Needs.{needs}
+use Rattle.judge.proofs.RunBits.{ored-row}
+use Rattle.judge.proofs.Gathers.{adds-if, adds-not}
+use Rattle.judge.proofs.Turns.{reads-not, reads-so}
 use Rattle.judge.proofs.take_transition.Statement.{statement}
 use Rattle.judge.proofs.take_transition.Tie as tie
 
@@ -26,16 +28,20 @@ add-number-at c = search needs
 number-at-requires : tie.Need-number-at-requires
 number-at-requires c κs = search needs
 
-or-row-requires : tie.Need-or-row-requires
-or-row-requires c κs = search needs
+mul-or-words : tie.Need-mul-or-words
+mul-or-words c = search needs
 
-same-length : tie.Need-same-length
-same-length c = search needs
+mul-or-words-2 : tie.Need-mul-or-words-2
+mul-or-words-2 c = search needs
+
+or-words-requires : tie.Need-or-words-requires
+or-words-requires c κs = search needs
 
 returns-2 : tie.Need-returns-2
 returns-2 c =
-    let test = c .before .before .before .before .before in
-    adds-if (reads-so (test .before .reads-letter .ensures) (test .if1 .left)) (rw (c .before .before .before .number-at .ensures) at (c .before .before .or-row .ensures))
+    let test = c .before .before .before .before in
+    adds-if (reads-so (test .before .reads-letter .ensures) (test .if1 .left))
+    (ored-row _ _ _ _ _ (rw (c .before .before .number-at .ensures) at (c .or-words .ensures)))
 
 pub take-transition-spec : {M : Type 1} → statement M
 take-transition-spec =
@@ -48,6 +54,7 @@ take-transition-spec =
     returns
     add-number-at
     number-at-requires
-    or-row-requires
-    same-length
+    mul-or-words
+    mul-or-words-2
+    or-words-requires
     returns-2)
