@@ -1,7 +1,6 @@
 -- `answer::zero` meets its contract: a list of zeros is stored over the table (`Zeroing`).
 -- Assumes nothing.
 use borrow.Author.Needs.{needs}
-use native.Mathlib.Omega.{arith}
 use Prim.Native.Nat.{_-_}
 use lib.ListN.{length}
 use Rattle.answer.proofs.Storing.{Zeroing, store-begins, zero-steps, zero-ends}
