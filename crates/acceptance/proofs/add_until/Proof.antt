@@ -23,19 +23,10 @@ module _ (kind i : ℕ) (nodes : List ℕ) (count : ℕ) where
   unchanged : (kind ≡ 7 → ⊥) → take count nodes ≡ take count nodes ++ ownUntil kind i
   unchanged other = rw (ne-eqb kind 7 other, append-nil)
 
-mul-nodes : tie.Need-mul-nodes
-mul-nodes c = search needs
-
 slice-write-nodes : tie.Need-slice-write-nodes
 slice-write-nodes c =
     let a = c .before .args in
     place (a .kind) (a .i) (a .nodes .now) (a .count) (c .before .pre) (c .if1 .taken)
-
-add-result : tie.Need-add-result
-add-result c = search needs
-
-same-length : tie.Need-same-length
-same-length c = search needs
 
 returns : tie.Need-returns
 returns c =
@@ -49,4 +40,4 @@ returns-2 c =
 
 pub add-until-spec : {M : Type 1} → statement M
 add-until-spec =
-    tie.close (tie.spec mul-nodes slice-write-nodes add-result same-length returns returns-2)
+    tie.close (tie.spec (λ c. search needs) slice-write-nodes (λ c. search needs) (λ c. search needs) returns returns-2)

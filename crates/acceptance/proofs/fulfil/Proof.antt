@@ -45,26 +45,8 @@ abbrev μ-loop : tie.MeasureT-loop
 loop-holds : tie.Need-loop-holds Inv-loop μ-loop
 loop-holds c = fill-begins _ _ _ _
 
-slice-aggregate-fulfilment : tie.Need-slice-aggregate-fulfilment Inv-loop μ-loop
-slice-aggregate-fulfilment c = search needs
-
-mul-fulfilment : tie.Need-mul-fulfilment Inv-loop μ-loop
-mul-fulfilment c = search needs
-
-shared-slice-read-fulfilment : tie.Need-shared-slice-read-fulfilment Inv-loop μ-loop
-shared-slice-read-fulfilment c = search needs
-
 fulfilment-requires : tie.Need-fulfilment-requires Inv-loop μ-loop
 fulfilment-requires c κs = c .before .before .before .before .before .before .before .before .before .pre .2
-
-slice-write-bytes : tie.Need-slice-write-bytes Inv-loop μ-loop
-slice-write-bytes c = search needs
-
-add-i : tie.Need-add-i Inv-loop μ-loop
-add-i c = search needs
-
-loop-less : tie.Need-loop-less Inv-loop μ-loop
-loop-less c = search needs
 
 loop-again : tie.Need-loop-again Inv-loop μ-loop
 loop-again c =
@@ -85,13 +67,13 @@ fulfil-spec =
     Inv-loop
     μ-loop
     loop-holds
-    slice-aggregate-fulfilment
-    mul-fulfilment
-    shared-slice-read-fulfilment
+    (λ c. search needs)
+    (λ c. search needs)
+    (λ c. search needs)
     fulfilment-requires
-    slice-write-bytes
-    add-i
-    loop-less
+    (λ c. search needs)
+    (λ c. search needs)
+    (λ c. search needs)
     loop-again
     same-length
     returns)

@@ -97,12 +97,6 @@ with-bit-requires c κs =
     let at = c .before .before .before in
     (few (at .before .before .before .before .pre) (at .loop .k) (c .before .before .loop-test .taken), rw (at .loop .inv .done) (bits-small _ (at .loop .k)))
 
-add-k : tie.Need-add-k Inv-loop μ-loop
-add-k c = search needs
-
-loop-less : tie.Need-loop-less Inv-loop μ-loop
-loop-less c = search needs
-
 loop-again : tie.Need-loop-again Inv-loop μ-loop
 loop-again c =
     let at = c .before .before .before .before in
@@ -124,7 +118,7 @@ fulfilment-spec =
     shared-slice-read-fulfils-node
     fulfils-node-requires
     with-bit-requires
-    add-k
-    loop-less
+    (λ c. search needs)
+    (λ c. search needs)
     loop-again
     returns)

@@ -40,35 +40,17 @@ Inv-loop f us t i₀ i = Seeking (showsN f t) us i
 abbrev μ-loop : tie.MeasureT-loop
 μ-loop f us t i₀ i = length us - i
 
-owes-requires : tie.Need-owes-requires Inv-loop μ-loop
-owes-requires c κs = search needs
-
 returns : tie.Need-returns Inv-loop μ-loop
 returns c = rw (← (c .before .owes .ensures), c .if1 .taken)
 
 loop-holds : tie.Need-loop-holds Inv-loop μ-loop
 loop-holds c = record { within = omega arith; rest = refl }
 
-mul-shows : tie.Need-mul-shows Inv-loop μ-loop
-mul-shows c = search needs
-
-shared-slice-read-shows : tie.Need-shared-slice-read-shows Inv-loop μ-loop
-shared-slice-read-shows c = search needs
-
-shows-requires : tie.Need-shows-requires Inv-loop μ-loop
-shows-requires c κs = search needs
-
 returns-2 : tie.Need-returns-2 Inv-loop μ-loop
 returns-2 c =
     let at = c .before .before .before .before in
     rw (← (at .before .before .owes .ensures), at .before .if1 .left)
     (seek-finds _ _ (at .loop .i) (at .loop .inv) (omega arith) (c .before .shows .ensures) (c .if2 .taken))
-
-add-i : tie.Need-add-i Inv-loop μ-loop
-add-i c = search needs
-
-loop-less : tie.Need-loop-less Inv-loop μ-loop
-loop-less c = search needs
 
 loop-again : tie.Need-loop-again Inv-loop μ-loop
 loop-again c =
@@ -87,14 +69,14 @@ fulfils-spec =
     (tie.spec
     Inv-loop
     μ-loop
-    owes-requires
+    (λ c κs. search needs)
     returns
     loop-holds
-    mul-shows
-    shared-slice-read-shows
-    shows-requires
+    (λ c. search needs)
+    (λ c. search needs)
+    (λ c κs. search needs)
     returns-2
-    add-i
-    loop-less
+    (λ c. search needs)
+    (λ c. search needs)
     loop-again
     returns-3)

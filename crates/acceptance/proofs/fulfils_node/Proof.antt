@@ -20,36 +20,6 @@ part table f t n is e =
     let count : f * rowPlaces + 1 + n - (f * rowPlaces + 1) ≡ getD table (f * rowPlaces) 0 = omega arith in
     rw (count, from) at is
 
-mul-row : tie.Need-mul-row
-mul-row c = search needs
-
-mul-count : tie.Need-mul-count
-mul-count c = search needs
-
-shared-slice-read-count : tie.Need-shared-slice-read-count
-shared-slice-read-count c = search needs
-
-add-from : tie.Need-add-from
-add-from c = search needs
-
-add-fulfils : tie.Need-add-fulfils
-add-fulfils c = search needs
-
-mul-fulfils : tie.Need-mul-fulfils
-mul-fulfils c = search needs
-
-sub-fulfils : tie.Need-sub-fulfils
-sub-fulfils c = search needs
-
-part-fulfils-start : tie.Need-part-fulfils-start
-part-fulfils-start c = search needs
-
-part-fulfils-end : tie.Need-part-fulfils-end
-part-fulfils-end c = search needs
-
-fulfils-requires : tie.Need-fulfils-requires
-fulfils-requires c κs = search needs
-
 returns : tie.Need-returns
 returns c =
     let s = c .before .before .before .before in
@@ -59,14 +29,14 @@ pub fulfils-node-spec : {M : Type 1} → statement M
 fulfils-node-spec =
     tie.close
     (tie.spec
-    mul-row
-    mul-count
-    shared-slice-read-count
-    add-from
-    add-fulfils
-    mul-fulfils
-    sub-fulfils
-    part-fulfils-start
-    part-fulfils-end
-    fulfils-requires
+    (λ c. search needs)
+    (λ c. search needs)
+    (λ c. search needs)
+    (λ c. search needs)
+    (λ c. search needs)
+    (λ c. search needs)
+    (λ c. search needs)
+    (λ c. search needs)
+    (λ c. search needs)
+    (λ c κs. search needs)
     returns)

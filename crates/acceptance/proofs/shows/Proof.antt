@@ -5,9 +5,6 @@ use borrow.Author.Tests.{eq-eqb, ne-eqb}
 use Rattle.acceptance.proofs.shows.Statement.{statement}
 use Rattle.acceptance.proofs.shows.Tie as tie
 
-owes-requires : tie.Need-owes-requires
-owes-requires c κs = search needs
-
 returns : tie.Need-returns
 returns c = rw (eq-eqb _ _ (c .before .if1 .taken), c .owes .ensures)
 
@@ -15,4 +12,4 @@ returns-2 : tie.Need-returns-2
 returns-2 c = rw (ne-eqb _ _ (c .if1 .left))
 
 pub shows-spec : {M : Type 1} → statement M
-shows-spec = tie.close (tie.spec owes-requires returns returns-2)
+shows-spec = tie.close (tie.spec (λ c κs. search needs) returns returns-2)

@@ -17,22 +17,10 @@ abbrev μ-loop : tie.MeasureT-loop
 loop-holds : tie.Need-loop-holds Inv-loop μ-loop
 loop-holds c = gather-begins _ _ _ refl
 
-kind-of-requires : tie.Need-kind-of-requires Inv-loop μ-loop
-kind-of-requires c κs = search needs
-
-slice-aggregate-add-until : tie.Need-slice-aggregate-add-until Inv-loop μ-loop
-slice-aggregate-add-until c = search needs
-
 add-until-requires : tie.Need-add-until-requires Inv-loop μ-loop
 add-until-requires c κs =
     let at = c .before .before .before in
     gather-fits _ _ _ _ (at .loop .i) _ (omega arith) (c .before .kind-of .ensures) (at .loop .inv) refl (at .before .before .pre)
-
-add-i : tie.Need-add-i Inv-loop μ-loop
-add-i c = search needs
-
-loop-less : tie.Need-loop-less Inv-loop μ-loop
-loop-less c = search needs
 
 loop-again : tie.Need-loop-again Inv-loop μ-loop
 loop-again c =
@@ -52,10 +40,10 @@ untils-of-spec =
     Inv-loop
     μ-loop
     loop-holds
-    kind-of-requires
-    slice-aggregate-add-until
+    (λ c κs. search needs)
+    (λ c. search needs)
     add-until-requires
-    add-i
-    loop-less
+    (λ c. search needs)
+    (λ c. search needs)
     loop-again
     returns)

@@ -16,12 +16,6 @@ shifted k lt = rw one-mul (mod-eq-of-lt (pow-lt {j = 8} lt))
 fits : (byte k : ℕ) → k < maxUntils → byte < 2 ^ k → byte + 1 * 2 ^ k % 2 ^ 8 < 256
 fits byte k lt small = omega (arith, shifted k lt, two-pow-succ k, pow-mono {i = suc k} {j = 8} lt)
 
-cast-result : tie.Need-cast-result
-cast-result c = search needs
-
-shl-result : tie.Need-shl-result
-shl-result c = search needs
-
 add-result : tie.Need-add-result
 add-result c =
     let s = c .before in
@@ -34,4 +28,4 @@ returns-2 : tie.Need-returns-2
 returns-2 c = rw (c .if1 .left) (omega arith)
 
 pub with-bit-spec : {M : Type 1} → statement M
-with-bit-spec = tie.close (tie.spec cast-result shl-result add-result returns returns-2)
+with-bit-spec = tie.close (tie.spec (λ c. search needs) (λ c. search needs) add-result returns returns-2)

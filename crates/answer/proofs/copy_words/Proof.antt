@@ -16,24 +16,6 @@ abbrev μ-loop : tie.MeasureT-loop
 loop-holds : tie.Need-loop-holds Inv-loop μ-loop
 loop-holds c = store-begins _ _ _
 
-mul-target : tie.Need-mul-target Inv-loop μ-loop
-mul-target c = search needs
-
-shared-slice-read-target : tie.Need-shared-slice-read-target Inv-loop μ-loop
-shared-slice-read-target c = search needs
-
-mul-target-2 : tie.Need-mul-target-2 Inv-loop μ-loop
-mul-target-2 c = search needs
-
-slice-write-target : tie.Need-slice-write-target Inv-loop μ-loop
-slice-write-target c = search needs
-
-add-i : tie.Need-add-i Inv-loop μ-loop
-add-i c = search needs
-
-loop-less : tie.Need-loop-less Inv-loop μ-loop
-loop-less c = search needs
-
 loop-again : tie.Need-loop-again Inv-loop μ-loop
 loop-again c =
     let at = c .before .before in
@@ -52,12 +34,12 @@ copy-words-spec =
     Inv-loop
     μ-loop
     loop-holds
-    mul-target
-    shared-slice-read-target
-    mul-target-2
-    slice-write-target
-    add-i
-    loop-less
+    (λ c. search needs)
+    (λ c. search needs)
+    (λ c. search needs)
+    (λ c. search needs)
+    (λ c. search needs)
+    (λ c. search needs)
     loop-again
     same-length
     returns)

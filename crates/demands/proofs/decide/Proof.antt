@@ -7,17 +7,8 @@ use borrow.Author.Needs.{needs}
 use Rattle.demands.proofs.decide.Statement.{statement}
 use Rattle.demands.proofs.decide.Tie as tie
 
-room-fits-requires : tie.Need-room-fits-requires
-room-fits-requires c κs = search needs
-
 returns : tie.Need-returns
 returns c = short-refused _ _ _ _ _ _ _ _ (c .before .room-fits .ensures) (c .if1 .taken)
-
-check-requires : tie.Need-check-requires
-check-requires c κs = search needs
-
-enum-known-bytes : tie.Need-enum-known-bytes
-enum-known-bytes c = search needs
 
 returns-2 : tie.Need-returns-2
 returns-2 c =
@@ -25,15 +16,6 @@ returns-2 c =
     let tested = checked .before in
     bytes-refused _ _ _ _ _ _ _ _ (tested .before .room-fits .ensures) (tested .if1 .left)
     (sym (ap answer (c .before .bytes .given .1)) ∙ checked .check .ensures)
-
-enum-told : tie.Need-enum-told
-enum-told c = search needs
-
-check-lasso-requires : tie.Need-check-lasso-requires
-check-lasso-requires c κs = search needs
-
-enum-known-lasso : tie.Need-enum-known-lasso
-enum-known-lasso c = search needs
 
 returns-3 : tie.Need-returns-3
 returns-3 c =
@@ -44,9 +26,6 @@ returns-3 c =
     lasso-refused _ _ _ _ _ _ _ _ (tested .before .room-fits .ensures) (tested .if1 .left) bytes
     (sym (ap answer (c .before .lasso .given .1)) ∙ lasso .check-lasso .ensures)
 
-enum-told-2 : tie.Need-enum-told-2
-enum-told-2 c = search needs
-
 decide-checked-requires : tie.Need-decide-checked-requires
 decide-checked-requires c κs =
     let told = c .before .before .before .before .before in
@@ -56,21 +35,6 @@ decide-checked-requires c κs =
     let bytes = sym (ap answer (lasso .before .enum-told .given .1)) ∙ checked .check .ensures in
     input-fine _ _ _ _ _ _ _ _ (tested .before .room-fits .ensures) (tested .if1 .left) bytes
     (sym (ap answer (told .enum-told2 .given .1)) ∙ lasso .check-lasso .ensures)
-
-same-length : tie.Need-same-length
-same-length c = search needs
-
-same-length-2 : tie.Need-same-length-2
-same-length-2 c = search needs
-
-same-length-3 : tie.Need-same-length-3
-same-length-3 c = search needs
-
-same-length-4 : tie.Need-same-length-4
-same-length-4 c = search needs
-
-same-length-5 : tie.Need-same-length-5
-same-length-5 c = search needs
 
 returns-4 : tie.Need-returns-4
 returns-4 c =
@@ -87,20 +51,20 @@ pub decide-spec : {M : Type 1} → statement M
 decide-spec =
     tie.close
     (tie.spec
-    room-fits-requires
+    (λ c κs. search needs)
     returns
-    check-requires
-    enum-known-bytes
+    (λ c κs. search needs)
+    (λ c. search needs)
     returns-2
-    enum-told
-    check-lasso-requires
-    enum-known-lasso
+    (λ c. search needs)
+    (λ c κs. search needs)
+    (λ c. search needs)
     returns-3
-    enum-told-2
+    (λ c. search needs)
     decide-checked-requires
-    same-length
-    same-length-2
-    same-length-3
-    same-length-4
-    same-length-5
+    (λ c. search needs)
+    (λ c. search needs)
+    (λ c. search needs)
+    (λ c. search needs)
+    (λ c. search needs)
     returns-4)

@@ -7,21 +7,9 @@ use Rattle.formula.proofs.Checks.{syntax-refused, untils-left}
 use Rattle.formula.proofs.check.Statement.{statement}
 use Rattle.formula.proofs.check.Tie as tie
 
-check-syntax-requires : tie.Need-check-syntax-requires
-check-syntax-requires c κs = search needs
-
-enum-known-syntax : tie.Need-enum-known-syntax
-enum-known-syntax c = search needs
-
 returns : tie.Need-returns
 returns c =
     syntax-refused _ (sym (ap answer (c .before .syntax .given .1)) ∙ c .before .before .before .check-syntax .ensures)
-
-enum-told : tie.Need-enum-told
-enum-told c = search needs
-
-check-untils-requires : tie.Need-check-untils-requires
-check-untils-requires c κs = search needs
 
 returns-2 : tie.Need-returns-2
 returns-2 c =
@@ -33,9 +21,9 @@ pub check-spec : {M : Type 1} → statement M
 check-spec =
     tie.close
     (tie.spec
-    check-syntax-requires
-    enum-known-syntax
+    (λ c κs. search needs)
+    (λ c. search needs)
     returns
-    enum-told
-    check-untils-requires
+    (λ c. search needs)
+    (λ c κs. search needs)
     returns-2)

@@ -48,43 +48,16 @@ right-child c e =
     (read .before .before .kind-of .ensures) (read .right-of .ensures) (c .before .right-operand2 .ensures)
     (c .child-fits2 .ensures) e
 
-kind-of-requires : tie.Need-kind-of-requires
-kind-of-requires c κs = search needs
-
-left-of-requires : tie.Need-left-of-requires
-left-of-requires c κs = search needs
-
-right-of-requires : tie.Need-right-of-requires
-right-of-requires c κs = search needs
-
 returns : tie.Need-returns
 returns c = kind-unknown _ _ _ (omega arith)
 
-left-operand-requires : tie.Need-left-operand-requires
-left-operand-requires c κs = search needs
-
-byte-fits-requires : tie.Need-byte-fits-requires
-byte-fits-requires c κs = search needs
-
 returns-2 : tie.Need-returns-2
 returns-2 c = left-unfit _ _ _ (omega arith) (left-byte (c .before) (c .if2 .taken))
-
-right-operand-requires : tie.Need-right-operand-requires
-right-operand-requires c κs = search needs
-
-byte-fits-requires-2 : tie.Need-byte-fits-requires-2
-byte-fits-requires-2 c κs = search needs
 
 returns-3 : tie.Need-returns-3
 returns-3 c =
     let one = c .before .before .before in
     right-unfit _ _ _ (omega arith) (left-byte (one .before) (one .if2 .left)) (right-byte (c .before) (c .if3 .taken))
-
-left-operand-requires-2 : tie.Need-left-operand-requires-2
-left-operand-requires-2 c κs = search needs
-
-child-fits-requires : tie.Need-child-fits-requires
-child-fits-requires c κs = search needs
 
 returns-4 : tie.Need-returns-4
 returns-4 c =
@@ -92,12 +65,6 @@ returns-4 c =
     let one = two .before .before .before in
     left-above _ _ _ (omega arith) (left-byte (one .before) (one .if2 .left))
     (right-byte (two .before) (two .if3 .left)) (left-child (c .before) (c .if4 .taken))
-
-right-operand-requires-2 : tie.Need-right-operand-requires-2
-right-operand-requires-2 c κs = search needs
-
-child-fits-requires-2 : tie.Need-child-fits-requires-2
-child-fits-requires-2 c κs = search needs
 
 returns-5 : tie.Need-returns-5
 returns-5 c =
@@ -120,20 +87,20 @@ pub check-node-spec : {M : Type 1} → statement M
 check-node-spec =
     tie.close
     (tie.spec
-    kind-of-requires
-    left-of-requires
-    right-of-requires
+    (λ c κs. search needs)
+    (λ c κs. search needs)
+    (λ c κs. search needs)
     returns
-    left-operand-requires
-    byte-fits-requires
+    (λ c κs. search needs)
+    (λ c κs. search needs)
     returns-2
-    right-operand-requires
-    byte-fits-requires-2
+    (λ c κs. search needs)
+    (λ c κs. search needs)
     returns-3
-    left-operand-requires-2
-    child-fits-requires
+    (λ c κs. search needs)
+    (λ c κs. search needs)
     returns-4
-    right-operand-requires-2
-    child-fits-requires-2
+    (λ c κs. search needs)
+    (λ c κs. search needs)
     returns-5
     returns-6)

@@ -6,9 +6,6 @@ use Rattle.formula.proofs.Checks.{place-root, place-none, place-once, p
 use Rattle.formula.proofs.check_place.Statement.{statement}
 use Rattle.formula.proofs.check_place.Tie as tie
 
-sub-if2 : tie.Need-sub-if2
-sub-if2 c = search needs
-
 returns : tie.Need-returns
 returns c = place-root _ _ (omega arith) (omega arith)
 
@@ -18,9 +15,6 @@ returns-2 c = place-none _ _ (omega arith) (c .if2 .left)
 returns-3 : tie.Need-returns-3
 returns-3 c = place-once _ _ (omega arith) (omega arith)
 
-kind-of-requires : tie.Need-kind-of-requires
-kind-of-requires c κs = search needs
-
 returns-4 : tie.Need-returns-4
 returns-4 c = place-leaf _ _ (omega arith) (omega arith)
 
@@ -29,4 +23,4 @@ returns-5 c = place-twice _ _ (omega arith) (omega arith) (omega arith)
 
 pub check-place-spec : {M : Type 1} → statement M
 check-place-spec =
-    tie.close (tie.spec sub-if2 returns returns-2 returns-3 kind-of-requires returns-4 returns-5)
+    tie.close (tie.spec (λ c. search needs) returns returns-2 returns-3 (λ c κs. search needs) returns-4 returns-5)

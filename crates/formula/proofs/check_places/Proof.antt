@@ -16,37 +16,19 @@ Inv-loop rule n counts k₀ k = Passing (placeCheck rule) n k
 abbrev μ-loop : tie.MeasureT-loop
 μ-loop rule n counts k₀ k = n - k
 
-count-places-requires : tie.Need-count-places-requires Inv-loop μ-loop
-count-places-requires c κs = search needs
-
 loop-holds : tie.Need-loop-holds Inv-loop μ-loop
 loop-holds c = pass-begins _ _
-
-array-read-check-place : tie.Need-array-read-check-place Inv-loop μ-loop
-array-read-check-place c = search needs
 
 check-place-requires : tie.Need-check-place-requires Inv-loop μ-loop
 check-place-requires c κs =
     let s = c .before .before .before .before in
     (omega arith, rw (← s .pre .0) (c .before .before .count-places .ensures _))
 
-enum-known-place : tie.Need-enum-known-place Inv-loop μ-loop
-enum-known-place c = search needs
-
 returns : tie.Need-returns Inv-loop μ-loop
 returns c =
     let at = c .before .before .before .before .before in
     pass-fails _ _ (at .loop .k) (omega arith) (at .loop .inv)
     (sym (ap answer (c .before .place .given .1)) ∙ c .before .before .before .check-place .ensures)
-
-enum-told : tie.Need-enum-told Inv-loop μ-loop
-enum-told c = search needs
-
-add-k : tie.Need-add-k Inv-loop μ-loop
-add-k c = search needs
-
-loop-less : tie.Need-loop-less Inv-loop μ-loop
-loop-less c = search needs
 
 loop-again : tie.Need-loop-again Inv-loop μ-loop
 loop-again c =
@@ -63,14 +45,14 @@ check-places-spec =
     (tie.spec
     Inv-loop
     μ-loop
-    count-places-requires
+    (λ c κs. search needs)
     loop-holds
-    array-read-check-place
+    (λ c. search needs)
     check-place-requires
-    enum-known-place
+    (λ c. search needs)
     returns
-    enum-told
-    add-k
-    loop-less
+    (λ c. search needs)
+    (λ c. search needs)
+    (λ c. search needs)
     loop-again
     returns-2)

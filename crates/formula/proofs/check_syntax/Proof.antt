@@ -17,19 +17,10 @@ returns-2 c = empty _ _ (omega arith) (omega arith)
 returns-3 : tie.Need-returns-3
 returns-3 c = broken _ _ (omega arith) (c .if3 .taken)
 
-check-nodes-requires : tie.Need-check-nodes-requires
-check-nodes-requires c κs = search needs
-
-enum-known-nodes : tie.Need-enum-known-nodes
-enum-known-nodes c = search needs
-
 returns-4 : tie.Need-returns-4
 returns-4 c =
     node-refused _ _ (omega arith) (omega arith) (omega arith)
     (sym (ap answer (c .before .nodes .given .1)) ∙ c .before .before .before .check-nodes .ensures)
-
-enum-told : tie.Need-enum-told
-enum-told c = search needs
 
 check-places-requires : tie.Need-check-places-requires
 check-places-requires c κs = (refl, omega arith, children-below _ _ _ (sym (c .before .before .check-nodes .ensures) ∙ ap answer (c .enum-told .given .1)))
@@ -48,9 +39,9 @@ check-syntax-spec =
     returns
     returns-2
     returns-3
-    check-nodes-requires
-    enum-known-nodes
+    (λ c κs. search needs)
+    (λ c. search needs)
     returns-4
-    enum-told
+    (λ c. search needs)
     check-places-requires
     returns-5)

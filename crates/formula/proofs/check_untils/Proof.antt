@@ -6,9 +6,6 @@ use Rattle.formula.proofs.Untils.{too-many, few-enough}
 use Rattle.formula.proofs.check_untils.Statement.{statement}
 use Rattle.formula.proofs.check_untils.Tie as tie
 
-count-untils-requires : tie.Need-count-untils-requires
-count-untils-requires c κs = search needs
-
 returns : tie.Need-returns
 returns c = too-many _ (c .before .count-untils .result) (cc) (omega arith)
 
@@ -16,4 +13,4 @@ returns-2 : tie.Need-returns-2
 returns-2 c = few-enough _ (c .before .count-untils .result) (cc) (omega arith)
 
 pub check-untils-spec : {M : Type 1} → statement M
-check-untils-spec = tie.close (tie.spec count-untils-requires returns returns-2)
+check-untils-spec = tie.close (tie.spec (λ c κs. search needs) returns returns-2)

@@ -22,9 +22,6 @@ no-child Proposition byte k tag = refl
 no-child Child byte k (inl tag) = absurd (omega arith)
 no-child Child byte k (inr tag) = absurd (omega arith)
 
-enum-told : tie.Need-enum-told
-enum-told c = search needs
-
 slice-read-counts : tie.Need-slice-read-counts
 slice-read-counts c = child-below _ (c .before .enum-told .given .1) _ _ (c .before .before .before .pre .0)
 
@@ -33,9 +30,6 @@ add-counts c = omega (arith, c .before .before .before .pre .1 (c .before .befor
 
 slice-write-counts : tie.Need-slice-write-counts
 slice-write-counts c = child-below _ (c .before .enum-told .given .1) _ _ (c .before .before .before .pre .0)
-
-same-length : tie.Need-same-length
-same-length c = search needs
 
 returns : tie.Need-returns
 returns c =
@@ -49,10 +43,10 @@ pub count-child-spec : {M : Type 1} → statement M
 count-child-spec =
     tie.close
     (tie.spec
-    enum-told
+    (λ c. search needs)
     slice-read-counts
     add-counts
     slice-write-counts
-    same-length
+    (λ c. search needs)
     returns
     returns-2)

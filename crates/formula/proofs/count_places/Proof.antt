@@ -16,18 +16,6 @@ abbrev μ-loop : tie.MeasureT-loop
 loop-holds : tie.Need-loop-holds Inv-loop μ-loop
 loop-holds c = count-begins _ _
 
-kind-of-requires : tie.Need-kind-of-requires Inv-loop μ-loop
-kind-of-requires c κs = search needs
-
-slice-aggregate-count-child : tie.Need-slice-aggregate-count-child Inv-loop μ-loop
-slice-aggregate-count-child c = search needs
-
-left-operand-requires : tie.Need-left-operand-requires Inv-loop μ-loop
-left-operand-requires c κs = search needs
-
-left-of-requires : tie.Need-left-of-requires Inv-loop μ-loop
-left-of-requires c κs = search needs
-
 count-child-requires : tie.Need-count-child-requires Inv-loop μ-loop
 count-child-requires c κs =
     let turn = c .before .before .before .before in
@@ -35,15 +23,6 @@ count-child-requires c κs =
     let s = at .before .before in
     left-fits _ _ (s .pre .1) (s .pre .2) _ (turn .loop-test .taken) (at .loop .inv)
     (c .before .before .before .kind-of .ensures) (c .before .left-operand .ensures) (c .left-of .ensures)
-
-slice-aggregate-count-child-2 : tie.Need-slice-aggregate-count-child-2 Inv-loop μ-loop
-slice-aggregate-count-child-2 c = search needs
-
-right-operand-requires : tie.Need-right-operand-requires Inv-loop μ-loop
-right-operand-requires c κs = search needs
-
-right-of-requires : tie.Need-right-of-requires Inv-loop μ-loop
-right-of-requires c κs = search needs
 
 count-child-requires-2 : tie.Need-count-child-requires-2 Inv-loop μ-loop
 count-child-requires-2 c κs =
@@ -57,12 +36,6 @@ count-child-requires-2 c κs =
     right-fits _ _ (s .pre .1) (s .pre .2) _ (turn .loop-test .taken) (at .loop .inv) kind left l
     (first .count-child .last .0) (first .count-child .kept .0) (first .count-child .ensures)
     (c .before .right-operand .ensures) (c .right-of .ensures)
-
-add-i : tie.Need-add-i Inv-loop μ-loop
-add-i c = search needs
-
-loop-less : tie.Need-loop-less Inv-loop μ-loop
-loop-less c = search needs
 
 loop-again : tie.Need-loop-again Inv-loop μ-loop
 loop-again c =
@@ -90,16 +63,16 @@ count-places-spec =
     Inv-loop
     μ-loop
     loop-holds
-    kind-of-requires
-    slice-aggregate-count-child
-    left-operand-requires
-    left-of-requires
+    (λ c κs. search needs)
+    (λ c. search needs)
+    (λ c κs. search needs)
+    (λ c κs. search needs)
     count-child-requires
-    slice-aggregate-count-child-2
-    right-operand-requires
-    right-of-requires
+    (λ c. search needs)
+    (λ c κs. search needs)
+    (λ c κs. search needs)
     count-child-requires-2
-    add-i
-    loop-less
+    (λ c. search needs)
+    (λ c. search needs)
     loop-again
     returns)

@@ -48,37 +48,16 @@ module _ (items : List ℕ) (n x : ℕ) {k : ℕ} (le : n ≤ length items) (is 
         inside = omega arith;
       }
 
-find-requires : tie.Need-find-requires
-find-requires c κs = search needs
-
-same-length : tie.Need-same-length
-same-length c = search needs
-
 returns : tie.Need-returns
 returns c =
     let s = c .before .before .before .before in
     seen (s .args .items .now) (s .args .n) (s .args .x) (s .pre .0) (c .before .find .ensures) (c .if1 .taken)
-
-same-length-2 : tie.Need-same-length-2
-same-length-2 c = search needs
 
 returns-2 : tie.Need-returns-2
 returns-2 c =
     let s = c .before .before .before .before .before in
     crowded (s .args .items .now) (s .args .n) (s .args .x) (s .pre .0)
     (c .before .before .find .ensures) (c .before .if1 .left) (c .if2 .taken)
-
-mul-items : tie.Need-mul-items
-mul-items c = search needs
-
-slice-write-items : tie.Need-slice-write-items
-slice-write-items c = search needs
-
-add-t9 : tie.Need-add-t9
-add-t9 c = search needs
-
-same-length-3 : tie.Need-same-length-3
-same-length-3 c = search needs
 
 returns-3 : tie.Need-returns-3
 returns-3 c =
@@ -90,13 +69,13 @@ pub meet-state-spec : {M : Type 1} → statement M
 meet-state-spec =
     tie.close
     (tie.spec
-    find-requires
-    same-length
+    (λ c κs. search needs)
+    (λ c. search needs)
     returns
-    same-length-2
+    (λ c. search needs)
     returns-2
-    mul-items
-    slice-write-items
-    add-t9
-    same-length-3
+    (λ c. search needs)
+    (λ c. search needs)
+    (λ c. search needs)
+    (λ c. search needs)
     returns-3)

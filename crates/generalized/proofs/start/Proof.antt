@@ -15,39 +15,15 @@ Inv-loop rule states₀ sets count i₀ states i = Covering (cover (formula rule
 abbrev μ-loop : tie.MeasureT-loop
 μ-loop rule states₀ sets count i₀ states i = sets .count - i
 
-root-cover-requires : tie.Need-root-cover-requires Inv-loop μ-loop
-root-cover-requires c κs = search needs
-
 loop-holds : tie.Need-loop-holds Inv-loop μ-loop
 loop-holds c =
     let s = c .before .before .before in
     cover-begins (c .root-cover .ensures) (initial-few _ (s .pre .0)) (s .pre .1)
 
-mul-states : tie.Need-mul-states Inv-loop μ-loop
-mul-states c = search needs
-
-element-copy-out-states : tie.Need-element-copy-out-states Inv-loop μ-loop
-element-copy-out-states c = search needs
-
-mul-states-2 : tie.Need-mul-states-2 Inv-loop μ-loop
-mul-states-2 c = search needs
-
-slice-write-states : tie.Need-slice-write-states Inv-loop μ-loop
-slice-write-states c = search needs
-
-add-i : tie.Need-add-i Inv-loop μ-loop
-add-i c = search needs
-
-loop-less : tie.Need-loop-less Inv-loop μ-loop
-loop-less c = search needs
-
 loop-again : tie.Need-loop-again Inv-loop μ-loop
 loop-again c =
     let at = c .before .before in
     cover-steps (at .loop .inv) (search needs) (c .before .loop-test .taken)
-
-same-length : tie.Need-same-length Inv-loop μ-loop
-same-length c = search needs
 
 returns : tie.Need-returns Inv-loop μ-loop
 returns c = (cover-ends (c .before .loop .inv) (c .loop-test .left), c .before .loop .inv .few)
@@ -58,14 +34,14 @@ start-spec =
     (tie.spec
     Inv-loop
     μ-loop
-    root-cover-requires
+    (λ c κs. search needs)
     loop-holds
-    mul-states
-    element-copy-out-states
-    mul-states-2
-    slice-write-states
-    add-i
-    loop-less
+    (λ c. search needs)
+    (λ c. search needs)
+    (λ c. search needs)
+    (λ c. search needs)
+    (λ c. search needs)
+    (λ c. search needs)
     loop-again
-    same-length
+    (λ c. search needs)
     returns)

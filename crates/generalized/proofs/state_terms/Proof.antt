@@ -18,22 +18,10 @@ Inv-loop rule table state product₀ next₀ n count₀ k₀ product next count 
 abbrev μ-loop : tie.MeasureT-loop
 μ-loop rule table state product₀ next₀ n count₀ k₀ product next count k = n - k
 
-slice-write-product : tie.Need-slice-write-product Inv-loop μ-loop
-slice-write-product c = search needs
-
 loop-holds : tie.Need-loop-holds Inv-loop μ-loop
 loop-holds c =
     let s = c .before .before .before .before in
     multiply-begins (s .args .product .now) _ (omega (arith, most-nodes _ (s .pre .0))) (s .pre .2)
-
-has-requires : tie.Need-has-requires Inv-loop μ-loop
-has-requires c κs = search needs
-
-add-k : tie.Need-add-k Inv-loop μ-loop
-add-k c = search needs
-
-loop-less : tie.Need-loop-less Inv-loop μ-loop
-loop-less c = search needs
 
 loop-again : tie.Need-loop-again Inv-loop μ-loop
 loop-again c =
@@ -47,12 +35,6 @@ times-requires c κs =
     let factor = factor-of _ _ (at .loop .k) (s .pre .0) (s .pre .1) (omega arith) in
     (omega arith, at .loop .inv .fits, factor, at .loop .inv .room)
 
-same-length : tie.Need-same-length Inv-loop μ-loop
-same-length c = search needs
-
-same-length-2 : tie.Need-same-length-2 Inv-loop μ-loop
-same-length-2 c = search needs
-
 returns : tie.Need-returns Inv-loop μ-loop
 returns c =
     let call = c .before .before .before .before .before in
@@ -62,12 +44,6 @@ returns c =
     multiply-over (at .loop .inv) (omega arith) (λ j lt. in-range _ (s .pre .0) j (omega arith))
     (s .pre .1 .rows _ (omega arith)) (sym (test .before .has .ensures) ∙ not-false _ (test .if1 .left)) _ _
     (call .times .kept .1 .1 .0) (call .times .ensures) refl (c .if2 .taken)
-
-add-k-2 : tie.Need-add-k-2 Inv-loop μ-loop
-add-k-2 c = search needs
-
-loop-less-2 : tie.Need-loop-less-2 Inv-loop μ-loop
-loop-less-2 c = search needs
 
 loop-again-2 : tie.Need-loop-again-2 Inv-loop μ-loop
 loop-again-2 c =
@@ -79,12 +55,6 @@ loop-again-2 c =
     (s .pre .1 .rows _ (omega arith)) (sym (test .before .has .ensures) ∙ not-false _ (test .if1 .left)) _ _
     (call .times .kept .1 .1 .0) (call .times .ensures) (call .times .kept .1 .1 .1 .1 .0) (c .if2 .left)
 
-same-length-3 : tie.Need-same-length-3 Inv-loop μ-loop
-same-length-3 c = search needs
-
-same-length-4 : tie.Need-same-length-4 Inv-loop μ-loop
-same-length-4 c = search needs
-
 returns-2 : tie.Need-returns-2 Inv-loop μ-loop
 returns-2 c = multiply-ends (c .before .loop .inv) refl (c .loop-test .left)
 
@@ -94,19 +64,19 @@ state-terms-spec =
     (tie.spec
     Inv-loop
     μ-loop
-    slice-write-product
+    (λ c. search needs)
     loop-holds
-    has-requires
-    add-k
-    loop-less
+    (λ c κs. search needs)
+    (λ c. search needs)
+    (λ c. search needs)
     loop-again
     times-requires
-    same-length
-    same-length-2
+    (λ c. search needs)
+    (λ c. search needs)
     returns
-    add-k-2
-    loop-less-2
+    (λ c. search needs)
+    (λ c. search needs)
     loop-again-2
-    same-length-3
-    same-length-4
+    (λ c. search needs)
+    (λ c. search needs)
     returns-2)

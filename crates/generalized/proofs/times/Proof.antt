@@ -62,42 +62,6 @@ module _ {table : List ℕ} {k n : ℕ} (factor : Factor table k) (is : n ≡ ge
           let taken = length-take-le more next (omega arith) in
           rw (← row) (front (take more next) product (omega arith) taken (items-are h (omega arith)) e)
 
-mul-row : tie.Need-mul-row
-mul-row c = search needs
-
-mul-n : tie.Need-mul-n
-mul-n c = search needs
-
-shared-slice-read-n : tie.Need-shared-slice-read-n
-shared-slice-read-n c = search needs
-
-add-from : tie.Need-add-from
-add-from c = search needs
-
-slice-read-if2 : tie.Need-slice-read-if2
-slice-read-if2 c = search needs
-
-add-copy-words : tie.Need-add-copy-words
-add-copy-words c = search needs
-
-mul-copy-words : tie.Need-mul-copy-words
-mul-copy-words c = search needs
-
-sub-copy-words : tie.Need-sub-copy-words
-sub-copy-words c = search needs
-
-part-copy-words-start : tie.Need-part-copy-words-start
-part-copy-words-start c = search needs
-
-part-copy-words-end : tie.Need-part-copy-words-end
-part-copy-words-end c = search needs
-
-copy-words-requires : tie.Need-copy-words-requires
-copy-words-requires c κs = search needs
-
-same-length : tie.Need-same-length
-same-length c = search needs
-
 returns : tie.Need-returns
 returns c =
     let call = c .before .before in
@@ -106,45 +70,12 @@ returns c =
     alone (s .pre .2) refl (s .args .product .now) (s .pre .3 .room) (s .args .count) (test .before .before .if1 .taken)
     (eqb-true (getD (s .args .product .now) 0 0) 0 (test .if2 .taken)) (call .copy-words .ensures)
 
-add-product : tie.Need-add-product
-add-product c = search needs
-
-mul-product : tie.Need-mul-product
-mul-product c = search needs
-
-sub-product : tie.Need-sub-product
-sub-product c = search needs
-
-part-product-start : tie.Need-part-product-start
-part-product-start c = search needs
-
-part-product-end : tie.Need-part-product-end
-part-product-end c = search needs
-
-product-requires : tie.Need-product-requires
-product-requires c κs = search needs
-
-same-length-2 : tie.Need-same-length-2
-same-length-2 c = search needs
-
-same-length-3 : tie.Need-same-length-3
-same-length-3 c = search needs
-
 returns-2 : tie.Need-returns-2
 returns-2 c =
     let call = c .before .before .before in
     let s = call .before .before .before .before .before .before .before .before .before in
     over (s .pre .2) refl (s .args .product .now) (s .pre .3 .room) (s .args .count)
     (call .product2 .kept .0 ∙ s .pre .3 .beside) (call .product2 .ensures .updates _ (empty _)) (c .if3 .taken)
-
-copy-words-requires-2 : tie.Need-copy-words-requires-2
-copy-words-requires-2 c κs = search needs
-
-same-length-4 : tie.Need-same-length-4
-same-length-4 c = search needs
-
-same-length-5 : tie.Need-same-length-5
-same-length-5 c = search needs
 
 returns-3 : tie.Need-returns-3
 returns-3 c =
@@ -160,29 +91,29 @@ pub times-spec : {M : Type 1} → statement M
 times-spec =
     tie.close
     (tie.spec
-    mul-row
-    mul-n
-    shared-slice-read-n
-    add-from
-    slice-read-if2
-    add-copy-words
-    mul-copy-words
-    sub-copy-words
-    part-copy-words-start
-    part-copy-words-end
-    copy-words-requires
-    same-length
+    (λ c. search needs)
+    (λ c. search needs)
+    (λ c. search needs)
+    (λ c. search needs)
+    (λ c. search needs)
+    (λ c. search needs)
+    (λ c. search needs)
+    (λ c. search needs)
+    (λ c. search needs)
+    (λ c. search needs)
+    (λ c κs. search needs)
+    (λ c. search needs)
     returns
-    add-product
-    mul-product
-    sub-product
-    part-product-start
-    part-product-end
-    product-requires
-    same-length-2
-    same-length-3
+    (λ c. search needs)
+    (λ c. search needs)
+    (λ c. search needs)
+    (λ c. search needs)
+    (λ c. search needs)
+    (λ c κs. search needs)
+    (λ c. search needs)
+    (λ c. search needs)
     returns-2
-    copy-words-requires-2
-    same-length-4
-    same-length-5
+    (λ c κs. search needs)
+    (λ c. search needs)
+    (λ c. search needs)
     returns-3)

@@ -37,12 +37,6 @@ loop-holds c =
       record { products = record { room = refl; beside = refl }; bytes-room = refl },
     )
 
-mul-state-terms : tie.Need-mul-state-terms Inv-loop μ-loop
-mul-state-terms c = search needs
-
-slice-read-state-terms : tie.Need-slice-read-state-terms Inv-loop μ-loop
-slice-read-state-terms c = search needs
-
 slice-aggregate-state-terms : tie.Need-slice-aggregate-state-terms Inv-loop μ-loop
 slice-aggregate-state-terms c = sym (c .before .before .before .before .before .loop .inv .1 .products .room)
 
@@ -52,20 +46,8 @@ slice-aggregate-state-terms-2 c = sym (c .before .before .before .before .before
 state-terms-requires : tie.Need-state-terms-requires Inv-loop μ-loop
 state-terms-requires c κs = (c .before .before .before .before .before .before .before .before .before .before .before .before .before .before .before .before .before .pre .0, c .before .before .before .before .before .before .before .before .before .before .before .before .before .before .before .before .before .pre .1, c .before .before .before .before .before .before .loop .inv .1 .products)
 
-same-length : tie.Need-same-length Inv-loop μ-loop
-same-length c = search needs
-
-same-length-2 : tie.Need-same-length-2 Inv-loop μ-loop
-same-length-2 c = search needs
-
-same-length-3 : tie.Need-same-length-3 Inv-loop μ-loop
-same-length-3 c = search needs
-
 returns : tie.Need-returns Inv-loop μ-loop
 returns c = walk-over (c .before .before .before .before .before .before .before .before .before .before .loop .inv .0) (c .before .before .before .before .before .before .before .if1 .taken) (c .before .before .before .state-terms .ensures) (c .if2 .taken)
-
-slice-aggregate-fulfil : tie.Need-slice-aggregate-fulfil Inv-loop μ-loop
-slice-aggregate-fulfil c = search needs
 
 slice-aggregate-fulfil-2 : tie.Need-slice-aggregate-fulfil-2 Inv-loop μ-loop
 slice-aggregate-fulfil-2 c = sym (c .before .before .before .before .before .before .before .before .before .before .before .before .loop .inv .1 .bytes-room)
@@ -73,17 +55,8 @@ slice-aggregate-fulfil-2 c = sym (c .before .before .before .before .before .bef
 fulfil-requires : tie.Need-fulfil-requires Inv-loop μ-loop
 fulfil-requires c κs = (omega (arith, c .before .before .if2 .left, c .before .before .before .before .before .state-terms .kept .1 .1 .1 .0, c .before .before .before .before .before .before .before .before .before .before .before .before .loop .inv .1 .products .room), omega (arith, c .before .before .if2 .left, c .before .before .before .before .before .before .before .before .before .before .before .before .loop .inv .1 .bytes-room), record { accepted = bytes-fine _ (c .before .before .before .before .before .before .before .before .before .before .before .before .before .before .before .before .before .before .before .before .before .before .before .pre .0); terms = c .before .before .before .before .before .before .before .before .before .before .before .before .before .before .before .before .before .before .before .before .before .before .before .pre .1; untils = c .before .before .before .before .before .before .before .before .before .before .before .before .before .before .before .before .before .untils-of .ensures })
 
-slice-aggregate-meet-all : tie.Need-slice-aggregate-meet-all Inv-loop μ-loop
-slice-aggregate-meet-all c = search needs
-
-slice-aggregate-meet-all-2 : tie.Need-slice-aggregate-meet-all-2 Inv-loop μ-loop
-slice-aggregate-meet-all-2 c = search needs
-
 meet-all-requires : tie.Need-meet-all-requires Inv-loop μ-loop
 meet-all-requires c κs = (search needs, search needs, c .before .before .before .before .before .before .before .before .before .before .before .before .before .before .before .before .before .before .loop .inv .0 .room)
-
-enum-known-step : tie.Need-enum-known-step Inv-loop μ-loop
-enum-known-step c = search needs
 
 put-end-requires : tie.Need-put-end-requires Inv-loop μ-loop
 put-end-requires c κs = omega (arith, c .before .before .before .before .before .before .before .before .before .before .before .before .before .before .before .before .before .before .before .before .before .before .before .before .before .before .before .loop .inv .0 .room .few, c .before .before .before .before .before .before .before .before .before .before .before .before .before .before .before .before .before .before .before .before .before .before .before .before .before .before .before .loop .inv .0 .ends-room, c .before .before .before .before .before .before .before .before .before .before .before .before .before .before .before .before .before .before .before .before .before .before .before .before .if1 .taken)
@@ -97,9 +70,6 @@ loop-less c = omega (arith, c .before .before .before .before .before .before .b
 loop-again : tie.Need-loop-again Inv-loop μ-loop
 loop-again c = (walk-steps (c .before .before .before .before .before .before .before .before .before .before .before .before .before .before .before .before .before .before .before .before .before .before .before .before .before .before .before .before .before .before .before .loop .inv .0) (c .before .before .before .before .before .before .before .before .before .before .before .before .before .before .before .before .before .before .before .before .before .before .before .before .before .before .before .before .if1 .taken) (c .before .before .before .before .before .before .before .before .before .before .before .before .before .before .before .before .before .before .before .before .before .before .before .before .state-terms .ensures) (c .before .before .before .before .before .before .before .before .before .before .before .before .before .before .before .before .before .before .before .before .before .before .before .before .before .before .before .before .before .before .before .before .before .before .before .before .before .before .before .before .before .before .pre .0) (c .before .before .before .before .before .before .before .before .before .before .before .before .before .before .before .before .before .before .before .before .before .if2 .left) _ (c .before .before .before .before .before .before .before .before .before .before .before .before .before .before .before .before .before .before .fulfil .ensures) (c .before .before .before .before .before .before .before .before .before .before .before .before .meet-all .result) (c .before .before .before .before .before .before .before .before .before .before .before .before .meet-all .last .1 .1 .1 .1 .0) (c .before .before .before .before .before .before .before .before .before .before .before .before .meet-all .last .1 .1 .1 .1 .1 .0) (c .before .before .before .before .before .before .before .before .before .before .before .before .meet-all .ensures) (c .before .before .before .before .before .before .step .given .1) (c .before .before .before .before .before .before .before .before .before .before .before .before .meet-all .kept .1 .1 .1 .1 .0) (c .before .before .before .before .before .before .before .before .before .before .before .before .meet-all .kept .1 .1 .1 .1 .1 .0) (c .before .before .before .put-end .ensures), record { products = record { room = c .before .before .before .before .before .before .before .before .before .before .before .before .before .before .before .before .before .before .before .before .before .before .before .before .state-terms .kept .1 .1 .1 .0 ∙ c .before .before .before .before .before .before .before .before .before .before .before .before .before .before .before .before .before .before .before .before .before .before .before .before .before .before .before .before .before .before .before .loop .inv .1 .products .room; beside = c .before .before .before .before .before .before .before .before .before .before .before .before .before .before .before .before .before .before .before .before .before .before .before .before .state-terms .kept .1 .1 .1 .1 .0 ∙ c .before .before .before .before .before .before .before .before .before .before .before .before .before .before .before .before .before .before .before .before .before .before .before .before .before .before .before .before .before .before .before .loop .inv .1 .products .beside }; bytes-room = c .before .before .before .before .before .before .before .before .before .before .before .before .before .before .before .before .before .before .fulfil .kept .1 .1 .1 .1 .1 .0 ∙ c .before .before .before .before .before .before .before .before .before .before .before .before .before .before .before .before .before .before .before .before .before .before .before .before .before .before .before .before .before .before .before .loop .inv .1 .bytes-room })
 
-enum-known-step-2 : tie.Need-enum-known-step-2 Inv-loop μ-loop
-enum-known-step-2 c = search needs
-
 same-length-4 : tie.Need-same-length-4 Inv-loop μ-loop
 same-length-4 c = c .before .before .before .before .before .before .before .meet-all .kept .1 .1 .1 .1 .0 ∙ c .before .before .before .before .before .before .before .before .before .before .before .before .before .before .before .before .before .before .before .before .before .before .before .before .before .before .loop .inv .0 .room .states-room ∙ sym (c .before .before .before .before .before .before .before .before .before .before .before .before .before .before .before .before .before .before .before .before .before .before .before .before .before .before .before .before .before .before .before .before .before .before .before .before .before .pre .2 .states-room)
 
@@ -111,15 +81,6 @@ same-length-6 c = c .before .before .before .before .before .before .before .bef
 
 returns-2 : tie.Need-returns-2 Inv-loop μ-loop
 returns-2 c = walk-refused (c .before .before .before .before .before .before .before .before .before .before .before .before .before .before .before .before .before .before .before .before .before .before .before .before .before .before .loop .inv .0) (c .before .before .before .before .before .before .before .before .before .before .before .before .before .before .before .before .before .before .before .before .before .before .before .if1 .taken) (c .before .before .before .before .before .before .before .before .before .before .before .before .before .before .before .before .before .before .before .state-terms .ensures) (c .before .before .before .before .before .before .before .before .before .before .before .before .before .before .before .before .before .before .before .before .before .before .before .before .before .before .before .before .before .before .before .before .before .before .before .before .before .pre .0) (c .before .before .before .before .before .before .before .before .before .before .before .before .before .before .before .before .if2 .left) _ (c .before .before .before .before .before .before .before .before .before .before .before .before .before .fulfil .ensures) (c .before .before .before .before .before .before .before .meet-all .result) (c .before .before .before .before .before .before .before .meet-all .last .1 .1 .1 .1 .0) (c .before .before .before .before .before .before .before .meet-all .last .1 .1 .1 .1 .1 .0) (c .before .before .before .before .before .before .before .meet-all .ensures) (c .before .step2 .given .1)
-
-same-length-7 : tie.Need-same-length-7 Inv-loop μ-loop
-same-length-7 c = search needs
-
-same-length-8 : tie.Need-same-length-8 Inv-loop μ-loop
-same-length-8 c = search needs
-
-same-length-9 : tie.Need-same-length-9 Inv-loop μ-loop
-same-length-9 c = search needs
 
 returns-3 : tie.Need-returns-3 Inv-loop μ-loop
 returns-3 c = walk-ends (c .before .before .before .loop .inv .0) (c .if1 .left)
@@ -133,32 +94,32 @@ walk-spec =
     untils-of-requires
     start-requires
     loop-holds
-    mul-state-terms
-    slice-read-state-terms
+    (λ c. search needs)
+    (λ c. search needs)
     slice-aggregate-state-terms
     slice-aggregate-state-terms-2
     state-terms-requires
-    same-length
-    same-length-2
-    same-length-3
+    (λ c. search needs)
+    (λ c. search needs)
+    (λ c. search needs)
     returns
-    slice-aggregate-fulfil
+    (λ c. search needs)
     slice-aggregate-fulfil-2
     fulfil-requires
-    slice-aggregate-meet-all
-    slice-aggregate-meet-all-2
+    (λ c. search needs)
+    (λ c. search needs)
     meet-all-requires
-    enum-known-step
+    (λ c. search needs)
     put-end-requires
     add-t46
     loop-less
     loop-again
-    enum-known-step-2
+    (λ c. search needs)
     same-length-4
     same-length-5
     same-length-6
     returns-2
-    same-length-7
-    same-length-8
-    same-length-9
+    (λ c. search needs)
+    (λ c. search needs)
+    (λ c. search needs)
     returns-3)

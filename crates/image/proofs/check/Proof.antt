@@ -13,15 +13,6 @@ use Rattle.image.proofs.Contents.{sized, contents-refused, bodies-refus
 use Rattle.image.proofs.check.Statement.{statement}
 use Rattle.image.proofs.check.Tie as tie
 
-check-contents-requires : tie.Need-check-contents-requires
-check-contents-requires c κs = search needs
-
-enum-known-contents : tie.Need-enum-known-contents
-enum-known-contents c = search needs
-
-enum-told : tie.Need-enum-told
-enum-told c = search needs
-
 returns : tie.Need-returns
 returns c =
     handed-on (ap readAnswer (c .enum-told .given .1)) (c .before .before .check-contents .ensures)
@@ -44,16 +35,10 @@ read c =
 check-bodies-requires : tie.Need-check-bodies-requires
 check-bodies-requires c κs = sized (read c)
 
-enum-known-bodies : tie.Need-enum-known-bodies
-enum-known-bodies c = search needs
-
 returns-2 : tie.Need-returns-2
 returns-2 c =
     bodies-refused _ _ (read (c .before .before .before .before))
     (sym (ap answer (c .before .bodies .given .1)) ∙ c .before .before .before .check-bodies .ensures)
-
-enum-told-2 : tie.Need-enum-told-2
-enum-told-2 c = search needs
 
 returns-3 : tie.Need-returns-3
 returns-3 c =
@@ -64,12 +49,12 @@ pub check-spec : {M : Type 1} → statement M
 check-spec =
     tie.close
     (tie.spec
-    check-contents-requires
-    enum-known-contents
-    enum-told
+    (λ c κs. search needs)
+    (λ c. search needs)
+    (λ c. search needs)
     returns
     check-bodies-requires
-    enum-known-bodies
+    (λ c. search needs)
     returns-2
-    enum-told-2
+    (λ c. search needs)
     returns-3)

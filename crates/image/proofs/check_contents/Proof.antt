@@ -37,23 +37,8 @@ small c = counts-small _ (sym (c .before .counts-fit .ensures) ∙ not-false _ (
 returns : tie.Need-returns
 returns c = image-short _ (omega arith)
 
-entries-have-requires : tie.Need-entries-have-requires
-entries-have-requires c κs = search needs
-
 returns-2 : tie.Need-returns-2
 returns-2 c = kinds-wrong _ (omega arith) (c .before .entries-have .ensures) (c .if2 .taken)
-
-number-at-requires : tie.Need-number-at-requires
-number-at-requires c κs = search needs
-
-number-at-requires-2 : tie.Need-number-at-requires-2
-number-at-requires-2 c κs = search needs
-
-number-at-requires-3 : tie.Need-number-at-requires-3
-number-at-requires-3 c κs = search needs
-
-counts-fit-requires : tie.Need-counts-fit-requires
-counts-fit-requires c κs = search needs
 
 returns-3 : tie.Need-returns-3
 returns-3 c = counts-wrong (opened (c .before .before)) (c .before .counts-fit .ensures) (c .if3 .taken)
@@ -69,9 +54,6 @@ mul-initial-at c = omega (arith, small c)
 
 add-initial-at : tie.Need-add-initial-at
 add-initial-at c = omega (arith, small c)
-
-entries-have-requires-2 : tie.Need-entries-have-requires-2
-entries-have-requires-2 c κs = search needs
 
 returns-4 : tie.Need-returns-4
 returns-4 c =
@@ -102,18 +84,18 @@ check-contents-spec =
     tie.close
     (tie.spec
     returns
-    entries-have-requires
+    (λ c κs. search needs)
     returns-2
-    number-at-requires
-    number-at-requires-2
-    number-at-requires-3
-    counts-fit-requires
+    (λ c κs. search needs)
+    (λ c κs. search needs)
+    (λ c κs. search needs)
+    (λ c κs. search needs)
     returns-3
     mul-transitions-at
     add-transitions-at
     mul-initial-at
     add-initial-at
-    entries-have-requires-2
+    (λ c κs. search needs)
     returns-4
     mul-if5
     add-if5

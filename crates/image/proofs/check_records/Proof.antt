@@ -7,35 +7,14 @@ use Rattle.image.proofs.Tests.{states-refused, transitions-refused, ini
 use Rattle.image.proofs.check_records.Statement.{statement}
 use Rattle.image.proofs.check_records.Tie as tie
 
-check-states-requires : tie.Need-check-states-requires
-check-states-requires c κs = search needs
-
-enum-told : tie.Need-enum-told
-enum-told c = search needs
-
-enum-told-2 : tie.Need-enum-told-2
-enum-told-2 c = search needs
-
 returns : tie.Need-returns
 returns c = states-refused _ _ _ _ (ap answer (c .enum-told2 .given .1)) (c .before .before .check-states .ensures)
-
-check-transitions-requires : tie.Need-check-transitions-requires
-check-transitions-requires c κs = search needs
-
-enum-told-3 : tie.Need-enum-told-3
-enum-told-3 c = search needs
-
-enum-told-4 : tie.Need-enum-told-4
-enum-told-4 c = search needs
 
 returns-2 : tie.Need-returns-2
 returns-2 c =
     let first = c .before .before .before in
     transitions-refused _ _ _ _ (first .before .before .check-states .ensures) (ap answer (first .enum-told .given .1))
     (ap answer (c .enum-told4 .given .1)) (c .before .before .check-transitions .ensures)
-
-check-initial-requires : tie.Need-check-initial-requires
-check-initial-requires c κs = search needs
 
 returns-3 : tie.Need-returns-3
 returns-3 c =
@@ -49,13 +28,13 @@ pub check-records-spec : {M : Type 1} → statement M
 check-records-spec =
     tie.close
     (tie.spec
-    check-states-requires
-    enum-told
-    enum-told-2
+    (λ c κs. search needs)
+    (λ c. search needs)
+    (λ c. search needs)
     returns
-    check-transitions-requires
-    enum-told-3
-    enum-told-4
+    (λ c κs. search needs)
+    (λ c. search needs)
+    (λ c. search needs)
     returns-2
-    check-initial-requires
+    (λ c κs. search needs)
     returns-3)

@@ -6,29 +6,11 @@ use Rattle.image.proofs.Tests.{count-over, accepting-wrong, last-wrong,
 use Rattle.image.proofs.check_state.Statement.{statement}
 use Rattle.image.proofs.check_state.Tie as tie
 
-mul-at : tie.Need-mul-at
-mul-at c = search needs
-
-number-at-requires : tie.Need-number-at-requires
-number-at-requires c κs = search needs
-
 returns : tie.Need-returns
 returns c = count-over _ _ (omega arith)
 
-add-if2 : tie.Need-add-if2
-add-if2 c = search needs
-
-shared-slice-read-if2 : tie.Need-shared-slice-read-if2
-shared-slice-read-if2 c = search needs
-
 returns-2 : tie.Need-returns-2
 returns-2 c = accepting-wrong _ _ (omega arith) (omega arith)
-
-add-if3 : tie.Need-add-if3
-add-if3 c = search needs
-
-shared-slice-read-if3 : tie.Need-shared-slice-read-if3
-shared-slice-read-if3 c = search needs
 
 returns-3 : tie.Need-returns-3
 returns-3 c = last-wrong _ _ (omega arith) (omega arith) (c .if3 .taken)
@@ -40,13 +22,13 @@ pub check-state-spec : {M : Type 1} → statement M
 check-state-spec =
     tie.close
     (tie.spec
-    mul-at
-    number-at-requires
+    (λ c. search needs)
+    (λ c κs. search needs)
     returns
-    add-if2
-    shared-slice-read-if2
+    (λ c. search needs)
+    (λ c. search needs)
     returns-2
-    add-if3
-    shared-slice-read-if3
+    (λ c. search needs)
+    (λ c. search needs)
     returns-3
     returns-4)

@@ -18,15 +18,6 @@ abbrev μ-loop : tie.MeasureT-loop
 loop-holds : tie.Need-loop-holds Inv-loop μ-loop
 loop-holds c = sum-begins _ _
 
-check-state-requires : tie.Need-check-state-requires Inv-loop μ-loop
-check-state-requires c κs = search needs
-
-enum-known-state : tie.Need-enum-known-state Inv-loop μ-loop
-enum-known-state c = search needs
-
-enum-told : tie.Need-enum-told Inv-loop μ-loop
-enum-told c = search needs
-
 returns : tie.Need-returns Inv-loop μ-loop
 returns c =
     let at = c .before .before .before .before in
@@ -37,12 +28,6 @@ add-total c =
     let at = c .before .before .before .before .before in
     let next = sum-steps _ _ (at .loop .i) _ (omega arith) (at .loop .inv) _ (sym (ap (stateAnswer (at .loop .i)) (c .before .state .given .1)) ∙ c .before .before .before .check-state .ensures) in
     omega (arith, next .most, next .passing .within)
-
-add-i : tie.Need-add-i Inv-loop μ-loop
-add-i c = search needs
-
-loop-less : tie.Need-loop-less Inv-loop μ-loop
-loop-less c = search needs
 
 loop-again : tie.Need-loop-again Inv-loop μ-loop
 loop-again c =
@@ -66,13 +51,13 @@ check-states-spec =
     Inv-loop
     μ-loop
     loop-holds
-    check-state-requires
-    enum-known-state
-    enum-told
+    (λ c κs. search needs)
+    (λ c. search needs)
+    (λ c. search needs)
     returns
     add-total
-    add-i
-    loop-less
+    (λ c. search needs)
+    (λ c. search needs)
     loop-again
     returns-2
     returns-3)

@@ -17,20 +17,8 @@ long : (c : tie.Else1)
     → Long (start c .args .states .now) (start c .args .transitions .now) (start c .args .initial .now)
 long c = tables-long _ _ _ (c .before .tables-fit .ensures) (c .if1 .left)
 
-tables-fit-requires : tie.Need-tables-fit-requires
-tables-fit-requires c κs = search needs
-
 returns : tie.Need-returns
 returns c = read-short _ _ _ _ (c .before .tables-fit .ensures) (c .if1 .taken)
-
-check-requires : tie.Need-check-requires
-check-requires c κs = search needs
-
-enum-known-found : tie.Need-enum-known-found
-enum-known-found c = search needs
-
-enum-told : tie.Need-enum-told
-enum-told c = search needs
 
 returns-2 : tie.Need-returns-2
 returns-2 c =
@@ -42,15 +30,6 @@ load-bodies-requires c κs =
     let found = c .before .before .before .before in
     let told = sym (ap readAnswer (found .found .given .1)) ∙ found .before .before .check .ensures in
     (checks-sized _ _ told, long (found .before .before .before))
-
-same-length : tie.Need-same-length
-same-length c = search needs
-
-same-length-2 : tie.Need-same-length-2
-same-length-2 c = search needs
-
-same-length-3 : tie.Need-same-length-3
-same-length-3 c = search needs
 
 returns-3 : tie.Need-returns-3
 returns-3 c =
@@ -66,14 +45,14 @@ pub read-spec : {M : Type 1} → statement M
 read-spec =
     tie.close
     (tie.spec
-    tables-fit-requires
+    (λ c κs. search needs)
     returns
-    check-requires
-    enum-known-found
-    enum-told
+    (λ c κs. search needs)
+    (λ c. search needs)
+    (λ c. search needs)
     returns-2
     load-bodies-requires
-    same-length
-    same-length-2
-    same-length-3
+    (λ c. search needs)
+    (λ c. search needs)
+    (λ c. search needs)
     returns-3)

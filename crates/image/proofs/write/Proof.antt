@@ -34,17 +34,11 @@ ready c = record {
   room = omega arith;
 }
 
-tables-fit-requires : tie.Need-tables-fit-requires
-tables-fit-requires c κs = search needs
-
 returns : tie.Need-returns
 returns c = write-short _ _ _ _ _ (c .before .tables-fit .ensures) (c .if1 .taken)
 
 returns-2 : tie.Need-returns-2
 returns-2 c = buffer-short _ _ _ _ _ (long (c .before)) (omega arith)
-
-counts-fit-requires : tie.Need-counts-fit-requires
-counts-fit-requires c κs = search needs
 
 returns-3 : tie.Need-returns-3
 returns-3 c =
@@ -54,24 +48,15 @@ returns-3 c =
 check-records-requires : tie.Need-check-records-requires
 check-records-requires c κs = has-records (ready c)
 
-enum-known-records : tie.Need-enum-known-records
-enum-known-records c = search needs
-
 returns-4 : tie.Need-returns-4
 returns-4 c =
     records-refused (ready (c .before .before .before .before)) (c .before .before .before .check-records .ensures)
     (ap answer (c .before .records .given .1))
 
-enum-told : tie.Need-enum-told
-enum-told c = search needs
-
 write-image-requires : tie.Need-write-image-requires
 write-image-requires c κs =
     let given = ready (c .before .before .before .before) in
     (given .small, given .long, given .room)
-
-same-length : tie.Need-same-length
-same-length c = search needs
 
 returns-5 : tie.Need-returns-5
 returns-5 c =
@@ -87,15 +72,15 @@ pub write-spec : {M : Type 1} → statement M
 write-spec =
     tie.close
     (tie.spec
-    tables-fit-requires
+    (λ c κs. search needs)
     returns
     returns-2
-    counts-fit-requires
+    (λ c κs. search needs)
     returns-3
     check-records-requires
-    enum-known-records
+    (λ c. search needs)
     returns-4
-    enum-told
+    (λ c. search needs)
     write-image-requires
-    same-length
+    (λ c. search needs)
     returns-5)

@@ -7,45 +7,6 @@ use Rattle.image.proofs.Stores.{contents-stored, image-stored}
 use Rattle.image.proofs.write_image.Statement.{statement}
 use Rattle.image.proofs.write_image.Tie as tie
 
-mul-states-size : tie.Need-mul-states-size
-mul-states-size c = search needs
-
-mul-transitions-size : tie.Need-mul-transitions-size
-mul-transitions-size c = search needs
-
-mul-initial-size : tie.Need-mul-initial-size
-mul-initial-size c = search needs
-
-add-transitions-at : tie.Need-add-transitions-at
-add-transitions-at c = search needs
-
-add-initial-at : tie.Need-add-initial-at
-add-initial-at c = search needs
-
-add-end : tie.Need-add-end
-add-end c = search needs
-
-write-entry-requires : tie.Need-write-entry-requires
-write-entry-requires c κs = search needs
-
-write-entry-requires-2 : tie.Need-write-entry-requires-2
-write-entry-requires-2 c κs = search needs
-
-write-entry-requires-3 : tie.Need-write-entry-requires-3
-write-entry-requires-3 c κs = search needs
-
-put-requires : tie.Need-put-requires
-put-requires c κs = search needs
-
-put-requires-2 : tie.Need-put-requires-2
-put-requires-2 c κs = search needs
-
-put-requires-3 : tie.Need-put-requires-3
-put-requires-3 c κs = search needs
-
-same-length : tie.Need-same-length
-same-length c = search needs
-
 returns : tie.Need-returns
 returns c =
     let third = c .before .before .before .before .before .before in
@@ -66,17 +27,17 @@ pub write-image-spec : {M : Type 1} → statement M
 write-image-spec =
     tie.close
     (tie.spec
-    mul-states-size
-    mul-transitions-size
-    mul-initial-size
-    add-transitions-at
-    add-initial-at
-    add-end
-    write-entry-requires
-    write-entry-requires-2
-    write-entry-requires-3
-    put-requires
-    put-requires-2
-    put-requires-3
-    same-length
+    (λ c. search needs)
+    (λ c. search needs)
+    (λ c. search needs)
+    (λ c. search needs)
+    (λ c. search needs)
+    (λ c. search needs)
+    (λ c κs. search needs)
+    (λ c κs. search needs)
+    (λ c κs. search needs)
+    (λ c κs. search needs)
+    (λ c κs. search needs)
+    (λ c κs. search needs)
+    (λ c. search needs)
     returns)

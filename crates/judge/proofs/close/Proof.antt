@@ -21,12 +21,6 @@ join-through-requires c κs =
     let at = c .before .before in
     (omega arith, omega arith, at .loop .inv .covered)
 
-add-m : tie.Need-add-m Inv-loop μ-loop
-add-m c = search needs
-
-loop-less : tie.Need-loop-less Inv-loop μ-loop
-loop-less c = search needs
-
 loop-again : tie.Need-loop-again Inv-loop μ-loop
 loop-again c =
     let at = c .before .before .before in
@@ -38,4 +32,4 @@ returns c = closing-ends _ (c .before .loop .m) (omega arith) (c .before .loop .
 pub close-spec : {M : Type 1} → statement M
 close-spec =
     tie.close
-    (tie.spec Inv-loop μ-loop loop-holds join-through-requires add-m loop-less loop-again returns)
+    (tie.spec Inv-loop μ-loop loop-holds join-through-requires (λ c. search needs) (λ c. search needs) loop-again returns)

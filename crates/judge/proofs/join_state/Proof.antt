@@ -7,24 +7,9 @@ use Rattle.judge.proofs.Closure.{join-none, join-run, join-met}
 use Rattle.judge.proofs.join_state.Statement.{statement}
 use Rattle.judge.proofs.join_state.Tie as tie
 
-has-bit-requires : tie.Need-has-bit-requires
-has-bit-requires c κs = search needs
-
 returns : tie.Need-returns
 returns c =
     join-none _ _ (c .before .before .before .pre .2) (decided-not (c .before .has-bit .ensures) (c .if1 .taken))
-
-add-has-bit : tie.Need-add-has-bit
-add-has-bit c = search needs
-
-has-bit-requires-2 : tie.Need-has-bit-requires-2
-has-bit-requires-2 c κs = search needs
-
-mul-or-words : tie.Need-mul-or-words
-mul-or-words c = search needs
-
-or-words-requires : tie.Need-or-words-requires
-or-words-requires c κs = search needs
 
 returns-2 : tie.Need-returns-2
 returns-2 c =
@@ -32,15 +17,6 @@ returns-2 c =
     join-run _ _ (decided-so (test .before .has-bit .ensures) (test .if1 .left))
     (ored-row _ _ _ _ 0 (c .before .or-words .ensures))
     (decided-not (c .before .before .before .before .has-bit2 .ensures) (c .if2 .taken))
-
-mul-or-words-2 : tie.Need-mul-or-words-2
-mul-or-words-2 c = search needs
-
-add-or-words : tie.Need-add-or-words
-add-or-words c = search needs
-
-or-words-requires-2 : tie.Need-or-words-requires-2
-or-words-requires-2 c κs = search needs
 
 returns-3 : tie.Need-returns-3
 returns-3 c =
@@ -56,14 +32,14 @@ pub join-state-spec : {M : Type 1} → statement M
 join-state-spec =
     tie.close
     (tie.spec
-    has-bit-requires
+    (λ c κs. search needs)
     returns
-    add-has-bit
-    has-bit-requires-2
-    mul-or-words
-    or-words-requires
+    (λ c. search needs)
+    (λ c κs. search needs)
+    (λ c. search needs)
+    (λ c κs. search needs)
     returns-2
-    mul-or-words-2
-    add-or-words
-    or-words-requires-2
+    (λ c. search needs)
+    (λ c. search needs)
+    (λ c κs. search needs)
     returns-3)

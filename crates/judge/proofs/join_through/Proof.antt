@@ -16,9 +16,6 @@ Inv-loop rows₀ n m via q₀ rows q = Gathering rows₀ (λ p r k. (r ≡ p) ×
 abbrev μ-loop : tie.MeasureT-loop
 μ-loop rows₀ n m via q₀ rows q = n - q
 
-runs-to-requires : tie.Need-runs-to-requires Inv-loop μ-loop
-runs-to-requires c κs = search needs
-
 loop-holds : tie.Need-loop-holds Inv-loop μ-loop
 loop-holds c = gather-begins _ _ _
 
@@ -27,12 +24,6 @@ join-state-requires c κs =
     let at = c .before .before .before in
     let covered = at .before .before .before .pre .2 in
     (omega arith, omega arith, turn-covered _ _ (at .loop .q) (at .loop .inv) (omega arith) covered)
-
-add-q : tie.Need-add-q Inv-loop μ-loop
-add-q c = search needs
-
-loop-less : tie.Need-loop-less Inv-loop μ-loop
-loop-less c = search needs
 
 loop-again : tie.Need-loop-again Inv-loop μ-loop
 loop-again c =
@@ -51,10 +42,10 @@ join-through-spec =
     (tie.spec
     Inv-loop
     μ-loop
-    runs-to-requires
+    (λ c κs. search needs)
     loop-holds
     join-state-requires
-    add-q
-    loop-less
+    (λ c. search needs)
+    (λ c. search needs)
     loop-again
     returns)

@@ -12,17 +12,8 @@ use Rattle.judge.proofs.judge.Tie as tie
 returns : tie.Need-returns
 returns c = work-short _ _ _ _ (omega arith)
 
-check-requires : tie.Need-check-requires
-check-requires c κs = search needs
-
-enum-known-loaded : tie.Need-enum-known-loaded
-enum-known-loaded c = search needs
-
 returns-2 : tie.Need-returns-2
 returns-2 c = image-refused _ _ _ _ (omega arith) (sym (ap readAnswer (c .before .loaded .given .1)) ∙ c .before .before .before .check .ensures)
-
-enum-told : tie.Need-enum-told
-enum-told c = search needs
 
 number-at-requires : tie.Need-number-at-requires
 number-at-requires c κs =
@@ -32,9 +23,6 @@ number-at-requires c κs =
 judge-lasso-requires : tie.Need-judge-lasso-requires
 judge-lasso-requires c κs = (known _ (sym (ap readAnswer (c .before .before .enum-told .given .1)) ∙ c .before .before .before .before .check .ensures), c .before .number-at .ensures)
 
-same-length : tie.Need-same-length
-same-length c = search needs
-
 returns-3 : tie.Need-returns-3
 returns-3 c = image-judged _ _ _ _ (omega arith) (sym (ap readAnswer (c .before .before .before .before .before .enum-told .given .1)) ∙ c .before .before .before .before .before .before .before .check .ensures) (c .before .before .judge-lasso .ensures)
 
@@ -43,11 +31,11 @@ judge-spec =
     tie.close
     (tie.spec
     returns
-    check-requires
-    enum-known-loaded
+    (λ c κs. search needs)
+    (λ c. search needs)
     returns-2
-    enum-told
+    (λ c. search needs)
     number-at-requires
     judge-lasso-requires
-    same-length
+    (λ c. search needs)
     returns-3)

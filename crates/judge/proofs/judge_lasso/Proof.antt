@@ -9,17 +9,8 @@ use Rattle.judge.proofs.Judgements.{lasso-refused, lasso-kept, lasso-br
 use Rattle.judge.proofs.judge_lasso.Statement.{statement}
 use Rattle.judge.proofs.judge_lasso.Tie as tie
 
-check-lasso-requires : tie.Need-check-lasso-requires
-check-lasso-requires c κs = search needs
-
-enum-known-checked : tie.Need-enum-known-checked
-enum-known-checked c = search needs
-
 returns : tie.Need-returns
 returns c = lasso-refused _ _ _ _ (sym (ap answer (c .before .checked .given .1)) ∙ c .before .before .before .check-lasso .ensures)
-
-enum-told : tie.Need-enum-told
-enum-told c = search needs
 
 search-requires : tie.Need-search-requires
 search-requires c κs =
@@ -28,21 +19,12 @@ search-requires c κs =
     let some = lasso-some _ _ (sym (ap answer (c .enum-told .given .1)) ∙ checked .check-lasso .ensures) in
     (start .pre .0, start .pre .1, some)
 
-zero-requires : tie.Need-zero-requires
-zero-requires c κs = search needs
-
-same-length : tie.Need-same-length
-same-length c = search needs
-
 returns-2 : tie.Need-returns-2
 returns-2 c =
     let found = c .before .before .before .before .before in
     let checked = found .before .before .before in
     let start = checked .before .before .before .before .before in
     lasso-kept _ _ _ _ (readable-in-range _ (start .pre .0)) (sym (ap answer (found .before .enum-told .given .1)) ∙ checked .check-lasso .ensures) (found .search .ensures) (c .before .before .before .zero .ensures) (c .if1 .taken)
-
-same-length-2 : tie.Need-same-length-2
-same-length-2 c = search needs
 
 returns-3 : tie.Need-returns-3
 returns-3 c =
@@ -55,13 +37,13 @@ pub judge-lasso-spec : {M : Type 1} → statement M
 judge-lasso-spec =
     tie.close
     (tie.spec
-    check-lasso-requires
-    enum-known-checked
+    (λ c κs. search needs)
+    (λ c. search needs)
     returns
-    enum-told
+    (λ c. search needs)
     search-requires
-    zero-requires
-    same-length
+    (λ c κs. search needs)
+    (λ c. search needs)
     returns-2
-    same-length-2
+    (λ c. search needs)
     returns-3)

@@ -16,33 +16,6 @@ abbrev μ-loop : tie.MeasureT-loop
 loop-holds : tie.Need-loop-holds Inv-loop μ-loop
 loop-holds c = or-begins _ _ _ _ _
 
-add-into : tie.Need-add-into Inv-loop μ-loop
-add-into c = search needs
-
-mul-into : tie.Need-mul-into Inv-loop μ-loop
-mul-into c = search needs
-
-shared-slice-read-into : tie.Need-shared-slice-read-into Inv-loop μ-loop
-shared-slice-read-into c = search needs
-
-add-into-2 : tie.Need-add-into-2 Inv-loop μ-loop
-add-into-2 c = search needs
-
-mul-into-2 : tie.Need-mul-into-2 Inv-loop μ-loop
-mul-into-2 c = search needs
-
-slice-read-into : tie.Need-slice-read-into Inv-loop μ-loop
-slice-read-into c = search needs
-
-slice-write-into : tie.Need-slice-write-into Inv-loop μ-loop
-slice-write-into c = search needs
-
-add-i : tie.Need-add-i Inv-loop μ-loop
-add-i c = search needs
-
-loop-less : tie.Need-loop-less Inv-loop μ-loop
-loop-less c = search needs
-
 loop-again : tie.Need-loop-again Inv-loop μ-loop
 loop-again c =
     let at = c .before .before .before in
@@ -61,15 +34,15 @@ or-words-spec =
     Inv-loop
     μ-loop
     loop-holds
-    add-into
-    mul-into
-    shared-slice-read-into
-    add-into-2
-    mul-into-2
-    slice-read-into
-    slice-write-into
-    add-i
-    loop-less
+    (λ c. search needs)
+    (λ c. search needs)
+    (λ c. search needs)
+    (λ c. search needs)
+    (λ c. search needs)
+    (λ c. search needs)
+    (λ c. search needs)
+    (λ c. search needs)
+    (λ c. search needs)
     loop-again
     same-length
     returns)

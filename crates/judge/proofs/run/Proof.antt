@@ -27,18 +27,12 @@ target c p x q h = rw (c .pre .1) (step-target (c .args .image .now) (c .pre .0)
 loop-holds : tie.Need-loop-holds Inv-loop μ-loop
 loop-holds c = run-begins _ _ _ _
 
-shared-slice-read-step : tie.Need-shared-slice-read-step Inv-loop μ-loop
-shared-slice-read-step c = search needs
-
 step-requires : tie.Need-step-requires Inv-loop μ-loop
 step-requires c κs =
     let at = c .before .before .before .before in
     let s = at .before .before .before in
     let confined = run-confined _ _ _ _ (target s) (s .pre .2) (at .loop .i) (at .loop .inv) in
     (s .pre .0, s .pre .1, confined, at .loop .inv .confined)
-
-some-started-requires : tie.Need-some-started-requires Inv-loop μ-loop
-some-started-requires c κs = search needs
 
 returns : tie.Need-returns Inv-loop μ-loop
 returns c =
@@ -48,12 +42,6 @@ returns c =
     run-stops _ _ _ _ (target s) (s .pre .2) (at .loop .i + 1)
     (run-steps _ _ _ _ _ _ (at .loop .i) (omega arith) (at .loop .inv) (step .ensures .0) (step .ensures .1))
     (decided-not (c .before .some-started .ensures) (c .if1 .taken))
-
-add-i : tie.Need-add-i Inv-loop μ-loop
-add-i c = search needs
-
-loop-less : tie.Need-loop-less Inv-loop μ-loop
-loop-less c = search needs
 
 loop-again : tie.Need-loop-again Inv-loop μ-loop
 loop-again c =
@@ -71,11 +59,11 @@ run-spec =
     Inv-loop
     μ-loop
     loop-holds
-    shared-slice-read-step
+    (λ c. search needs)
     step-requires
-    some-started-requires
+    (λ c κs. search needs)
     returns
-    add-i
-    loop-less
+    (λ c. search needs)
+    (λ c. search needs)
     loop-again
     returns-2)

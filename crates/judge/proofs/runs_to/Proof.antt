@@ -7,34 +7,10 @@ use Rattle.judge.proofs.Closure.{through-once, through-round}
 use Rattle.judge.proofs.runs_to.Statement.{statement}
 use Rattle.judge.proofs.runs_to.Tie as tie
 
-slice-aggregate-or-words : tie.Need-slice-aggregate-or-words
-slice-aggregate-or-words c = search needs
-
-mul-or-words : tie.Need-mul-or-words
-mul-or-words c = search needs
-
-or-words-requires : tie.Need-or-words-requires
-or-words-requires c κs = search needs
-
-add-has-bit : tie.Need-add-has-bit
-add-has-bit c = search needs
-
-has-bit-requires : tie.Need-has-bit-requires
-has-bit-requires c κs = search needs
-
 returns : tie.Need-returns
 returns c =
     through-once _ (ored-row _ _ _ 0 _ (c .before .before .before .or-words .ensures))
     (decided-not (c .before .has-bit .ensures) (c .if1 .taken))
-
-slice-aggregate-or-words-2 : tie.Need-slice-aggregate-or-words-2
-slice-aggregate-or-words-2 c = search needs
-
-mul-or-words-2 : tie.Need-mul-or-words-2
-mul-or-words-2 c = search needs
-
-or-words-requires-2 : tie.Need-or-words-requires-2
-or-words-requires-2 c κs = search needs
 
 returns-2 : tie.Need-returns-2
 returns-2 c =
@@ -47,13 +23,13 @@ pub runs-to-spec : {M : Type 1} → statement M
 runs-to-spec =
     tie.close
     (tie.spec
-    slice-aggregate-or-words
-    mul-or-words
-    or-words-requires
-    add-has-bit
-    has-bit-requires
+    (λ c. search needs)
+    (λ c. search needs)
+    (λ c κs. search needs)
+    (λ c. search needs)
+    (λ c κs. search needs)
     returns
-    slice-aggregate-or-words-2
-    mul-or-words-2
-    or-words-requires-2
+    (λ c. search needs)
+    (λ c. search needs)
+    (λ c κs. search needs)
     returns-2)

@@ -18,9 +18,6 @@ counted c = record {
   initial = λ q h. rw (c .pre .1) (initial-state (c .args .image .now) (c .pre .0) q h);
 }
 
-some-accepting-requires : tie.Need-some-accepting-requires
-some-accepting-requires c κs = search needs
-
 returns : tie.Need-returns
 returns c =
     let s = c .before .before .before .before .before in
@@ -28,9 +25,6 @@ returns c =
     let none = decided-not (c .before .some-accepting .ensures) (c .if1 .taken) in
     never-accepts (imageAutomaton image) _ _
     (λ q h. none (q, rw (s .pre .1) (accepts-inside image q h), accepts-byte image q h))
-
-begin-runs-requires : tie.Need-begin-runs-requires
-begin-runs-requires c κs = search needs
 
 run-requires : tie.Need-run-requires
 run-requires c κs =
@@ -43,9 +37,6 @@ returns-2 c =
     lost-in-stem (counted (c .before .before .before .before .before .before .before .before .before .before)) _ _
     (c .before .before .before .begin-runs .ensures)
     (c .before .run .ensures .lost (not-true _ (c .if2 .taken)))
-
-begin-passes-requires : tie.Need-begin-passes-requires
-begin-passes-requires c κs = search needs
 
 run-requires-2 : tie.Need-run-requires-2
 run-requires-2 c κs =
@@ -76,9 +67,6 @@ close-requires c κs =
     let few = counted s .few in
     (omega arith, rows-covered (counted s) (s .args .stem .now) (s .args .cycle .now) starts stemmed begun passed)
 
-some-started-requires : tie.Need-some-started-requires
-some-started-requires c κs = search needs
-
 returns-4 : tie.Need-returns-4
 returns-4 c =
     let ran = c .before .before .before .before .before .before .before .before .before .before in
@@ -96,14 +84,14 @@ pub search-spec : {M : Type 1} → statement M
 search-spec =
     tie.close
     (tie.spec
-    some-accepting-requires
+    (λ c κs. search needs)
     returns
-    begin-runs-requires
+    (λ c κs. search needs)
     run-requires
     returns-2
-    begin-passes-requires
+    (λ c κs. search needs)
     run-requires-2
     returns-3
     close-requires
-    some-started-requires
+    (λ c κs. search needs)
     returns-4)

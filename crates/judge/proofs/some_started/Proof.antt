@@ -17,18 +17,9 @@ abbrev μ-loop : tie.MeasureT-loop
 loop-holds : tie.Need-loop-holds Inv-loop μ-loop
 loop-holds c = miss-begins _ _
 
-started-requires : tie.Need-started-requires Inv-loop μ-loop
-started-requires c κs = search needs
-
 returns : tie.Need-returns Inv-loop μ-loop
 returns c =
     miss-finds _ _ (c .before .before .before .loop .q) (omega arith) (c .before .started .ensures) (c .if1 .taken)
-
-add-q : tie.Need-add-q Inv-loop μ-loop
-add-q c = search needs
-
-loop-less : tie.Need-loop-less Inv-loop μ-loop
-loop-less c = search needs
 
 loop-again : tie.Need-loop-again Inv-loop μ-loop
 loop-again c =
@@ -45,9 +36,9 @@ some-started-spec =
     Inv-loop
     μ-loop
     loop-holds
-    started-requires
+    (λ c κs. search needs)
     returns
-    add-q
-    loop-less
+    (λ c. search needs)
+    (λ c. search needs)
     loop-again
     returns-2)

@@ -24,9 +24,6 @@ module _ (rows : List ℕ) (q : ℕ) where
   twice true e h d = both-so h d
   twice false e h d = true-false e
 
-has-bit-requires : tie.Need-has-bit-requires
-has-bit-requires c κs = search needs
-
 returns : tie.Need-returns
 returns c = not-started _ _ (c .before .before .args .back) (decided-not (c .before .has-bit .ensures) (c .if1 .taken))
 
@@ -34,12 +31,6 @@ returns-2 : tie.Need-returns-2
 returns-2 c =
     once _ _ (c .before .before .before .args .back) (c .if2 .taken)
     (decided-so (c .before .before .has-bit .ensures) (c .before .if1 .left))
-
-add-has-bit : tie.Need-add-has-bit
-add-has-bit c = search needs
-
-has-bit-requires-2 : tie.Need-has-bit-requires-2
-has-bit-requires-2 c κs = search needs
 
 returns-3 : tie.Need-returns-3
 returns-3 c =
@@ -50,4 +41,4 @@ returns-3 c =
 pub started-spec : {M : Type 1} → statement M
 started-spec =
     tie.close
-    (tie.spec has-bit-requires returns returns-2 add-has-bit has-bit-requires-2 returns-3)
+    (tie.spec (λ c κs. search needs) returns returns-2 (λ c. search needs) (λ c κs. search needs) returns-3)

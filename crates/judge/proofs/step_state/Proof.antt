@@ -22,30 +22,15 @@ module _ (c : tie.After-number-at) where
   next : s .args .at + 4 * c .number-at .result ≡ recordsAt (s .args .image .now) (s .args .q + 1)
   next = records-next (s .args .image .now) (s .args .q) (s .pre .2) (c .number-at .ensures)
 
-mul-number-at : tie.Need-mul-number-at
-mul-number-at c = search needs
-
-add-number-at : tie.Need-add-number-at
-add-number-at c = search needs
-
-number-at-requires : tie.Need-number-at-requires
-number-at-requires c κs = search needs
-
 mul-end : tie.Need-mul-end
 mul-end c = omega (arith, records-inside c)
 
 add-end : tie.Need-add-end
 add-end c = omega (arith, records-inside c)
 
-row-empty-requires : tie.Need-row-empty-requires
-row-empty-requires c κs = search needs
-
 returns : tie.Need-returns
 returns c =
     (next (c .before .before), adds-none (λ t k h. c .before .row-empty .ensures (c .if1 .taken) k (h .1)))
-
-take-transitions-requires : tie.Need-take-transitions-requires
-take-transitions-requires c κs = search needs
 
 returns-2 : tie.Need-returns-2
 returns-2 c = (next (c .before .before .before .before), c .take-transitions .ensures)
@@ -54,12 +39,12 @@ pub step-state-spec : {M : Type 1} → statement M
 step-state-spec =
     tie.close
     (tie.spec
-    mul-number-at
-    add-number-at
-    number-at-requires
+    (λ c. search needs)
+    (λ c. search needs)
+    (λ c κs. search needs)
     mul-end
     add-end
-    row-empty-requires
+    (λ c κs. search needs)
     returns
-    take-transitions-requires
+    (λ c κs. search needs)
     returns-2)

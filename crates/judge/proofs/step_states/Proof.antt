@@ -15,12 +15,6 @@ Inv-loop image n letter rows next₀ at₀ q₀ next at q =
 abbrev μ-loop : tie.MeasureT-loop
 μ-loop image n letter rows next₀ at₀ q₀ next at q = n - q
 
-mul-at : tie.Need-mul-at Inv-loop μ-loop
-mul-at c = search needs
-
-add-at : tie.Need-add-at Inv-loop μ-loop
-add-at c = search needs
-
 loop-holds : tie.Need-loop-holds Inv-loop μ-loop
 loop-holds c =
     record { offset = records-begin (c .before .args .image .now) _ (c .before .pre .1); turns = gather-begins _ _ _ }
@@ -29,12 +23,6 @@ step-state-requires : tie.Need-step-state-requires Inv-loop μ-loop
 step-state-requires c κs =
     let at = c .before .before in
     (at .before .before .pre .0, omega arith, at .loop .inv .offset)
-
-add-q : tie.Need-add-q Inv-loop μ-loop
-add-q c = search needs
-
-loop-less : tie.Need-loop-less Inv-loop μ-loop
-loop-less c = search needs
 
 loop-again : tie.Need-loop-again Inv-loop μ-loop
 loop-again c =
@@ -53,11 +41,11 @@ step-states-spec =
     (tie.spec
     Inv-loop
     μ-loop
-    mul-at
-    add-at
+    (λ c. search needs)
+    (λ c. search needs)
     loop-holds
     step-state-requires
-    add-q
-    loop-less
+    (λ c. search needs)
+    (λ c. search needs)
     loop-again
     returns)

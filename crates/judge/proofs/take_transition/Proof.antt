@@ -7,35 +7,8 @@ use Rattle.judge.proofs.Turns.{reads-not, reads-so}
 use Rattle.judge.proofs.take_transition.Statement.{statement}
 use Rattle.judge.proofs.take_transition.Tie as tie
 
-shared-slice-read-reads-letter : tie.Need-shared-slice-read-reads-letter
-shared-slice-read-reads-letter c = search needs
-
-add-reads-letter : tie.Need-add-reads-letter
-add-reads-letter c = search needs
-
-shared-slice-read-reads-letter-2 : tie.Need-shared-slice-read-reads-letter-2
-shared-slice-read-reads-letter-2 c = search needs
-
-reads-letter-requires : tie.Need-reads-letter-requires
-reads-letter-requires c κs = search needs
-
 returns : tie.Need-returns
 returns c = adds-not (reads-not (c .before .reads-letter .ensures) (c .if1 .taken))
-
-add-number-at : tie.Need-add-number-at
-add-number-at c = search needs
-
-number-at-requires : tie.Need-number-at-requires
-number-at-requires c κs = search needs
-
-mul-or-words : tie.Need-mul-or-words
-mul-or-words c = search needs
-
-mul-or-words-2 : tie.Need-mul-or-words-2
-mul-or-words-2 c = search needs
-
-or-words-requires : tie.Need-or-words-requires
-or-words-requires c κs = search needs
 
 returns-2 : tie.Need-returns-2
 returns-2 c =
@@ -47,14 +20,14 @@ pub take-transition-spec : {M : Type 1} → statement M
 take-transition-spec =
     tie.close
     (tie.spec
-    shared-slice-read-reads-letter
-    add-reads-letter
-    shared-slice-read-reads-letter-2
-    reads-letter-requires
+    (λ c. search needs)
+    (λ c. search needs)
+    (λ c. search needs)
+    (λ c κs. search needs)
     returns
-    add-number-at
-    number-at-requires
-    mul-or-words
-    mul-or-words-2
-    or-words-requires
+    (λ c. search needs)
+    (λ c κs. search needs)
+    (λ c. search needs)
+    (λ c. search needs)
+    (λ c κs. search needs)
     returns-2)

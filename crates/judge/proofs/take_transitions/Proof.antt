@@ -37,12 +37,6 @@ take-transition-requires c κs =
     let fits = target-fits _ (s .args .q) (s .pre .2) (s .pre .3) (s .pre .1) (s .pre .0) (at .loop .i) (omega arith) in
     (omega arith, omega arith, fits)
 
-add-i : tie.Need-add-i Inv-loop μ-loop
-add-i c = search needs
-
-loop-less : tie.Need-loop-less Inv-loop μ-loop
-loop-less c = search needs
-
 loop-again : tie.Need-loop-again Inv-loop μ-loop
 loop-again c =
     let at = c .before .before .before in
@@ -64,7 +58,7 @@ take-transitions-spec =
     mul-take-transition
     add-take-transition
     take-transition-requires
-    add-i
-    loop-less
+    (λ c. search needs)
+    (λ c. search needs)
     loop-again
     returns)

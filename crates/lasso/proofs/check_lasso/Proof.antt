@@ -9,9 +9,6 @@ use Rattle.lasso.proofs.check_lasso.Tie as tie
 returns : tie.Need-returns
 returns c = cycle-empty _ _ (omega arith)
 
-letters-fit-requires : tie.Need-letters-fit-requires
-letters-fit-requires c κs = search needs
-
 returns-2 : tie.Need-returns-2
 returns-2 c = letters-over _ _ (c .before .before .if1 .left) (c .before .letters-fit .ensures) (c .if2 .taken)
 
@@ -19,4 +16,4 @@ returns-3 : tie.Need-returns-3
 returns-3 c = lasso-fine _ _ (c .before .before .if1 .left) (c .before .letters-fit .ensures) (c .if2 .left)
 
 pub check-lasso-spec : {M : Type 1} → statement M
-check-lasso-spec = tie.close (tie.spec returns letters-fit-requires returns-2 returns-3)
+check-lasso-spec = tie.close (tie.spec returns (λ c κs. search needs) returns-2 returns-3)

@@ -8,18 +8,6 @@ use borrow.Author.Needs.{needs}
 use Rattle.office.proofs.pack_judged.Statement.{statement}
 use Rattle.office.proofs.pack_judged.Tie as tie
 
-enum-told : tie.Need-enum-told
-enum-told c = search needs
-
-enum-told-2 : tie.Need-enum-told-2
-enum-told-2 c = search needs
-
-enum-known-judged : tie.Need-enum-known-judged
-enum-known-judged c = search needs
-
-pack-refusal-requires : tie.Need-pack-refusal-requires
-pack-refusal-requires c κs = search needs
-
 returns : tie.Need-returns
 unfolding packVerdict
 returns c = sym (ap (λ (j : Judged). packVerdict (judgeAnswer j)) (c .enum-told .given .1))
@@ -38,10 +26,10 @@ pub pack-judged-spec : {M : Type 1} → statement M
 pack-judged-spec =
     tie.close
     (tie.spec
-    enum-told
-    enum-told-2
-    enum-known-judged
-    pack-refusal-requires
+    (λ c. search needs)
+    (λ c. search needs)
+    (λ c. search needs)
+    (λ c κs. search needs)
     returns
     returns-2
     returns-3)

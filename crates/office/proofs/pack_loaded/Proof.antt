@@ -7,18 +7,6 @@ use borrow.Author.Needs.{needs}
 use Rattle.office.proofs.pack_loaded.Statement.{statement}
 use Rattle.office.proofs.pack_loaded.Tie as tie
 
-enum-known-loaded : tie.Need-enum-known-loaded
-enum-known-loaded c = search needs
-
-pack-three-requires : tie.Need-pack-three-requires
-pack-three-requires c κs = search needs
-
-enum-known-loaded-2 : tie.Need-enum-known-loaded-2
-enum-known-loaded-2 c = search needs
-
-pack-refusal-requires : tie.Need-pack-refusal-requires
-pack-refusal-requires c κs = search needs
-
 returns : tie.Need-returns
 unfolding packCounts
 returns c = c .pack-three .ensures ∙ sym (ap packCounts (ap readAnswer (c .before .before .loaded .given .1)))
@@ -31,9 +19,9 @@ pub pack-loaded-spec : {M : Type 1} → statement M
 pack-loaded-spec =
     tie.close
     (tie.spec
-    enum-known-loaded
-    pack-three-requires
-    enum-known-loaded-2
-    pack-refusal-requires
+    (λ c. search needs)
+    (λ c κs. search needs)
+    (λ c. search needs)
+    (λ c κs. search needs)
     returns
     returns-2)

@@ -7,18 +7,6 @@ use borrow.Author.Needs.{needs}
 use Rattle.office.proofs.pack_translated.Statement.{statement}
 use Rattle.office.proofs.pack_translated.Tie as tie
 
-enum-known-made : tie.Need-enum-known-made
-enum-known-made c = search needs
-
-pack-three-requires : tie.Need-pack-three-requires
-pack-three-requires c κs = search needs
-
-enum-known-made-2 : tie.Need-enum-known-made-2
-enum-known-made-2 c = search needs
-
-pack-refusal-requires : tie.Need-pack-refusal-requires
-pack-refusal-requires c κs = search needs
-
 returns : tie.Need-returns
 unfolding packCounts
 returns c = c .pack-three .ensures ∙ sym (ap packCounts (ap translateAnswer (c .before .before .made .given .1)))
@@ -31,9 +19,9 @@ pub pack-translated-spec : {M : Type 1} → statement M
 pack-translated-spec =
     tie.close
     (tie.spec
-    enum-known-made
-    pack-three-requires
-    enum-known-made-2
-    pack-refusal-requires
+    (λ c. search needs)
+    (λ c κs. search needs)
+    (λ c. search needs)
+    (λ c κs. search needs)
     returns
     returns-2)

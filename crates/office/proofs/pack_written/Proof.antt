@@ -7,18 +7,6 @@ use borrow.Author.Needs.{needs}
 use Rattle.office.proofs.pack_written.Statement.{statement}
 use Rattle.office.proofs.pack_written.Tie as tie
 
-enum-known-written : tie.Need-enum-known-written
-enum-known-written c = search needs
-
-pack-size-requires : tie.Need-pack-size-requires
-pack-size-requires c κs = search needs
-
-enum-known-written-2 : tie.Need-enum-known-written-2
-enum-known-written-2 c = search needs
-
-pack-refusal-requires : tie.Need-pack-refusal-requires
-pack-refusal-requires c κs = search needs
-
 returns : tie.Need-returns
 unfolding packLength
 returns c = c .pack-size .ensures ∙ sym (ap packLength (ap writeAnswer (c .before .before .written .given .1)))
@@ -31,9 +19,9 @@ pub pack-written-spec : {M : Type 1} → statement M
 pack-written-spec =
     tie.close
     (tie.spec
-    enum-known-written
-    pack-size-requires
-    enum-known-written-2
-    pack-refusal-requires
+    (λ c. search needs)
+    (λ c κs. search needs)
+    (λ c. search needs)
+    (λ c κs. search needs)
     returns
     returns-2)

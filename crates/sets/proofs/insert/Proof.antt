@@ -22,15 +22,6 @@ returns c = over-in _ _ _ (omega arith)
 loop-holds : tie.Need-loop-holds Inv-loop μ-loop
 loop-holds c = record { same = refl; within = omega arith; fits = omega arith; place = from-zero ltb _ _ }
 
-mul-y : tie.Need-mul-y Inv-loop μ-loop
-mul-y c = search needs
-
-slice-read-y : tie.Need-slice-read-y Inv-loop μ-loop
-slice-read-y c = search needs
-
-insert-at-requires : tie.Need-insert-at-requires Inv-loop μ-loop
-insert-at-requires c κs = search needs
-
 same-length : tie.Need-same-length Inv-loop μ-loop
 same-length c = omega (arith, ap length (c .before .before .before .before .before .before .before .loop .inv .same))
 
@@ -49,12 +40,6 @@ returns-3 c =
     let inv = at .loop .inv in
     rw (← inv .same) (lift-in _ _ _ _ _ _ (inv .fits) (same-in _ _ _ (at .loop .i) (omega arith) (inv .fits) (inv .place) (c .if3 .taken)) (self _ _ (inv .fits)))
 
-add-i : tie.Need-add-i Inv-loop μ-loop
-add-i c = search needs
-
-loop-less : tie.Need-loop-less Inv-loop μ-loop
-loop-less c = search needs
-
 loop-again : tie.Need-loop-again Inv-loop μ-loop
 loop-again c =
     let at = c .before .before .before .before in
@@ -65,9 +50,6 @@ loop-again c =
       fits = inv .fits;
       place = more-in _ _ _ (at .loop .i) (omega arith) (inv .fits) (inv .place) (omega arith);
     }
-
-insert-at-requires-2 : tie.Need-insert-at-requires-2 Inv-loop μ-loop
-insert-at-requires-2 c κs = search needs
 
 same-length-3 : tie.Need-same-length-3 Inv-loop μ-loop
 same-length-3 c = omega (arith, ap length (c .before .before .before .before .before .loop .inv .same))
@@ -86,16 +68,16 @@ insert-spec =
     μ-loop
     returns
     loop-holds
-    mul-y
-    slice-read-y
-    insert-at-requires
+    (λ c. search needs)
+    (λ c. search needs)
+    (λ c κs. search needs)
     same-length
     returns-2
     same-length-2
     returns-3
-    add-i
-    loop-less
+    (λ c. search needs)
+    (λ c. search needs)
     loop-again
-    insert-at-requires-2
+    (λ c κs. search needs)
     same-length-3
     returns-4)

@@ -16,32 +16,11 @@ Inv-loop items₀ n i t hold₀ j₀ items hold j = Shifting items₀ n i t item
 abbrev μ-loop : tie.MeasureT-loop
 μ-loop items₀ n i t hold₀ j₀ items hold j = n - j
 
-add-result : tie.Need-add-result Inv-loop μ-loop
-add-result c = search needs
-
 returns : tie.Need-returns Inv-loop μ-loop
 returns c = full (c .before .args .items .now) (c .before .args .n) _ _ _ (omega arith) (omega arith)
 
 loop-holds : tie.Need-loop-holds Inv-loop μ-loop
 loop-holds c = record { low = omega arith; high = omega arith; room = omega arith; size = refl; whole = refl }
-
-mul-y : tie.Need-mul-y Inv-loop μ-loop
-mul-y c = search needs
-
-slice-read-y : tie.Need-slice-read-y Inv-loop μ-loop
-slice-read-y c = search needs
-
-mul-items : tie.Need-mul-items Inv-loop μ-loop
-mul-items c = search needs
-
-slice-write-items : tie.Need-slice-write-items Inv-loop μ-loop
-slice-write-items c = search needs
-
-add-j : tie.Need-add-j Inv-loop μ-loop
-add-j c = search needs
-
-loop-less : tie.Need-loop-less Inv-loop μ-loop
-loop-less c = search needs
 
 loop-again : tie.Need-loop-again Inv-loop μ-loop
 loop-again c =
@@ -53,15 +32,6 @@ loop-again c =
       size = simp length-set (inv .size);
       whole = rw add-one (put-step _ _ _ _ (omega arith) ∙ inv .whole);
     }
-
-mul-items-2 : tie.Need-mul-items-2 Inv-loop μ-loop
-mul-items-2 c = search needs
-
-slice-write-items-2 : tie.Need-slice-write-items-2 Inv-loop μ-loop
-slice-write-items-2 c = search needs
-
-add-result-2 : tie.Need-add-result-2 Inv-loop μ-loop
-add-result-2 c = search needs
 
 same-length : tie.Need-same-length Inv-loop μ-loop
 same-length c = simp length-set (c .before .loop .inv .size)
@@ -77,18 +47,18 @@ insert-at-spec =
     (tie.spec
     Inv-loop
     μ-loop
-    add-result
+    (λ c. search needs)
     returns
     loop-holds
-    mul-y
-    slice-read-y
-    mul-items
-    slice-write-items
-    add-j
-    loop-less
+    (λ c. search needs)
+    (λ c. search needs)
+    (λ c. search needs)
+    (λ c. search needs)
+    (λ c. search needs)
+    (λ c. search needs)
     loop-again
-    mul-items-2
-    slice-write-items-2
-    add-result-2
+    (λ c. search needs)
+    (λ c. search needs)
+    (λ c. search needs)
     same-length
     returns-2)

@@ -5,15 +5,6 @@ use Rattle.sets.proofs.Folds.{join-kept, join-dropped}
 use Rattle.sets.proofs.insert_join.Statement.{statement}
 use Rattle.sets.proofs.insert_join.Tie as tie
 
-is-consistent-requires : tie.Need-is-consistent-requires
-is-consistent-requires c κs = search needs
-
-insert-requires : tie.Need-insert-requires
-insert-requires c κs = search needs
-
-same-length : tie.Need-same-length
-same-length c = search needs
-
 returns : tie.Need-returns
 returns c =
     join-kept _ _ (c .before .before .before .before .before .is-consistent .ensures)
@@ -23,4 +14,4 @@ returns-2 : tie.Need-returns-2
 returns-2 c = join-dropped _ _ _ _ (c .before .is-consistent .ensures) (c .if1 .left)
 
 pub insert-join-spec : {M : Type 1} → statement M
-insert-join-spec = tie.close (tie.spec is-consistent-requires insert-requires same-length returns returns-2)
+insert-join-spec = tie.close (tie.spec (λ c κs. search needs) (λ c κs. search needs) (λ c. search needs) returns returns-2)

@@ -17,21 +17,6 @@ loop-holds c =
     let s = c .before .before in
     fold-begins (fold-joins _) (s .args .ys .now) (s .args .ny) (s .pre) _ _
 
-sub-j : tie.Need-sub-j Inv-loop μ-loop
-sub-j c = search needs
-
-mul-insert-join : tie.Need-mul-insert-join Inv-loop μ-loop
-mul-insert-join c = search needs
-
-shared-slice-read-insert-join : tie.Need-shared-slice-read-insert-join Inv-loop μ-loop
-shared-slice-read-insert-join c = search needs
-
-insert-join-requires : tie.Need-insert-join-requires Inv-loop μ-loop
-insert-join-requires c κs = search needs
-
-loop-less : tie.Need-loop-less Inv-loop μ-loop
-loop-less c = search needs
-
 loop-again : tie.Need-loop-again Inv-loop μ-loop
 loop-again c =
     let at = c .before .before .before .before .before .before in
@@ -55,11 +40,11 @@ insert-joins-spec =
     Inv-loop
     μ-loop
     loop-holds
-    sub-j
-    mul-insert-join
-    shared-slice-read-insert-join
-    insert-join-requires
-    loop-less
+    (λ c. search needs)
+    (λ c. search needs)
+    (λ c. search needs)
+    (λ c κs. search needs)
+    (λ c. search needs)
     loop-again
     same-length
     returns)

@@ -19,21 +19,6 @@ loop-holds c =
     let s = c .before .before .before in
     fold-begins (fold-product _) (s .args .xs .now) (s .args .nx) (s .pre .0) _ _
 
-sub-i : tie.Need-sub-i Inv-loop μ-loop
-sub-i c = search needs
-
-mul-insert-joins : tie.Need-mul-insert-joins Inv-loop μ-loop
-mul-insert-joins c = search needs
-
-shared-slice-read-insert-joins : tie.Need-shared-slice-read-insert-joins Inv-loop μ-loop
-shared-slice-read-insert-joins c = search needs
-
-insert-joins-requires : tie.Need-insert-joins-requires Inv-loop μ-loop
-insert-joins-requires c κs = search needs
-
-loop-less : tie.Need-loop-less Inv-loop μ-loop
-loop-less c = search needs
-
 loop-again : tie.Need-loop-again Inv-loop μ-loop
 loop-again c =
     let at = c .before .before .before .before .before .before in
@@ -57,11 +42,11 @@ product-spec =
     Inv-loop
     μ-loop
     loop-holds
-    sub-i
-    mul-insert-joins
-    shared-slice-read-insert-joins
-    insert-joins-requires
-    loop-less
+    (λ c. search needs)
+    (λ c. search needs)
+    (λ c. search needs)
+    (λ c κs. search needs)
+    (λ c. search needs)
     loop-again
     same-length
     returns)

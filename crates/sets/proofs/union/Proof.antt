@@ -17,21 +17,6 @@ loop-holds c =
     let s = c .before .before in
     fold-begins fold-union (s .args .xs .now) (s .args .nx) (s .pre) _ _
 
-sub-i : tie.Need-sub-i Inv-loop μ-loop
-sub-i c = search needs
-
-mul-insert : tie.Need-mul-insert Inv-loop μ-loop
-mul-insert c = search needs
-
-shared-slice-read-insert : tie.Need-shared-slice-read-insert Inv-loop μ-loop
-shared-slice-read-insert c = search needs
-
-insert-requires : tie.Need-insert-requires Inv-loop μ-loop
-insert-requires c κs = search needs
-
-loop-less : tie.Need-loop-less Inv-loop μ-loop
-loop-less c = search needs
-
 loop-again : tie.Need-loop-again Inv-loop μ-loop
 loop-again c =
     let at = c .before .before .before .before .before .before in
@@ -55,11 +40,11 @@ union-spec =
     Inv-loop
     μ-loop
     loop-holds
-    sub-i
-    mul-insert
-    shared-slice-read-insert
-    insert-requires
-    loop-less
+    (λ c. search needs)
+    (λ c. search needs)
+    (λ c. search needs)
+    (λ c κs. search needs)
+    (λ c. search needs)
     loop-again
     same-length
     returns)

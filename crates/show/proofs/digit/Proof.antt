@@ -15,12 +15,6 @@ low n lt = rw (lt-ltb n 10 lt)
 high : (n : ℕ) → 10 ≤ n → 55 + n ≡ digit n
 high n le = rw (le-ltb n 10 le) (omega arith)
 
-add-result : tie.Need-add-result
-add-result c = search needs
-
-add-result-2 : tie.Need-add-result-2
-add-result-2 c = search needs
-
 returns : tie.Need-returns
 returns c = low _ (search needs)
 
@@ -28,4 +22,4 @@ returns-2 : tie.Need-returns-2
 returns-2 c = high _ (search needs)
 
 pub digit-spec : {M : Type 1} → statement M
-digit-spec = tie.close (tie.spec add-result add-result-2 returns returns-2)
+digit-spec = tie.close (tie.spec (λ c. search needs) (λ c. search needs) returns returns-2)

@@ -32,36 +32,6 @@ returns c = past _ _ _ (search needs)
 returns-2 : tie.Need-returns-2
 returns-2 c = behind _ _ _ (search needs) (search needs)
 
-mul-at : tie.Need-mul-at
-mul-at c = search needs
-
-shared-slice-read-number-of : tie.Need-shared-slice-read-number-of
-shared-slice-read-number-of c = search needs
-
-add-number-of : tie.Need-add-number-of
-add-number-of c = search needs
-
-shared-slice-read-number-of-2 : tie.Need-shared-slice-read-number-of-2
-shared-slice-read-number-of-2 c = search needs
-
-number-of-requires : tie.Need-number-of-requires
-number-of-requires c κs = search needs
-
-add-print-state : tie.Need-add-print-state
-add-print-state c = search needs
-
-shared-slice-read-print-state : tie.Need-shared-slice-read-print-state
-shared-slice-read-print-state c = search needs
-
-print-state-requires : tie.Need-print-state-requires
-print-state-requires c κs = search needs
-
-print-transitions-requires : tie.Need-print-transitions-requires
-print-transitions-requires c κs = search needs
-
-add-result : tie.Need-add-result
-add-result c = search needs
-
 returns-3 : tie.Need-returns-3
 returns-3 c = counted _ _ _ (search needs) (search needs) (search needs)
 
@@ -71,14 +41,14 @@ print-row-spec =
     (tie.spec
     returns
     returns-2
-    mul-at
-    shared-slice-read-number-of
-    add-number-of
-    shared-slice-read-number-of-2
-    number-of-requires
-    add-print-state
-    shared-slice-read-print-state
-    print-state-requires
-    print-transitions-requires
-    add-result
+    (λ c. search needs)
+    (λ c. search needs)
+    (λ c. search needs)
+    (λ c. search needs)
+    (λ c κs. search needs)
+    (λ c. search needs)
+    (λ c. search needs)
+    (λ c κs. search needs)
+    (λ c κs. search needs)
+    (λ c. search needs)
     returns-3)

@@ -11,17 +11,8 @@ use Rattle.term.proofs.bound_pair.Tie as tie
 mul-clip : tie.Need-mul-clip
 mul-clip c = record { fits = omega (arith, mul-le-mul (c .before .pre .0) (c .before .pre .1)) }
 
-clip-requires : tie.Need-clip-requires
-clip-requires c κs = search needs
-
 returns : tie.Need-returns
 returns c = λ n p f g a b. rw (bound-and n p f g _ (c .before .if1 .taken), ← a, ← b) (c .clip .ensures)
-
-add-clip : tie.Need-add-clip
-add-clip c = search needs
-
-clip-requires-2 : tie.Need-clip-requires-2
-clip-requires-2 c κs = search needs
 
 returns-2 : tie.Need-returns-2
 returns-2 c = λ n p f g a b. rw (bound-or n p f g _ (c .before .if2 .taken), ← a, ← b) (c .clip2 .ensures)
@@ -32,4 +23,4 @@ returns-3 c = λ n p f g a b. sym (bound-leaf n p f g _ (c .before .if1 .left) (
 pub bound-pair-spec : {M : Type 1} → statement M
 bound-pair-spec =
     tie.close
-    (tie.spec mul-clip clip-requires returns add-clip clip-requires-2 returns-2 returns-3)
+    (tie.spec mul-clip (λ c κs. search needs) returns (λ c. search needs) (λ c κs. search needs) returns-2 returns-3)

@@ -33,9 +33,6 @@ returns-2 c =
     let f = tree (s .args .rule .now) (s .args .n) in
     fine-few _ _ (record { terms = omega (arith, row .count); cover = omega (arith, s .pre .4, cover-bounded f (omega (arith, s .pre .4))) })
 
-cover-of-requires : tie.Need-cover-of-requires
-cover-of-requires c κs = search needs
-
 returns-3 : tie.Need-returns-3
 returns-3 c =
     let pre = c .before .before .before .before .before .before .before .pre in
@@ -59,6 +56,6 @@ check-size-spec =
     shared-slice-read-terms
     returns
     returns-2
-    cover-of-requires
+    (λ c κs. search needs)
     returns-3
     returns-4)

@@ -42,12 +42,6 @@ cover-bound-requires c κs =
     let at = c .before .before in
     (record { accepted = at .before .before .before .pre .1; inside = omega arith }, at .loop .inv .bounded)
 
-mul-bounds : tie.Need-mul-bounds Inv-loop μ-loop
-mul-bounds c = search needs
-
-array-write-bounds : tie.Need-array-write-bounds Inv-loop μ-loop
-array-write-bounds c = search needs
-
 check-size-requires : tie.Need-check-size-requires Inv-loop μ-loop
 check-size-requires c κs =
     let at = c .before .before .before in
@@ -59,24 +53,12 @@ check-size-requires c κs =
       c .cover-bound .ensures,
     )
 
-enum-known-size : tie.Need-enum-known-size Inv-loop μ-loop
-enum-known-size c = search needs
-
 returns : tie.Need-returns Inv-loop μ-loop
 returns c =
     let size = c .before .before .before in
     let at = size .before .before .before .before in
     pass-fails _ _ (at .loop .i) (omega arith) (at .loop .inv .passing)
     (sym (ap answer (c .before .size .given .1)) ∙ size .check-size .ensures)
-
-enum-told : tie.Need-enum-told Inv-loop μ-loop
-enum-told c = search needs
-
-add-i : tie.Need-add-i Inv-loop μ-loop
-add-i c = search needs
-
-loop-less : tie.Need-loop-less Inv-loop μ-loop
-loop-less c = search needs
 
 loop-again : tie.Need-loop-again Inv-loop μ-loop
 loop-again c =
@@ -103,13 +85,13 @@ check-sizes-spec =
     μ-loop
     loop-holds
     cover-bound-requires
-    mul-bounds
-    array-write-bounds
+    (λ c. search needs)
+    (λ c. search needs)
     check-size-requires
-    enum-known-size
+    (λ c. search needs)
     returns
-    enum-told
-    add-i
-    loop-less
+    (λ c. search needs)
+    (λ c. search needs)
+    (λ c. search needs)
     loop-again
     returns-2)

@@ -10,18 +10,12 @@ use Rattle.term.proofs.Bounds.{bounds, bound-leaf}
 use Rattle.term.proofs.cover_bound.Statement.{statement}
 use Rattle.term.proofs.cover_bound.Tie as tie
 
-kind-of-requires : tie.Need-kind-of-requires
-kind-of-requires c κs = search needs
-
 returns : tie.Need-returns
 returns c =
     let k = c .before in
     let ready = k .before .before .pre .0 in
     of-leaf ready (k .kind-of .ensures) (λ f. 1 ≡ coverBound f) refl
     (λ f g. sym (bound-leaf _ _ f g (k .kind-of .result) (λ e. omega arith) (λ e. omega arith)))
-
-left-of-requires : tie.Need-left-of-requires
-left-of-requires c κs = search needs
 
 mul-a : tie.Need-mul-a
 mul-a c =
@@ -35,9 +29,6 @@ element-copy-out-a c =
     let k = c .before .before in
     let ready = k .before .before .pre .0 in
     omega (arith, ready-small ready, left-lower ready (k .kind-of .ensures) (c .left-of .ensures) (omega arith))
-
-right-of-requires : tie.Need-right-of-requires
-right-of-requires c κs = search needs
 
 mul-b : tie.Need-mul-b
 mul-b c =
@@ -83,12 +74,12 @@ pub cover-bound-spec : {M : Type 1} → statement M
 cover-bound-spec =
     tie.close
     (tie.spec
-    kind-of-requires
+    (λ c κs. search needs)
     returns
-    left-of-requires
+    (λ c κs. search needs)
     mul-a
     element-copy-out-a
-    right-of-requires
+    (λ c κs. search needs)
     mul-b
     element-copy-out-b
     bound-pair-requires

@@ -23,9 +23,6 @@ returns-2 c = record {
   is-cover = λ p q. absurd (omega arith);
 }
 
-product-requires : tie.Need-product-requires
-product-requires c κs = search needs
-
 returns-3 : tie.Need-returns-3
 unfolding terms cover
 returns-3 c =
@@ -39,9 +36,6 @@ returns-3 c =
           rw (c .before .if3 .taken, pack-unions (cover f) (cover g))
           (c .product .ensures _ _ a b);
     }
-
-union-requires : tie.Need-union-requires
-union-requires c κs = search needs
 
 returns-4 : tie.Need-returns-4
 unfolding terms cover
@@ -57,12 +51,6 @@ returns-4 c =
           (c .union .ensures _ _ a b);
     }
 
-owe-requires : tie.Need-owe-requires
-owe-requires c κs = search needs
-
-until-requires : tie.Need-until-requires
-until-requires c κs = search needs
-
 returns-5 : tie.Need-returns-5
 unfolding terms
 returns-5 c =
@@ -74,15 +62,6 @@ returns-5 c =
           (c .until .ensures _ _ a b);
       is-cover = λ p q low. absurd (omega arith);
     }
-
-owe-requires-2 : tie.Need-owe-requires-2
-owe-requires-2 c κs = search needs
-
-release-requires : tie.Need-release-requires
-release-requires c κs = search needs
-
-none-requires : tie.Need-none-requires
-none-requires c κs = search needs
 
 returns-6 : tie.Need-returns-6
 unfolding terms
@@ -116,15 +95,15 @@ from-children-spec =
     (tie.spec
     returns
     returns-2
-    product-requires
+    (λ c κs. search needs)
     returns-3
-    union-requires
+    (λ c κs. search needs)
     returns-4
-    owe-requires
-    until-requires
+    (λ c κs. search needs)
+    (λ c κs. search needs)
     returns-5
-    owe-requires-2
-    release-requires
-    none-requires
+    (λ c κs. search needs)
+    (λ c κs. search needs)
+    (λ c κs. search needs)
     returns-6
     returns-7)

@@ -7,15 +7,9 @@ use Rattle.term.proofs.Carries.{carries-of, carried}
 use Rattle.term.proofs.product.Statement.{statement}
 use Rattle.term.proofs.product.Tie as tie
 
-slice-aggregate-product : tie.Need-slice-aggregate-product
-slice-aggregate-product c = search needs
-
-product-requires : tie.Need-product-requires
-product-requires c κs = search needs
-
 returns : tie.Need-returns
 returns c us vs ia ib =
     rw (← carried ia (omega arith), ← carried ib (omega arith)) (carries-of (search needs) (c .before .product .ensures .updates _ (empty _)))
 
 pub product-spec : {M : Type 1} → statement M
-product-spec = tie.close (tie.spec slice-aggregate-product product-requires returns)
+product-spec = tie.close (tie.spec (λ c. search needs) (λ c κs. search needs) returns)

@@ -7,18 +7,6 @@ use Rattle.term.proofs.Carries.{carries-of, carried, more-fits, more-is
 use Rattle.term.proofs.release.Statement.{statement}
 use Rattle.term.proofs.release.Tie as tie
 
-slice-aggregate-union : tie.Need-slice-aggregate-union
-slice-aggregate-union c = search needs
-
-union-requires : tie.Need-union-requires
-union-requires c κs = search needs
-
-slice-aggregate-product : tie.Need-slice-aggregate-product
-slice-aggregate-product c = search needs
-
-slice-aggregate-product-2 : tie.Need-slice-aggregate-product-2
-slice-aggregate-product-2 c = search needs
-
 product-requires : tie.Need-product-requires
 product-requires c κs =
     let u = c .before .before .before .before .before .before in
@@ -35,9 +23,9 @@ pub release-spec : {M : Type 1} → statement M
 release-spec =
     tie.close
     (tie.spec
-    slice-aggregate-union
-    union-requires
-    slice-aggregate-product
-    slice-aggregate-product-2
+    (λ c. search needs)
+    (λ c κs. search needs)
+    (λ c. search needs)
+    (λ c. search needs)
     product-requires
     returns)

@@ -8,35 +8,14 @@ use Rattle.term.proofs.Keeping.{store-over, store-copied}
 use Rattle.term.proofs.store_row.Statement.{statement}
 use Rattle.term.proofs.store_row.Tie as tie
 
-mul-at : tie.Need-mul-at
-mul-at c = search needs
-
-mul-table : tie.Need-mul-table
-mul-table c = search needs
-
-slice-write-table : tie.Need-slice-write-table
-slice-write-table c = search needs
-
-same-length : tie.Need-same-length
-same-length c = search needs
-
 returns : tie.Need-returns
 returns c = store-over _ _ _ (omega arith) (c .if1 .taken)
-
-add-from : tie.Need-add-from
-add-from c = search needs
-
-mul-copy-words : tie.Need-mul-copy-words
-mul-copy-words c = search needs
 
 sub-copy-words : tie.Need-sub-copy-words
 sub-copy-words c = simp length-set (omega arith)
 
 part-copy-words-start : tie.Need-part-copy-words-start
 part-copy-words-start c = simp length-set (omega arith)
-
-part-copy-words-end : tie.Need-part-copy-words-end
-part-copy-words-end c = search needs
 
 copy-words-requires : tie.Need-copy-words-requires
 copy-words-requires c κs = (simp (length-take, length-drop, length-set) (omega arith), search needs)
@@ -54,16 +33,16 @@ pub store-row-spec : {M : Type 1} → statement M
 store-row-spec =
     tie.close
     (tie.spec
-    mul-at
-    mul-table
-    slice-write-table
-    same-length
+    (λ c. search needs)
+    (λ c. search needs)
+    (λ c. search needs)
+    (λ c. search needs)
     returns
-    add-from
-    mul-copy-words
+    (λ c. search needs)
+    (λ c. search needs)
     sub-copy-words
     part-copy-words-start
-    part-copy-words-end
+    (λ c. search needs)
     copy-words-requires
     same-length-2
     returns-2)

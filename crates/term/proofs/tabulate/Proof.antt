@@ -22,9 +22,6 @@ check-sizes-requires c κs =
     let s = k .before .before .before .before in
     (refl, s .pre .0, search needs, λ j lt. k .keep-terms .ensures .reached j (reached-whole _ (s .pre .0) j lt))
 
-same-length : tie.Need-same-length
-same-length c = search needs
-
 returns : tie.Need-returns
 returns c =
     let k = c .before .before .before .before in
@@ -39,4 +36,4 @@ returns c =
 pub tabulate-spec : {M : Type 1} → statement M
 tabulate-spec =
     tie.close
-    (tie.spec sub-keep-terms keep-terms-requires check-sizes-requires same-length returns)
+    (tie.spec sub-keep-terms keep-terms-requires check-sizes-requires (λ c. search needs) returns)

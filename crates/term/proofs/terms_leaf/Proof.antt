@@ -11,15 +11,9 @@ use lib.Pow.{pow-lt}
 use Rattle.term.proofs.terms_leaf.Statement.{statement}
 use Rattle.term.proofs.terms_leaf.Tie as tie
 
-none-requires : tie.Need-none-requires
-none-requires c κs = search needs
-
 returns : tie.Need-returns
 unfolding terms
 returns c = λ n f g. rw (c .before .if1 .taken) (c .none .ensures)
-
-one-requires : tie.Need-one-requires
-one-requires c κs = search needs
 
 returns-2 : tie.Need-returns-2
 unfolding terms
@@ -31,18 +25,12 @@ bit-requires c κs = omega (arith, c .before .before .before .pre .1 (omega arit
 mul-one : tie.Need-mul-one
 mul-one c = record { fits = omega (arith, c .bit .ensures, pow-lt {j = propositions} (c .before .before .before .before .pre .1 (omega arith))) }
 
-one-requires-2 : tie.Need-one-requires-2
-one-requires-2 c κs = search needs
-
 returns-3 : tie.Need-returns-3
 unfolding terms
 returns-3 c = λ n f g. rw (c .before .before .if3 .taken, pack-must, ← c .before .bit .ensures) (c .one2 .ensures)
 
 bit-requires-2 : tie.Need-bit-requires-2
 bit-requires-2 c κs = omega (arith, c .before .before .before .pre .1 (omega arith))
-
-one-requires-3 : tie.Need-one-requires-3
-one-requires-3 c κs = search needs
 
 returns-4 : tie.Need-returns-4
 unfolding terms
@@ -55,14 +43,14 @@ pub terms-leaf-spec : {M : Type 1} → statement M
 terms-leaf-spec =
     tie.close
     (tie.spec
-    none-requires
+    (λ c κs. search needs)
     returns
-    one-requires
+    (λ c κs. search needs)
     returns-2
     bit-requires
     mul-one
-    one-requires-2
+    (λ c κs. search needs)
     returns-3
     bit-requires-2
-    one-requires-3
+    (λ c κs. search needs)
     returns-4)

@@ -7,15 +7,9 @@ use Rattle.term.proofs.Carries.{carries-of, carried}
 use Rattle.term.proofs.union.Statement.{statement}
 use Rattle.term.proofs.union.Tie as tie
 
-slice-aggregate-union : tie.Need-slice-aggregate-union
-slice-aggregate-union c = search needs
-
-union-requires : tie.Need-union-requires
-union-requires c κs = search needs
-
 returns : tie.Need-returns
 returns c us vs ia ib =
     rw (← carried ia (omega arith), ← carried ib (omega arith)) (carries-of (search needs) (c .before .union .ensures .updates _ (self _ _ (search needs))))
 
 pub union-spec : {M : Type 1} → statement M
-union-spec = tie.close (tie.spec slice-aggregate-union union-requires returns)
+union-spec = tie.close (tie.spec (λ c. search needs) (λ c κs. search needs) returns)

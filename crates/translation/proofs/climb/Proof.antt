@@ -18,17 +18,8 @@ abbrev μ-loop : tie.MeasureT-loop
 loop-holds : tie.Need-loop-holds Inv-loop μ-loop
 loop-holds c = refl
 
-has-requires : tie.Need-has-requires Inv-loop μ-loop
-has-requires c κs = search needs
-
 returns : tie.Need-returns Inv-loop μ-loop
 returns c = sym (climb-stops _ _ (c .before .before .before .loop .j) (c .before .before .loop-test .taken) (sym (c .before .has .ensures) ∙ not-true _ (c .if1 .taken))) ∙ c .before .before .before .loop .inv
-
-add-j : tie.Need-add-j Inv-loop μ-loop
-add-j c = search needs
-
-loop-less : tie.Need-loop-less Inv-loop μ-loop
-loop-less c = search needs
 
 loop-again : tie.Need-loop-again Inv-loop μ-loop
 loop-again c = sym (climb-steps _ _ (c .before .before .before .loop .j) (c .before .before .loop-test .taken) (sym (c .before .has .ensures) ∙ not-false _ (c .if1 .left))) ∙ c .before .before .before .loop .inv
@@ -39,4 +30,4 @@ returns-2 c = sym (climb-ends _ _ (c .before .loop .j) (c .loop-test .left)) ∙
 pub climb-spec : {M : Type 1} → statement M
 climb-spec =
     tie.close
-    (tie.spec Inv-loop μ-loop loop-holds has-requires returns add-j loop-less loop-again returns-2)
+    (tie.spec Inv-loop μ-loop loop-holds (λ c κs. search needs) returns (λ c. search needs) (λ c. search needs) loop-again returns-2)

@@ -24,32 +24,11 @@ begun c =
 untils-of-requires : tie.Need-untils-of-requires
 untils-of-requires c κs = bytes-fine _ (c .before .before .before .before .before .before .pre .0)
 
-slice-aggregate-start-pairs : tie.Need-slice-aggregate-start-pairs
-slice-aggregate-start-pairs c = search needs
-
-slice-aggregate-start-pairs-2 : tie.Need-slice-aggregate-start-pairs-2
-slice-aggregate-start-pairs-2 c = search needs
-
 start-pairs-requires : tie.Need-start-pairs-requires
 start-pairs-requires c κs = (numbered-begins _ _ refl refl, omega (arith, initial-few _ (c .before .before .before .before .before .before .before .before .before .pre .0), c .before .before .before .before .before .before .before .before .before .pre .1 .begun))
 
-slice-aggregate-explore-pairs : tie.Need-slice-aggregate-explore-pairs
-slice-aggregate-explore-pairs c = search needs
-
-slice-aggregate-explore-pairs-2 : tie.Need-slice-aggregate-explore-pairs-2
-slice-aggregate-explore-pairs-2 c = search needs
-
 explore-pairs-requires : tie.Need-explore-pairs-requires
 explore-pairs-requires c κs = (first-rows (begun (c .before .before .before .before .before)), begun (c .before .before .before .before .before) .numbered, c .before .before .before .before .before .before .before .before .before .before .before .before .before .before .before .pre .2 .for-transitions)
-
-enum-known-walked : tie.Need-enum-known-walked
-enum-known-walked c = search needs
-
-refuse-requires : tie.Need-refuse-requires
-refuse-requires c κs = search needs
-
-enum-known-walked-2 : tie.Need-enum-known-walked-2
-enum-known-walked-2 c = search needs
 
 array-share-prefix-pairs : tie.Need-array-share-prefix-pairs
 array-share-prefix-pairs c = count-inside (begun (c .before .before .before .before .before .before .before .before .before .before .before .before .before .before)) _ (c .before .before .before .before .before .before .before .before .explore-pairs .result) (c .before .before .before .before .before .before .before .before .explore-pairs .last .1 .1 .1 .0) (c .before .before .before .before .before .before .before .before .explore-pairs .last .1 .1 .1 .1 .0) (c .before .before .before .before .before .before .before .before .explore-pairs .last .1 .1 .1 .1 .1 .0) (c .before .before .before .before .before .before .before .before .explore-pairs .ensures) (c .before .before .walked2 .given .1)
@@ -69,26 +48,8 @@ zero-behind-requires c κs = written-inside (begun (c .before .before .before .b
 write-initial-requires : tie.Need-write-initial-requires
 write-initial-requires c κs = (omega (arith, initial-few _ (c .before .before .before .before .before .before .before .before .before .before .before .before .before .before .before .before .before .before .before .before .before .before .before .before .before .before .before .before .before .before .before .before .before .pre .0), c .before .before .before .before .before .before .before .before .before .before .before .before .before .before .before .before .before .before .before .before .before .before .before .before .before .before .before .before .before .before .before .before .before .pre .1 .begun), c .before .before .before .before .before .before .before .before .before .before .before .before .before .before .before .before .before .before .before .before .before .before .before .before .before .before .before .before .before .before .before .before .before .pre .2 .for-initial)
 
-same-length : tie.Need-same-length
-same-length c = search needs
-
-same-length-2 : tie.Need-same-length-2
-same-length-2 c = search needs
-
-same-length-3 : tie.Need-same-length-3
-same-length-3 c = search needs
-
 returns : tie.Need-returns
 returns c = stopped-is (begun (c .before .before .before .before .before .before .before .before .before .before .before .before .before .before .before .before .before .before .before .before .before .before .before)) _ (c .before .before .before .before .before .before .before .before .before .before .before .before .before .before .before .before .before .explore-pairs .result) (c .before .before .before .before .before .before .before .before .before .before .before .before .before .before .before .before .before .explore-pairs .last .1 .1 .1 .0) (c .before .before .before .before .before .before .before .before .before .before .before .before .before .before .before .before .before .explore-pairs .last .1 .1 .1 .1 .0) (c .before .before .before .before .before .before .before .before .before .before .before .before .before .before .before .before .before .explore-pairs .last .1 .1 .1 .1 .1 .0) (c .before .before .before .before .before .before .before .before .before .before .before .before .before .before .before .before .before .explore-pairs .ensures) (c .before .before .before .before .before .before .before .before .before .before .before .walked .given .1) (c .before .before .before .before .before .before .before .before .before .before .before .before .before .before .before .before .before .explore-pairs .kept .1 .1 .1 .1 .1 .0) _ _ (c .before .before .before .before .before .before .refuse .ensures)
-
-same-length-4 : tie.Need-same-length-4
-same-length-4 c = search needs
-
-same-length-5 : tie.Need-same-length-5
-same-length-5 c = search needs
-
-same-length-6 : tie.Need-same-length-6
-same-length-6 c = search needs
 
 returns-2 : tie.Need-returns-2
 returns-2 c = written-is (begun (c .before .before .before .before .before .before .before .before .before .before .before .before .before .before .before .before .before .before .before .before .before .before .before .before .before .before)) _ (c .before .before .before .before .before .before .before .before .before .before .before .before .before .before .before .before .before .before .before .before .explore-pairs .result) (c .before .before .before .before .before .before .before .before .before .before .before .before .before .before .before .before .before .before .before .before .explore-pairs .last .1 .1 .1 .0) (c .before .before .before .before .before .before .before .before .before .before .before .before .before .before .before .before .before .before .before .before .explore-pairs .last .1 .1 .1 .1 .0) (c .before .before .before .before .before .before .before .before .before .before .before .before .before .before .before .before .before .before .before .before .explore-pairs .last .1 .1 .1 .1 .1 .0) (c .before .before .before .before .before .before .before .before .before .before .before .before .before .before .before .before .before .before .before .before .explore-pairs .ensures) (c .before .before .before .before .before .before .before .before .before .before .before .before .before .before .walked2 .given .1) (c .before .before .before .before .before .before .before .before .before .before .before .before .before .before .before .before .before .before .before .before .explore-pairs .kept .1 .1 .1 .1 .1 .0) _ _ _ _ _ (c .before .before .before .before .before .before .before .before .before .before .write-states .ensures) (c .before .before .before .before .before .before .zero-behind .ensures) (c .before .before .write-initial .ensures)
@@ -98,26 +59,26 @@ degeneralize-spec =
     tie.close
     (tie.spec
     untils-of-requires
-    slice-aggregate-start-pairs
-    slice-aggregate-start-pairs-2
+    (λ c. search needs)
+    (λ c. search needs)
     start-pairs-requires
-    slice-aggregate-explore-pairs
-    slice-aggregate-explore-pairs-2
+    (λ c. search needs)
+    (λ c. search needs)
     explore-pairs-requires
-    enum-known-walked
-    refuse-requires
-    enum-known-walked-2
+    (λ c. search needs)
+    (λ c κs. search needs)
+    (λ c. search needs)
     array-share-prefix-pairs
     slice-aggregate-write-states
     write-states-requires
     mul-zero-behind
     zero-behind-requires
     write-initial-requires
-    same-length
-    same-length-2
-    same-length-3
+    (λ c. search needs)
+    (λ c. search needs)
+    (λ c. search needs)
     returns
-    same-length-4
-    same-length-5
-    same-length-6
+    (λ c. search needs)
+    (λ c. search needs)
+    (λ c. search needs)
     returns-2)

@@ -28,14 +28,8 @@ mul-code c = omega (arith, c .before .loop .inv .numbered .room, c .before .loop
 slice-read-code : tie.Need-slice-read-code Inv-loop μ-loop
 slice-read-code c = omega (arith, c .before .before .loop .inv .numbered .room, c .before .before .loop .inv .numbered .few)
 
-state-of-requires : tie.Need-state-of-requires Inv-loop μ-loop
-state-of-requires c κs = search needs
-
 row-start-requires : tie.Need-row-start-requires Inv-loop μ-loop
 row-start-requires c κs = state-inside _ _ _ (c .before .before .before .loop .inv .rows .listed) (among _ _ _ _ (c .before .before .before .loop .inv .numbered) (c .before .before .loop-test .taken)) _ (c .state-of .ensures)
-
-state-of-requires-2 : tie.Need-state-of-requires-2 Inv-loop μ-loop
-state-of-requires-2 c κs = search needs
 
 row-end-requires : tie.Need-row-end-requires Inv-loop μ-loop
 row-end-requires c κs = state-inside _ _ _ (c .before .before .before .before .before .loop .inv .rows .listed) (among _ _ _ _ (c .before .before .before .before .before .loop .inv .numbered) (c .before .before .before .before .loop-test .taken)) _ (c .state-of2 .ensures)
@@ -52,17 +46,8 @@ part-meet-row-start c = row-begins _ _ _ _ _ _ _ _ _ _ (c .before .before .befor
 part-meet-row-end : tie.Need-part-meet-row-end Inv-loop μ-loop
 part-meet-row-end c = row-fits _ _ _ _ _ _ _ _ _ _ (c .before .before .before .before .before .before .loop .pair) (c .before .before .before .before .before .before .before .before .before .before .before .before .pre .2) (c .before .before .before .before .before .before .loop .inv) (c .before .before .before .before .before .loop-test .taken) (c .before .before .before .state-of .ensures) (c .before .state-of2 .ensures) refl (c .before .before .row-start .ensures) (c .row-end .ensures)
 
-level-of-requires : tie.Need-level-of-requires Inv-loop μ-loop
-level-of-requires c κs = search needs
-
 meet-row-requires : tie.Need-meet-row-requires Inv-loop μ-loop
 meet-row-requires c κs = (c .before .before .before .before .before .before .before .before .before .before .before .loop .inv .numbered, c .before .before .before .before .before .before .before .before .before .before .before .before .before .before .before .before .before .pre .0 .levels, row-leads _ _ _ _ _ _ _ _ _ _ (c .before .before .before .before .before .before .before .before .before .before .before .loop .pair) (c .before .before .before .before .before .before .before .before .before .before .before .before .before .before .before .before .before .pre .2) (c .before .before .before .before .before .before .before .before .before .before .before .loop .inv) (c .before .before .before .before .before .before .before .before .before .before .loop-test .taken) (c .before .before .before .before .before .before .before .before .state-of .ensures) (c .before .before .before .before .before .before .state-of2 .ensures) (c .before .before .before .level-of .ensures) (c .before .before .before .before .before .before .before .row-start .ensures) (c .before .before .before .before .before .row-end .ensures), row-room _ _ _ _ _ _ _ _ _ _ (c .before .before .before .before .before .before .before .before .before .before .before .loop .pair) (c .before .before .before .before .before .before .before .before .before .before .before .before .before .before .before .before .before .pre .2) (c .before .before .before .before .before .before .before .before .before .before .before .loop .inv) (c .before .before .before .before .before .before .before .before .before .before .loop-test .taken) (c .before .before .before .before .before .before .before .before .state-of .ensures) (c .before .before .before .before .before .before .state-of2 .ensures) (c .before .before .before .level-of .ensures) (c .before .before .before .before .before .before .before .row-start .ensures) (c .before .before .before .before .before .row-end .ensures))
-
-enum-known-met : tie.Need-enum-known-met Inv-loop μ-loop
-enum-known-met c = search needs
-
-enum-told : tie.Need-enum-told Inv-loop μ-loop
-enum-told c = search needs
 
 same-length : tie.Need-same-length Inv-loop μ-loop
 same-length c = c .before .before .before .before .before .before .before .before .meet-row .kept .1 .1 .1 .0 ∙ c .before .before .before .before .before .before .before .before .before .before .before .before .before .before .before .before .before .before .before .before .loop .inv .numbered .room ∙ sym (c .before .before .before .before .before .before .before .before .before .before .before .before .before .before .before .before .before .before .before .before .before .before .before .before .before .before .pre .1 .room)
@@ -106,18 +91,18 @@ explore-pairs-spec =
     loop-holds
     mul-code
     slice-read-code
-    state-of-requires
+    (λ c κs. search needs)
     row-start-requires
-    state-of-requires-2
+    (λ c κs. search needs)
     row-end-requires
     mul-meet-row
     sub-meet-row
     part-meet-row-start
     part-meet-row-end
-    level-of-requires
+    (λ c κs. search needs)
     meet-row-requires
-    enum-known-met
-    enum-told
+    (λ c. search needs)
+    (λ c. search needs)
     same-length
     same-length-2
     same-length-3

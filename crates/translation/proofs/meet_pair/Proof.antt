@@ -6,15 +6,6 @@ use Rattle.translation.proofs.Meeting.{met-seen, met-full, met-next}
 use Rattle.translation.proofs.meet_pair.Statement.{statement}
 use Rattle.translation.proofs.meet_pair.Tie as tie
 
-slice-read-if1 : tie.Need-slice-read-if1
-slice-read-if1 c = search needs
-
-pair-number-requires : tie.Need-pair-number-requires
-pair-number-requires c κs = search needs
-
-same-length : tie.Need-same-length
-same-length c = search needs
-
 returns : tie.Need-returns
 returns c = met-seen _ _ _ _ (c .before .before .before .before .before .before .pre .0) (c .before .before .before .before .before .before .pre .1) (c .before .before .if1 .taken) (c .pair-number .ensures)
 
@@ -24,15 +15,6 @@ returns-2 c = met-full _ _ _ _ (c .before .before .before .before .before .pre .
 add-pair-requires : tie.Need-add-pair-requires
 add-pair-requires c κs = (c .before .before .before .before .before .before .before .pre .0, omega arith, c .before .before .before .before .before .before .before .pre .1, c .before .before .before .if1 .left)
 
-add-t17 : tie.Need-add-t17
-add-t17 c = search needs
-
-same-length-2 : tie.Need-same-length-2
-same-length-2 c = search needs
-
-same-length-3 : tie.Need-same-length-3
-same-length-3 c = search needs
-
 returns-3 : tie.Need-returns-3
 returns-3 c = met-next _ _ _ _ (c .before .before .before .before .before .before .before .before .before .before .before .before .pre .0) (c .before .before .before .before .before .before .before .before .before .before .before .before .pre .1) (c .before .before .before .before .before .before .before .before .if1 .left) (omega arith) _ _ (c .before .before .before .before .add-pair .ensures)
 
@@ -40,13 +22,13 @@ pub meet-pair-spec : {M : Type 1} → statement M
 meet-pair-spec =
     tie.close
     (tie.spec
-    slice-read-if1
-    pair-number-requires
-    same-length
+    (λ c. search needs)
+    (λ c κs. search needs)
+    (λ c. search needs)
     returns
     returns-2
     add-pair-requires
-    add-t17
-    same-length-2
-    same-length-3
+    (λ c. search needs)
+    (λ c. search needs)
+    (λ c. search needs)
     returns-3)

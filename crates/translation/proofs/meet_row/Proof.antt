@@ -22,23 +22,11 @@ abbrev μ-loop : tie.MeasureT-loop
 loop-holds : tie.Need-loop-holds Inv-loop μ-loop
 loop-holds c = meeting-begins _ _ _ _ _ _ _ _ _ (c .before .before .before .before .pre .0)
 
-mul-x : tie.Need-mul-x Inv-loop μ-loop
-mul-x c = search needs
-
-shared-slice-read-x : tie.Need-shared-slice-read-x Inv-loop μ-loop
-shared-slice-read-x c = search needs
-
 target-requires : tie.Need-target-requires Inv-loop μ-loop
 target-requires c κs = (c .before .before .before .before .before .before .before .before .before .pre .2 _ (at-in {A = ℕ} 0 (c .before .before .before .before .before .before .before .before .before .args .row .now) _ (c .before .before .before .loop-test .taken)), c .before .before .before .before .before .before .before .before .before .pre .1)
 
 meet-pair-requires : tie.Need-meet-pair-requires Inv-loop μ-loop
 meet-pair-requires c κs = (c .before .before .before .before .before .loop .inv .numbered, rw (c .target .ensures) (target-inside (c .before .before .before .before .before .before .before .before .before .before .args .r) _ _ (c .before .before .before .before .before .before .before .before .before .before .pre .1) (c .before .before .before .before .before .before .before .before .before .before .pre .2 _ (at-in {A = ℕ} 0 (c .before .before .before .before .before .before .before .before .before .before .args .row .now) _ (c .before .before .before .before .loop-test .taken)))))
-
-enum-known-met : tie.Need-enum-known-met Inv-loop μ-loop
-enum-known-met c = search needs
-
-enum-told : tie.Need-enum-told Inv-loop μ-loop
-enum-told c = search needs
 
 same-length : tie.Need-same-length Inv-loop μ-loop
 same-length c = c .before .before .before .before .before .before .meet-pair .kept .0 ∙ c .before .before .before .before .before .before .before .before .before .before .before .before .loop .inv .numbered .room ∙ sym (c .before .before .before .before .before .before .before .before .before .before .before .before .before .before .before .before .before .pre .0 .room)
@@ -52,23 +40,11 @@ same-length-3 c = c .before .before .before .before .before .before .before .bef
 returns : tie.Need-returns Inv-loop μ-loop
 returns c = meeting-full _ _ _ _ _ _ _ _ _ _ _ (c .before .before .before .before .before .before .before .before .before .before .before .before .loop .i) (c .before .before .before .before .before .before .before .before .before .before .before .before .loop .inv) (c .before .before .before .before .before .before .before .before .before .before .before .loop-test .taken) (c .before .before .before .before .before .before .before .target .ensures) (c .before .before .before .before .before .before .meet-pair .result) (c .before .before .before .before .before .before .meet-pair .last .0) (c .before .before .before .before .before .before .meet-pair .last .1 .0) (c .before .before .before .before .before .before .meet-pair .ensures) (c .enum-told .given .1)
 
-add-put-transition : tie.Need-add-put-transition Inv-loop μ-loop
-add-put-transition c = search needs
-
 put-transition-requires : tie.Need-put-transition-requires Inv-loop μ-loop
 put-transition-requires c κs = (record-room _ _ _ _ _ _ _ _ _ _ _ _ (c .before .before .before .before .before .before .before .before .before .before .before .before .before .before .loop .inv) (c .before .before .before .before .before .before .before .before .before .before .before .before .before .loop-test .taken) (c .before .before .before .before .before .before .before .before .before .before .before .before .before .before .before .before .before .before .before .pre .3), omega (arith, number-small _ _ _ _ _ _ _ _ _ _ _ (c .before .before .before .before .before .before .before .before .before .before .before .before .before .before .loop .i) (c .before .before .before .before .before .before .before .before .before .before .before .before .before .before .loop .inv) (c .before .before .before .before .before .before .before .before .before .before .before .before .before .loop-test .taken) (c .before .before .before .before .before .before .before .before .before .target .ensures) (c .before .before .before .before .before .before .before .before .meet-pair .result) (c .before .before .before .before .before .before .before .before .meet-pair .last .0) (c .before .before .before .before .before .before .before .before .meet-pair .last .1 .0) (c .before .before .before .before .before .before .before .before .meet-pair .ensures) (c .before .before .met .given .1)))
 
-add-i : tie.Need-add-i Inv-loop μ-loop
-add-i c = search needs
-
-loop-less : tie.Need-loop-less Inv-loop μ-loop
-loop-less c = search needs
-
 loop-again : tie.Need-loop-again Inv-loop μ-loop
 loop-again c = meeting-steps _ _ _ _ _ _ _ _ _ _ _ (c .before .before .before .before .before .before .before .before .before .before .before .before .before .before .before .before .before .loop .i) (c .before .before .before .before .before .before .before .before .before .before .before .before .before .before .before .before .before .loop .inv) (c .before .before .before .before .before .before .before .before .before .before .before .before .before .before .before .before .loop-test .taken) (c .before .before .before .before .before .before .before .before .before .before .before .before .target .ensures) (c .before .before .before .before .before .before .before .before .before .before .before .meet-pair .result) (c .before .before .before .before .before .before .before .before .before .before .before .meet-pair .last .0) (c .before .before .before .before .before .before .before .before .before .before .before .meet-pair .last .1 .0) (c .before .before .before .before .before .before .before .before .before .before .before .meet-pair .ensures) (c .before .before .before .before .before .met .given .1) _ (c .before .before .put-transition .kept .0) (c .before .before .before .before .before .before .before .before .before .before .before .before .before .before .before .before .before .before .before .before .before .before .pre .3) (c .before .before .put-transition .ensures)
-
-add-t28 : tie.Need-add-t28 Inv-loop μ-loop
-add-t28 c = search needs
 
 same-length-4 : tie.Need-same-length-4 Inv-loop μ-loop
 same-length-4 c = c .before .loop .inv .numbered .room ∙ sym (c .before .before .before .before .before .before .pre .0 .room)
@@ -89,22 +65,22 @@ meet-row-spec =
     Inv-loop
     μ-loop
     loop-holds
-    mul-x
-    shared-slice-read-x
+    (λ c. search needs)
+    (λ c. search needs)
     target-requires
     meet-pair-requires
-    enum-known-met
-    enum-told
+    (λ c. search needs)
+    (λ c. search needs)
     same-length
     same-length-2
     same-length-3
     returns
-    add-put-transition
+    (λ c. search needs)
     put-transition-requires
-    add-i
-    loop-less
+    (λ c. search needs)
+    (λ c. search needs)
     loop-again
-    add-t28
+    (λ c. search needs)
     same-length-4
     same-length-5
     same-length-6

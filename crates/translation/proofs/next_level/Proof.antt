@@ -6,17 +6,11 @@ use Rattle.translation.proofs.Levels.{next-below, next-again}
 use Rattle.translation.proofs.next_level.Statement.{statement}
 use Rattle.translation.proofs.next_level.Tie as tie
 
-climb-requires : tie.Need-climb-requires
-climb-requires c κs = search needs
-
 returns : tie.Need-returns
 returns c = c .climb .ensures ∙ sym (next-below _ _ _ (c .before .if1 .taken))
-
-climb-requires-2 : tie.Need-climb-requires-2
-climb-requires-2 c κs = search needs
 
 returns-2 : tie.Need-returns-2
 returns-2 c = c .climb2 .ensures ∙ sym (next-again _ _ _ (c .before .if1 .left))
 
 pub next-level-spec : {M : Type 1} → statement M
-next-level-spec = tie.close (tie.spec climb-requires returns climb-requires-2 returns-2)
+next-level-spec = tie.close (tie.spec (λ c κs. search needs) returns (λ c κs. search needs) returns-2)

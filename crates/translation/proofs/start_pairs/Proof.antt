@@ -17,17 +17,8 @@ abbrev μ-loop : tie.MeasureT-loop
 loop-holds : tie.Need-loop-holds Inv-loop μ-loop
 loop-holds c = start-begins _ _ _ (c .before .before .pre .0)
 
-code-of-requires : tie.Need-code-of-requires Inv-loop μ-loop
-code-of-requires c κs = search needs
-
 add-pair-requires : tie.Need-add-pair-requires Inv-loop μ-loop
 add-pair-requires c κs = (c .before .before .before .before .loop .inv .numbered, omega arith, omega (arith, c .code-of .ensures), start-new _ _ _ _ (c .before .before .before .before .loop .inv) _ (c .before .before .before .before .before .before .before .pre .1) (c .before .before .before .loop-test .taken) (c .code-of .ensures))
-
-add-i : tie.Need-add-i Inv-loop μ-loop
-add-i c = search needs
-
-loop-less : tie.Need-loop-less Inv-loop μ-loop
-loop-less c = search needs
 
 loop-again : tie.Need-loop-again Inv-loop μ-loop
 loop-again c = start-steps _ _ _ _ (c .before .before .before .before .before .before .before .before .before .loop .inv) _ _ _ (c .before .before .before .before .before .before .before .before .loop-test .taken) (c .before .before .before .before .before .code-of .ensures) (c .before .before .before .before .add-pair .ensures)
@@ -48,10 +39,10 @@ start-pairs-spec =
     Inv-loop
     μ-loop
     loop-holds
-    code-of-requires
+    (λ c κs. search needs)
     add-pair-requires
-    add-i
-    loop-less
+    (λ c. search needs)
+    (λ c. search needs)
     loop-again
     same-length
     same-length-2

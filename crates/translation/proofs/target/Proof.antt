@@ -6,15 +6,6 @@ use Rattle.translation.proofs.Levels.{level-fits}
 use Rattle.translation.proofs.target.Statement.{statement}
 use Rattle.translation.proofs.target.Tie as tie
 
-target-of-requires : tie.Need-target-of-requires
-target-of-requires c κs = search needs
-
-fulfilled-by-requires : tie.Need-fulfilled-by-requires
-fulfilled-by-requires c κs = search needs
-
-next-level-requires : tie.Need-next-level-requires
-next-level-requires c κs = search needs
-
 code-of-requires : tie.Need-code-of-requires
 code-of-requires c κs = (rw (c .before .before .target-of .ensures) (c .before .before .before .pre .0), rw (c .next-level .ensures, c .before .fulfilled-by .ensures) (level-fits (c .before .before .before .args .r) (c .before .before .before .args .level) (c .before .before .before .args .transition) (c .before .before .before .pre .1)))
 
@@ -25,8 +16,8 @@ pub target-spec : {M : Type 1} → statement M
 target-spec =
     tie.close
     (tie.spec
-    target-of-requires
-    fulfilled-by-requires
-    next-level-requires
+    (λ c κs. search needs)
+    (λ c κs. search needs)
+    (λ c κs. search needs)
     code-of-requires
     returns)

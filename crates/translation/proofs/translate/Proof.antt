@@ -21,29 +21,11 @@ returns-2 c = transitions-short _ _ _ _ (c .before .if1 .left) (c .if2 .taken)
 returns-3 : tie.Need-returns-3
 returns-3 c = initial-short _ _ _ _ (c .before .before .if1 .left) (c .before .if2 .left) (c .if3 .taken)
 
-check-requires : tie.Need-check-requires
-check-requires c κs = search needs
-
-enum-known-bytes : tie.Need-enum-known-bytes
-enum-known-bytes c = search needs
-
 returns-4 : tie.Need-returns-4
 returns-4 c = bytes-refused _ _ _ _ (c .before .before .before .before .before .before .if1 .left) (c .before .before .before .before .before .if2 .left) (c .before .before .before .before .if3 .left) (sym (ap answer (c .before .bytes .given .1)) ∙ c .before .before .before .check .ensures)
 
-enum-told : tie.Need-enum-told
-enum-told c = search needs
-
 build-tabled-requires : tie.Need-build-tabled-requires
 build-tabled-requires c κs = (fits (c .before .before .before), record { for-states = c .before .before .before .before .before .before .before .before .if1 .left; for-transitions = c .before .before .before .before .before .before .before .if2 .left; for-initial = c .before .before .before .before .before .before .if3 .left })
-
-same-length : tie.Need-same-length
-same-length c = search needs
-
-same-length-2 : tie.Need-same-length-2
-same-length-2 c = search needs
-
-same-length-3 : tie.Need-same-length-3
-same-length-3 c = search needs
 
 returns-5 : tie.Need-returns-5
 returns-5 c = built _ _ _ _ (c .before .before .before .before .before .before .before .before .before .before .before .before .before .before .before .if1 .left) (c .before .before .before .before .before .before .before .before .before .before .before .before .before .before .if2 .left) (c .before .before .before .before .before .before .before .before .before .before .before .before .before .if3 .left) (fits (c .before .before .before .before .before .before .before .before .before .before)) (c .before .before .before .before .before .before .build-tabled .ensures)
@@ -55,12 +37,12 @@ translate-spec =
     returns
     returns-2
     returns-3
-    check-requires
-    enum-known-bytes
+    (λ c κs. search needs)
+    (λ c. search needs)
     returns-4
-    enum-told
+    (λ c. search needs)
     build-tabled-requires
-    same-length
-    same-length-2
-    same-length-3
+    (λ c. search needs)
+    (λ c. search needs)
+    (λ c. search needs)
     returns-5)

@@ -20,17 +20,8 @@ loop-holds c = initials-begin _ _
 put-initial-requires : tie.Need-put-initial-requires Inv-loop μ-loop
 put-initial-requires c κs = (omega (arith, c .before .before .loop .inv .size, c .before .before .before .before .pre .0, c .before .before .before .before .pre .1), omega (arith, c .before .before .before .before .pre .0))
 
-add-i : tie.Need-add-i Inv-loop μ-loop
-add-i c = search needs
-
-loop-less : tie.Need-loop-less Inv-loop μ-loop
-loop-less c = search needs
-
 loop-again : tie.Need-loop-again Inv-loop μ-loop
 loop-again c = initials-step _ _ _ _ (c .before .before .before .before .before .loop .i) (omega (arith, c .before .before .before .before .before .before .before .pre .0, c .before .before .before .before .before .before .before .pre .1)) (c .before .before .before .before .loop-test .taken) (c .before .before .before .before .before .loop .inv) (c .before .before .put-initial .kept .0) (c .before .before .put-initial .ensures)
-
-mul-zero-behind : tie.Need-mul-zero-behind Inv-loop μ-loop
-mul-zero-behind c = search needs
 
 zero-behind-requires : tie.Need-zero-behind-requires Inv-loop μ-loop
 zero-behind-requires c κs = omega (arith, c .before .before .loop .inv .size, c .before .before .before .before .pre .0, c .before .before .before .before .pre .1)
@@ -49,10 +40,10 @@ write-initial-spec =
     μ-loop
     loop-holds
     put-initial-requires
-    add-i
-    loop-less
+    (λ c. search needs)
+    (λ c. search needs)
     loop-again
-    mul-zero-behind
+    (λ c. search needs)
     zero-behind-requires
     same-length
     returns)

@@ -20,20 +20,8 @@ abbrev μ-loop : tie.MeasureT-loop
 loop-holds : tie.Need-loop-holds Inv-loop μ-loop
 loop-holds c = states-begin _ _ _ _
 
-mul-code : tie.Need-mul-code Inv-loop μ-loop
-mul-code c = search needs
-
-shared-slice-read-code : tie.Need-shared-slice-read-code Inv-loop μ-loop
-shared-slice-read-code c = search needs
-
-state-of-requires : tie.Need-state-of-requires Inv-loop μ-loop
-state-of-requires c κs = search needs
-
 row-start-requires : tie.Need-row-start-requires Inv-loop μ-loop
 row-start-requires c κs = state-inside _ _ _ (c .before .before .before .before .before .before .before .before .pre .0) (at-in {A = ℕ} 0 (c .before .before .before .before .before .before .before .before .args .pairs .now) _ (c .before .before .if1 .taken)) _ (c .state-of .ensures)
-
-state-of-requires-2 : tie.Need-state-of-requires-2 Inv-loop μ-loop
-state-of-requires-2 c κs = search needs
 
 row-end-requires : tie.Need-row-end-requires Inv-loop μ-loop
 row-end-requires c κs = state-inside _ _ _ (c .before .before .before .before .before .before .before .before .before .before .pre .0) (at-in {A = ℕ} 0 (c .before .before .before .before .before .before .before .before .before .before .args .pairs .now) _ (c .before .before .before .before .if1 .taken)) _ (c .state-of2 .ensures)
@@ -41,17 +29,8 @@ row-end-requires c κs = state-inside _ _ _ (c .before .before .before .before .
 sub-put-state : tie.Need-sub-put-state Inv-loop μ-loop
 sub-put-state c = count-rises _ _ _ (c .before .before .before .before .before .before .before .before .before .before .before .before .pre .0) (at-in {A = ℕ} 0 (c .before .before .before .before .before .before .before .before .before .before .before .before .args .pairs .now) _ (c .before .before .before .before .before .before .if1 .taken)) (c .before .before .before .before .state-of .ensures) (c .before .before .state-of2 .ensures) (c .before .before .before .row-start .ensures) (c .before .row-end .ensures)
 
-level-of-requires : tie.Need-level-of-requires Inv-loop μ-loop
-level-of-requires c κs = search needs
-
 put-state-requires : tie.Need-put-state-requires Inv-loop μ-loop
 put-state-requires c κs = (state-room _ _ _ _ _ _ (c .before .before .before .before .before .before .before .before .before .loop .inv) (c .before .before .before .before .before .before .before .if1 .taken) (c .before .before .before .before .before .before .before .before .before .before .before .before .before .pre .1), omega (arith, count-few _ _ _ (c .before .before .before .before .before .before .before .before .before .before .before .before .before .pre .0) (at-in {A = ℕ} 0 (c .before .before .before .before .before .before .before .before .before .before .before .before .before .args .pairs .now) _ (c .before .before .before .before .before .before .before .if1 .taken)) (c .before .before .before .before .before .state-of .ensures) (c .before .before .before .state-of2 .ensures) (c .before .before .before .before .row-start .ensures) (c .before .before .row-end .ensures)))
-
-add-t10 : tie.Need-add-t10 Inv-loop μ-loop
-add-t10 c = search needs
-
-loop-less : tie.Need-loop-less Inv-loop μ-loop
-loop-less c = search needs
 
 loop-again : tie.Need-loop-again Inv-loop μ-loop
 loop-again c = states-step _ _ _ _ _ _ (c .before .before .before .before .before .before .before .before .before .before .before .before .before .loop .inv) (c .before .before .before .before .before .before .before .before .before .before .before .if1 .taken) (c .before .before .before .before .before .before .before .before .before .before .before .before .before .before .before .before .before .pre .1) _ _ _ _ _ _ (c .before .before .before .before .before .before .before .before .before .state-of .ensures) (c .before .before .before .before .before .before .before .state-of2 .ensures) (c .before .before .before .before .level-of .ensures) (c .before .before .before .before .before .before .before .before .row-start .ensures) (c .before .before .before .before .before .before .row-end .ensures) (c .before .before .before .put-state .kept .0) (c .before .before .before .put-state .ensures)
@@ -75,17 +54,17 @@ write-states-spec =
     Inv-loop
     μ-loop
     loop-holds
-    mul-code
-    shared-slice-read-code
-    state-of-requires
+    (λ c. search needs)
+    (λ c. search needs)
+    (λ c κs. search needs)
     row-start-requires
-    state-of-requires-2
+    (λ c κs. search needs)
     row-end-requires
     sub-put-state
-    level-of-requires
+    (λ c κs. search needs)
     put-state-requires
-    add-t10
-    loop-less
+    (λ c. search needs)
+    (λ c. search needs)
     loop-again
     mul-zero-behind
     zero-behind-requires
