@@ -204,12 +204,15 @@ pub fn translate(rule: &[u8]) -> Answer<Automaton> {
         let place = rows.len();
         let ts = state_terms(sets[place], &terms, place)?;
         let mut row = Vec::with_capacity(ts.len());
+        let mut last = 0;
         for term in ts {
             total += 1;
             if total > 1024 {
                 return refuse(22, place);
             }
-            let target = match sets.iter().position(|&set| set == term.obligations) {
+            // equal targets stand side by side
+            let same = Some(last).filter(|&k| sets[k] == term.obligations);
+            let target = match same.or_else(|| sets.iter().position(|&set| set == term.obligations)) {
                 Some(target) => target,
                 None if sets.len() == 128 => return refuse(23, place),
                 None => {
@@ -217,6 +220,7 @@ pub fn translate(rule: &[u8]) -> Answer<Automaton> {
                     sets.len() - 1
                 }
             };
+            last = target;
             let fulfilled = untils
                 .iter()
                 .enumerate()

@@ -115,7 +115,8 @@ fn find(items: &[u64], n: usize, x: u64, last: usize) -> usize
     n
 }
 
-// x in a list, the first n of items, when last was met before it: an unseen one is put behind them, if there is a place.
+// x in a list, the first n of items, when last was met before it: an unseen one is put behind them, if there is a
+// place.
 fn meet_state(items: &mut [u64], n: usize, x: u64, last: usize) -> Met
     requires { ⌜ (n ≤ length (now items)) × OwnNumber last n (now items) ⌝ }
     ensures { λ r. ⌜ MeetsState x n (now (items .entry)) r (now (items .exit)) ⌝ }

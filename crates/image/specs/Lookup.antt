@@ -6,7 +6,8 @@ use lib.ListN.{getD, length}
 use Rattle.answer.specs.Bytes.{numberAt}
 use Rattle.automaton.specs.Automaton.{Transition, Automaton}
 use Rattle.automaton.specs.Limits.{maxStates}
-use Rattle.image.specs.Image.{transitionsAt, imageLength, contentsBytes, acceptingAt, statesBody, transitionsBody, initialBody}
+use Rattle.image.specs.Image.{transitionsAt, imageLength, contentsBytes, acceptingAt}
+use Rattle.image.specs.Image.{statesBody, transitionsBody, initialBody}
 use Rattle.image.specs.Reader.{countsAt, countSum, automatonFrom}
 
 -- the automaton of the image

@@ -6,7 +6,8 @@ use mathlib.Core.Bool.{Bool, true, false, cond}
 use lib.Dec.{eqb, ltb}
 use lib.Bits.{bitAnd, bitOr}
 use Rattle.sets.specs.Sets.{union, insertProduct}
-use Rattle.formula.specs.Formula.{Formula, bottom, top, proposition, negatedProposition, conjunction, disjunction, next, until, release}
+use Rattle.formula.specs.Formula.{Formula, bottom, top, proposition, negatedProposition, conjunction}
+use Rattle.formula.specs.Formula.{disjunction, next, until, release}
 
 -- a term: the propositions that a letter must have and those that it must not have, a bit each, and the obligations
 -- that then follow (01, Duties, covers and terms, sentence 3)

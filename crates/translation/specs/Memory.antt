@@ -20,9 +20,14 @@ use Rattle.translation.specs.declared.Met.{Met}
 use Rattle.translation.specs.declared.Met.the-variants.{Number, Full}
 use Rattle.translation.specs.declared.Paired.{Paired}
 use Rattle.translation.specs.declared.Paired.the-variants.{Count, Stop}
+use Rattle.translation.specs.declared.Extent.{Extent}
+use Rattle.translation.specs.declared.Translated.{Translated}
+use Rattle.automaton.specs.Automaton.{Automaton}
 use Rattle.automaton.specs.Limits.{maxStates, maxOfState, statesBytes, transitionsBytes, initialBytes}
 use Rattle.automaton.specs.Records.{records, stateBytes, transitionBytes}
-use Rattle.translation.specs.Degeneralized.{Pair, pair}
+use Rattle.automaton.specs.Tables.{outcome}
+use Rattle.translation.specs.Degeneralized.{Pair, pair, translation}
+use Rattle.translation.specs.Translate.{translateAnswer, stored}
 
 -- ---- the first walk's transitions
 
@@ -183,8 +188,34 @@ abbrev pub AddsRows : (met : Result (List ℕ)) (bytes : (done codes : List ℕ)
 AddsRows met bytes before k (Count n m) pairs index table = AddedRows met bytes before k n m pairs index table
 AddsRows met bytes before k (Stop pair) pairs index table = met ≡ refused 24 (pair .0)
 
+-- a row walked from a level: the targets met and the records put behind those before, whatever number of transitions
+-- the walk has met
+abbrev pub MeetsRow : (row : List ℕ) (level r : ℕ) (before : Extent) (pairs table : List ℕ)
+    → Paired → (pairs′ index′ table′ : List ℕ) → Type 0
+MeetsRow row level r before pairs table met pairs′ index′ table′ =
+    (count : ℕ)
+    → AddsRows (meetAllN (before .walked) count (map (targetN r level) row) (take (before .pairs) pairs))
+    (λ _ codes. records (transitionN codes r level) row) table (before .transitions) met pairs′ index′ table′
+
+-- all pairs walked from the first n, and the records of their transitions put from the table's beginning
+abbrev pub WalksPairs : (ends transitions : List ℕ) (r n : ℕ) (pairs table : List ℕ)
+    → Paired → (pairs′ index′ table′ : List ℕ) → Type 0
+WalksPairs ends transitions r n pairs table met pairs′ index′ table′ =
+    AddsRows (exploreN ends transitions r maxStates 0 0 (take n pairs))
+    (λ done codes. records (rowN ends transitions r codes) done) table 0 met pairs′ index′ table′
+
 -- the three tables are large enough
 pub record TablesRoom (states transitions initial : List ℕ) : Type 0 where
   pub for-states : statesBytes ≤ length states
   pub for-transitions : transitionsBytes ≤ length transitions
   pub for-initial : initialBytes ≤ length initial
+
+-- ---- the call's tables
+
+-- the answer, and the three tables as the automaton or its refusal by 20 to 24 leaves them
+abbrev pub Leaves : Result Automaton → Translated → (s t i s′ t′ i′ : List ℕ) → Type 0
+Leaves made answer s t i s′ t′ i′ = outcome (translateAnswer answer) s′ t′ i′ ≡ stored made s t i
+
+-- for a rule that 25 and 1 to 7 let pass
+abbrev pub Builds : (rule : List ℕ) → Translated → (s t i s′ t′ i′ : List ℕ) → Type 0
+Builds rule = Leaves (translation rule)

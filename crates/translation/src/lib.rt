@@ -28,9 +28,12 @@ ghost use Rattle.generalized.specs.Memory.{keptTarget, keptMust, keptMustNot};
 ghost use Rattle.automaton.specs.Limits.{maxStates, transitionsBytes, initialBytes};
 ghost use Rattle.automaton.specs.Records.{records, numberedRecords, stateBytes, transitionBytes};
 ghost use Rattle.automaton.specs.Tables.{outcome};
-ghost use Rattle.translation.specs.Degeneralized.{numbers, translation};
-ghost use Rattle.translation.specs.Memory.{FirstWalk, rowStart, levelPlaces, codeOf, codePlaces, climbN, nextLevelN, targetN, meetAllN, numberN, exploreN, pairBytes, transitionN, rowN, InRows, PairRows, PairsNumbered, Leads, MeetsPair, AddsRows, TablesRoom};
-ghost use Rattle.translation.specs.Translate.{translateAnswer, stored, translated};
+ghost use Rattle.translation.specs.Degeneralized.{numbers};
+ghost use Rattle.translation.specs.Memory.{FirstWalk, rowStart, levelPlaces, codeOf, codePlaces, climbN};
+ghost use Rattle.translation.specs.Memory.{nextLevelN, targetN, numberN, pairBytes, InRows, PairRows};
+ghost use Rattle.translation.specs.Memory.{PairsNumbered, Leads, MeetsPair, MeetsRow, WalksPairs, TablesRoom};
+ghost use Rattle.translation.specs.Memory.{Leaves, Builds};
+ghost use Rattle.translation.specs.Translate.{translateAnswer, translated};
 
 // The number of document 01 by which the second walk is refused.
 pub const TOO_MANY_PAIRS: u8 = 24;
@@ -211,10 +214,8 @@ fn meet_row(
 ) -> Paired
     requires { ⌜ PairsNumbered (now pairs) (now index) (before .pairs) × (r ≤ maxUntils) × Leads (now row)
         × ((before .transitions + length (now row)) * 4 ≤ length (now table)) ⌝ }
-    ensures { λ met. ⌜ ((count : ℕ) → AddsRows
-        (meetAllN (before .walked) count (map (targetN r level) (now (row .entry))) (take (before .pairs) (now (pairs .entry))))
-        (λ _ codes. records (transitionN codes r level) (now (row .entry)))
-        (now (table .entry)) (before .transitions) met (now (pairs .exit)) (now (index .exit)) (now (table .exit))) ⌝ }
+    ensures { λ met. ⌜ MeetsRow (now (row .entry)) level r before (now (pairs .entry)) (now (table .entry))
+        met (now (pairs .exit)) (now (index .exit)) (now (table .exit)) ⌝ }
 {
     let written = before.transitions;
     let mut k = before.pairs;
@@ -244,10 +245,8 @@ fn explore_pairs(
 ) -> Paired
     requires { ⌜ PairRows (now ends) (now kept) r (take n (now pairs)) × PairsNumbered (now pairs) (now index) n
         × (transitionsBytes ≤ length (now table)) ⌝ }
-    ensures { λ met. ⌜ AddsRows
-        (exploreN (now (ends .entry)) (now (kept .entry)) r maxStates 0 0 (take n (now (pairs .entry))))
-        (λ done codes. records (rowN (now (ends .entry)) (now (kept .entry)) r codes) done)
-        (now (table .entry)) 0 met (now (pairs .exit)) (now (index .exit)) (now (table .exit)) ⌝ }
+    ensures { λ met. ⌜ WalksPairs (now (ends .entry)) (now (kept .entry)) r n (now (pairs .entry)) (now (table .entry))
+        met (now (pairs .exit)) (now (index .exit)) (now (table .exit)) ⌝ }
 {
     let mut m = 0;
     let mut k = n;
@@ -366,8 +365,9 @@ fn refuse(
     transitions: &mut [u8],
     initial: &mut [u8],
 ) -> Translated
-    ensures { λ r. ⌜ outcome (translateAnswer r) (now (states .exit)) (now (transitions .exit)) (now (initial .exit))
-        ≡ stored (refused number place) (now (states .entry)) (now (transitions .entry)) (now (initial .entry)) ⌝ }
+    ensures { λ r. ⌜ Leaves (refused number place) r
+        (now (states .entry)) (now (transitions .entry)) (now (initial .entry))
+        (now (states .exit)) (now (transitions .exit)) (now (initial .exit)) ⌝ }
 {
     zero(states);
     zero(transitions);
@@ -388,9 +388,9 @@ fn degeneralize(
 ) -> Translated
     requires { ⌜ (sizesChecked (now rule) ≡ fine) × FirstWalk (now rule) first (now kept) (now ends)
         × TablesRoom (now states) (now transitions) (now initial) ⌝ }
-    ensures { λ r. ⌜ outcome (translateAnswer r) (now (states .exit)) (now (transitions .exit)) (now (initial .exit))
-        ≡ stored (translation (now (rule .entry))) (now (states .entry)) (now (transitions .entry))
-        (now (initial .entry)) ⌝ }
+    ensures { λ r. ⌜ Builds (now (rule .entry)) r
+        (now (states .entry)) (now (transitions .entry)) (now (initial .entry))
+        (now (states .exit)) (now (transitions .exit)) (now (initial .exit)) ⌝ }
 {
     let untils = acceptance::untils_of(rule);
     let r = untils.count;
@@ -419,9 +419,9 @@ fn build(
 ) -> Translated
     requires { ⌜ (Rule.checked (now rule) ≡ fine) × TableRoom (now rule) (now table)
         × TablesRoom (now states) (now transitions) (now initial) ⌝ }
-    ensures { λ r. ⌜ outcome (translateAnswer r) (now (states .exit)) (now (transitions .exit)) (now (initial .exit))
-        ≡ stored (translation (now (rule .entry))) (now (states .entry)) (now (transitions .entry))
-        (now (initial .entry)) ⌝ }
+    ensures { λ r. ⌜ Builds (now (rule .entry)) r
+        (now (states .entry)) (now (transitions .entry)) (now (initial .entry))
+        (now (states .exit)) (now (transitions .exit)) (now (initial .exit)) ⌝ }
 {
     let sizes = term::tabulate(rule, table);
     if let Checked::Refused(number, place) = sizes {
@@ -453,9 +453,9 @@ fn build_tabled(
     initial: &mut [u8],
 ) -> Translated
     requires { ⌜ (Rule.checked (now rule) ≡ fine) × TablesRoom (now states) (now transitions) (now initial) ⌝ }
-    ensures { λ r. ⌜ outcome (translateAnswer r) (now (states .exit)) (now (transitions .exit)) (now (initial .exit))
-        ≡ stored (translation (now (rule .entry))) (now (states .entry)) (now (transitions .entry))
-        (now (initial .entry)) ⌝ }
+    ensures { λ r. ⌜ Builds (now (rule .entry)) r
+        (now (states .entry)) (now (transitions .entry)) (now (initial .entry))
+        (now (states .exit)) (now (transitions .exit)) (now (initial .exit)) ⌝ }
 {
     if rule.len() / 3 <= FEW_NODES {
         let mut few = [0u64; FEW_NODES * term::ROW_PLACES];

@@ -63,17 +63,5 @@ returns c = fill-ends _ _ _ _ _ (c .before .loop .i) (c .loop-test .left) (c .be
 pub fulfil-spec : {M : Type 1} → statement M
 fulfil-spec =
     tie.close
-    (tie.spec
-    Inv-loop
-    μ-loop
-    loop-holds
-    (λ c. search needs)
-    (λ c. search needs)
-    (λ c. search needs)
-    fulfilment-requires
-    (λ c. search needs)
-    (λ c. search needs)
-    (λ c. search needs)
-    loop-again
-    same-length
-    returns)
+    (tie.spec Inv-loop μ-loop loop-holds (λ c. search needs) (λ c. search needs) (λ c. search needs)
+    fulfilment-requires (λ c. search needs) (λ c. search needs) (λ c. search needs) loop-again same-length returns)

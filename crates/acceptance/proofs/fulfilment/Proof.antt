@@ -110,15 +110,5 @@ returns c =
 pub fulfilment-spec : {M : Type 1} → statement M
 fulfilment-spec =
     tie.close
-    (tie.spec
-    Inv-loop
-    μ-loop
-    loop-holds
-    mul-fulfils-node
-    shared-slice-read-fulfils-node
-    fulfils-node-requires
-    with-bit-requires
-    (λ c. search needs)
-    (λ c. search needs)
-    loop-again
-    returns)
+    (tie.spec Inv-loop μ-loop loop-holds mul-fulfils-node shared-slice-read-fulfils-node fulfils-node-requires
+    with-bit-requires (λ c. search needs) (λ c. search needs) loop-again returns)

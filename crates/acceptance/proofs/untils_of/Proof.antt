@@ -36,14 +36,5 @@ returns c =
 pub untils-of-spec : {M : Type 1} → statement M
 untils-of-spec =
     tie.close
-    (tie.spec
-    Inv-loop
-    μ-loop
-    loop-holds
-    (λ c κs. search needs)
-    (λ c. search needs)
-    add-until-requires
-    (λ c. search needs)
-    (λ c. search needs)
-    loop-again
-    returns)
+    (tie.spec Inv-loop μ-loop loop-holds (λ c κs. search needs) (λ c. search needs) add-until-requires
+    (λ c. search needs) (λ c. search needs) loop-again returns)

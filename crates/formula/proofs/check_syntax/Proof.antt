@@ -35,13 +35,5 @@ returns-5 c =
 pub check-syntax-spec : {M : Type 1} → statement M
 check-syntax-spec =
     tie.close
-    (tie.spec
-    returns
-    returns-2
-    returns-3
-    (λ c κs. search needs)
-    (λ c. search needs)
-    returns-4
-    (λ c. search needs)
-    check-places-requires
-    returns-5)
+    (tie.spec returns returns-2 returns-3 (λ c κs. search needs) (λ c. search needs) returns-4 (λ c. search needs)
+    check-places-requires returns-5)

@@ -42,11 +42,5 @@ returns-2 c = λ k. rw (no-child (c .before .args .operand) _ k (c .match .keys2
 pub count-child-spec : {M : Type 1} → statement M
 count-child-spec =
     tie.close
-    (tie.spec
-    (λ c. search needs)
-    slice-read-counts
-    add-counts
-    slice-write-counts
-    (λ c. search needs)
-    returns
+    (tie.spec (λ c. search needs) slice-read-counts add-counts slice-write-counts (λ c. search needs) returns
     returns-2)

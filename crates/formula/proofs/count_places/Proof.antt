@@ -59,20 +59,6 @@ returns c = count-ends _ _ _ (c .before .loop .i) (omega arith) (c .before .loop
 pub count-places-spec : {M : Type 1} → statement M
 count-places-spec =
     tie.close
-    (tie.spec
-    Inv-loop
-    μ-loop
-    loop-holds
-    (λ c κs. search needs)
-    (λ c. search needs)
-    (λ c κs. search needs)
-    (λ c κs. search needs)
-    count-child-requires
-    (λ c. search needs)
-    (λ c κs. search needs)
-    (λ c κs. search needs)
-    count-child-requires-2
-    (λ c. search needs)
-    (λ c. search needs)
-    loop-again
-    returns)
+    (tie.spec Inv-loop μ-loop loop-holds (λ c κs. search needs) (λ c. search needs) (λ c κs. search needs)
+    (λ c κs. search needs) count-child-requires (λ c. search needs) (λ c κs. search needs) (λ c κs. search needs)
+    count-child-requires-2 (λ c. search needs) (λ c. search needs) loop-again returns)

@@ -32,14 +32,5 @@ returns c = untils-end _ _ _ (c .before .loop .i) (omega arith) (c .before .loop
 pub count-untils-spec : {M : Type 1} → statement M
 count-untils-spec =
     tie.close
-    (tie.spec
-    Inv-loop
-    μ-loop
-    loop-holds
-    (λ c κs. search needs)
-    (λ c κs. search needs)
-    add-count
-    (λ c. search needs)
-    (λ c. search needs)
-    loop-again
-    returns)
+    (tie.spec Inv-loop μ-loop loop-holds (λ c κs. search needs) (λ c κs. search needs) add-count (λ c. search needs)
+    (λ c. search needs) loop-again returns)

@@ -88,38 +88,9 @@ returns-3 c = walk-ends (c .before .before .before .loop .inv .0) (c .if1 .left)
 pub walk-spec : {M : Type 1} → statement M
 walk-spec =
     tie.close
-    (tie.spec
-    Inv-loop
-    μ-loop
-    untils-of-requires
-    start-requires
-    loop-holds
-    (λ c. search needs)
-    (λ c. search needs)
-    slice-aggregate-state-terms
-    slice-aggregate-state-terms-2
-    state-terms-requires
-    (λ c. search needs)
-    (λ c. search needs)
-    (λ c. search needs)
-    returns
-    (λ c. search needs)
-    slice-aggregate-fulfil-2
-    fulfil-requires
-    (λ c. search needs)
-    (λ c. search needs)
-    meet-all-requires
-    (λ c. search needs)
-    put-end-requires
-    add-t46
-    loop-less
-    loop-again
-    (λ c. search needs)
-    same-length-4
-    same-length-5
-    same-length-6
-    returns-2
-    (λ c. search needs)
-    (λ c. search needs)
-    (λ c. search needs)
-    returns-3)
+    (tie.spec Inv-loop μ-loop untils-of-requires start-requires loop-holds (λ c. search needs) (λ c. search needs)
+    slice-aggregate-state-terms slice-aggregate-state-terms-2 state-terms-requires (λ c. search needs)
+    (λ c. search needs) (λ c. search needs) returns (λ c. search needs) slice-aggregate-fulfil-2 fulfil-requires
+    (λ c. search needs) (λ c. search needs) meet-all-requires (λ c. search needs) put-end-requires add-t46 loop-less
+    loop-again (λ c. search needs) same-length-4 same-length-5 same-length-6 returns-2 (λ c. search needs)
+    (λ c. search needs) (λ c. search needs) returns-3)

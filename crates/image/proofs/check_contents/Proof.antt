@@ -82,22 +82,6 @@ returns-6 c =
 pub check-contents-spec : {M : Type 1} → statement M
 check-contents-spec =
     tie.close
-    (tie.spec
-    returns
-    (λ c κs. search needs)
-    returns-2
-    (λ c κs. search needs)
-    (λ c κs. search needs)
-    (λ c κs. search needs)
-    (λ c κs. search needs)
-    returns-3
-    mul-transitions-at
-    add-transitions-at
-    mul-initial-at
-    add-initial-at
-    (λ c κs. search needs)
-    returns-4
-    mul-if5
-    add-if5
-    returns-5
-    returns-6)
+    (tie.spec returns (λ c κs. search needs) returns-2 (λ c κs. search needs) (λ c κs. search needs)
+    (λ c κs. search needs) (λ c κs. search needs) returns-3 mul-transitions-at add-transitions-at mul-initial-at
+    add-initial-at (λ c κs. search needs) returns-4 mul-if5 add-if5 returns-5 returns-6)

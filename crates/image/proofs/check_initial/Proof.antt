@@ -38,16 +38,5 @@ returns-3 c = pass-ends _ _ (c .before .loop .i) (omega arith) (c .before .loop 
 pub check-initial-spec : {M : Type 1} → statement M
 check-initial-spec =
     tie.close
-    (tie.spec
-    Inv-loop
-    μ-loop
-    loop-holds
-    (λ c. search needs)
-    (λ c κs. search needs)
-    returns
-    returns-2
-    (λ c. search needs)
-    (λ c. search needs)
-    (λ c. search needs)
-    loop-again
-    returns-3)
+    (tie.spec Inv-loop μ-loop loop-holds (λ c. search needs) (λ c κs. search needs) returns returns-2
+    (λ c. search needs) (λ c. search needs) (λ c. search needs) loop-again returns-3)

@@ -21,14 +21,5 @@ returns-4 c = state-fits _ _ (omega arith) (omega arith) (omega arith) (omega ar
 pub check-state-spec : {M : Type 1} → statement M
 check-state-spec =
     tie.close
-    (tie.spec
-    (λ c. search needs)
-    (λ c κs. search needs)
-    returns
-    (λ c. search needs)
-    (λ c. search needs)
-    returns-2
-    (λ c. search needs)
-    (λ c. search needs)
-    returns-3
-    returns-4)
+    (tie.spec (λ c. search needs) (λ c κs. search needs) returns (λ c. search needs) (λ c. search needs) returns-2
+    (λ c. search needs) (λ c. search needs) returns-3 returns-4)

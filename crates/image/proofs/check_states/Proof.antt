@@ -47,17 +47,5 @@ returns-3 c =
 pub check-states-spec : {M : Type 1} → statement M
 check-states-spec =
     tie.close
-    (tie.spec
-    Inv-loop
-    μ-loop
-    loop-holds
-    (λ c κs. search needs)
-    (λ c. search needs)
-    (λ c. search needs)
-    returns
-    add-total
-    (λ c. search needs)
-    (λ c. search needs)
-    loop-again
-    returns-2
-    returns-3)
+    (tie.spec Inv-loop μ-loop loop-holds (λ c κs. search needs) (λ c. search needs) (λ c. search needs) returns
+    add-total (λ c. search needs) (λ c. search needs) loop-again returns-2 returns-3)

@@ -71,16 +71,5 @@ returns-5 c =
 pub write-spec : {M : Type 1} → statement M
 write-spec =
     tie.close
-    (tie.spec
-    (λ c κs. search needs)
-    returns
-    returns-2
-    (λ c κs. search needs)
-    returns-3
-    check-records-requires
-    (λ c. search needs)
-    returns-4
-    (λ c. search needs)
-    write-image-requires
-    (λ c. search needs)
-    returns-5)
+    (tie.spec (λ c κs. search needs) returns returns-2 (λ c κs. search needs) returns-3 check-records-requires
+    (λ c. search needs) returns-4 (λ c. search needs) write-image-requires (λ c. search needs) returns-5)

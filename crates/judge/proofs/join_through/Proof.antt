@@ -39,13 +39,5 @@ returns c =
 pub join-through-spec : {M : Type 1} → statement M
 join-through-spec =
     tie.close
-    (tie.spec
-    Inv-loop
-    μ-loop
-    (λ c κs. search needs)
-    loop-holds
-    join-state-requires
-    (λ c. search needs)
-    (λ c. search needs)
-    loop-again
-    returns)
+    (tie.spec Inv-loop μ-loop (λ c κs. search needs) loop-holds join-state-requires (λ c. search needs)
+    (λ c. search needs) loop-again returns)

@@ -29,13 +29,5 @@ returns-3 c = image-judged _ _ _ _ (omega arith) (sym (ap readAnswer (c .before 
 pub judge-spec : {M : Type 1} → statement M
 judge-spec =
     tie.close
-    (tie.spec
-    returns
-    (λ c κs. search needs)
-    (λ c. search needs)
-    returns-2
-    (λ c. search needs)
-    number-at-requires
-    judge-lasso-requires
-    (λ c. search needs)
-    returns-3)
+    (tie.spec returns (λ c κs. search needs) (λ c. search needs) returns-2 (λ c. search needs) number-at-requires
+    judge-lasso-requires (λ c. search needs) returns-3)

@@ -36,14 +36,5 @@ returns-3 c =
 pub judge-lasso-spec : {M : Type 1} → statement M
 judge-lasso-spec =
     tie.close
-    (tie.spec
-    (λ c κs. search needs)
-    (λ c. search needs)
-    returns
-    (λ c. search needs)
-    search-requires
-    (λ c κs. search needs)
-    (λ c. search needs)
-    returns-2
-    (λ c. search needs)
-    returns-3)
+    (tie.spec (λ c κs. search needs) (λ c. search needs) returns (λ c. search needs) search-requires
+    (λ c κs. search needs) (λ c. search needs) returns-2 (λ c. search needs) returns-3)

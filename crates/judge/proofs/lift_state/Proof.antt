@@ -15,13 +15,5 @@ returns-2 c = adds-if (c .before .before .before .if1 .left) (ored-met _ _ _ _ _
 pub lift-state-spec : {M : Type 1} → statement M
 lift-state-spec =
     tie.close
-    (tie.spec
-    (λ c. search needs)
-    (λ c. search needs)
-    (λ c. search needs)
-    returns
-    (λ c. search needs)
-    (λ c. search needs)
-    (λ c. search needs)
-    (λ c κs. search needs)
-    returns-2)
+    (tie.spec (λ c. search needs) (λ c. search needs) (λ c. search needs) returns (λ c. search needs)
+    (λ c. search needs) (λ c. search needs) (λ c κs. search needs) returns-2)

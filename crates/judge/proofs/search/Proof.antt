@@ -83,15 +83,5 @@ returns-4 c =
 pub search-spec : {M : Type 1} → statement M
 search-spec =
     tie.close
-    (tie.spec
-    (λ c κs. search needs)
-    returns
-    (λ c κs. search needs)
-    run-requires
-    returns-2
-    (λ c κs. search needs)
-    run-requires-2
-    returns-3
-    close-requires
-    (λ c κs. search needs)
-    returns-4)
+    (tie.spec (λ c κs. search needs) returns (λ c κs. search needs) run-requires returns-2 (λ c κs. search needs)
+    run-requires-2 returns-3 close-requires (λ c κs. search needs) returns-4)

@@ -32,13 +32,5 @@ returns-2 c = miss-ends _ _ (c .before .loop .q) (omega arith) (c .before .loop 
 pub some-started-spec : {M : Type 1} → statement M
 some-started-spec =
     tie.close
-    (tie.spec
-    Inv-loop
-    μ-loop
-    loop-holds
-    (λ c κs. search needs)
-    returns
-    (λ c. search needs)
-    (λ c. search needs)
-    loop-again
-    returns-2)
+    (tie.spec Inv-loop μ-loop loop-holds (λ c κs. search needs) returns (λ c. search needs) (λ c. search needs)
+    loop-again returns-2)

@@ -38,13 +38,5 @@ returns-2 c = (next (c .before .before .before .before), c .take-transitions .en
 pub step-state-spec : {M : Type 1} → statement M
 step-state-spec =
     tie.close
-    (tie.spec
-    (λ c. search needs)
-    (λ c. search needs)
-    (λ c κs. search needs)
-    mul-end
-    add-end
-    (λ c κs. search needs)
-    returns
-    (λ c κs. search needs)
-    returns-2)
+    (tie.spec (λ c. search needs) (λ c. search needs) (λ c κs. search needs) mul-end add-end (λ c κs. search needs)
+    returns (λ c κs. search needs) returns-2)

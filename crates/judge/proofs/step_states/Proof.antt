@@ -38,14 +38,5 @@ returns c = gather-ends _ _ _ _ (c .before .loop .q) (omega arith) (c .before .l
 pub step-states-spec : {M : Type 1} → statement M
 step-states-spec =
     tie.close
-    (tie.spec
-    Inv-loop
-    μ-loop
-    (λ c. search needs)
-    (λ c. search needs)
-    loop-holds
-    step-state-requires
-    (λ c. search needs)
-    (λ c. search needs)
-    loop-again
-    returns)
+    (tie.spec Inv-loop μ-loop (λ c. search needs) (λ c. search needs) loop-holds step-state-requires
+    (λ c. search needs) (λ c. search needs) loop-again returns)

@@ -51,14 +51,5 @@ returns c =
 pub take-transitions-spec : {M : Type 1} → statement M
 take-transitions-spec =
     tie.close
-    (tie.spec
-    Inv-loop
-    μ-loop
-    loop-holds
-    mul-take-transition
-    add-take-transition
-    take-transition-requires
-    (λ c. search needs)
-    (λ c. search needs)
-    loop-again
-    returns)
+    (tie.spec Inv-loop μ-loop loop-holds mul-take-transition add-take-transition take-transition-requires
+    (λ c. search needs) (λ c. search needs) loop-again returns)

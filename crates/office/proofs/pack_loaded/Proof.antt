@@ -18,10 +18,5 @@ returns-2 c = c .pack-refusal .ensures ∙ sym (ap packCounts (ap readAnswer (c 
 pub pack-loaded-spec : {M : Type 1} → statement M
 pack-loaded-spec =
     tie.close
-    (tie.spec
-    (λ c. search needs)
-    (λ c κs. search needs)
-    (λ c. search needs)
-    (λ c κs. search needs)
-    returns
+    (tie.spec (λ c. search needs) (λ c κs. search needs) (λ c. search needs) (λ c κs. search needs) returns
     returns-2)

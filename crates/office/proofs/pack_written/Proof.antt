@@ -18,10 +18,5 @@ returns-2 c = c .pack-refusal .ensures ∙ sym (ap packLength (ap writeAnswer (c
 pub pack-written-spec : {M : Type 1} → statement M
 pack-written-spec =
     tie.close
-    (tie.spec
-    (λ c. search needs)
-    (λ c κs. search needs)
-    (λ c. search needs)
-    (λ c κs. search needs)
-    returns
+    (tie.spec (λ c. search needs) (λ c κs. search needs) (λ c. search needs) (λ c κs. search needs) returns
     returns-2)

@@ -63,21 +63,6 @@ returns-4 c =
 pub insert-spec : {M : Type 1} → statement M
 insert-spec =
     tie.close
-    (tie.spec
-    Inv-loop
-    μ-loop
-    returns
-    loop-holds
-    (λ c. search needs)
-    (λ c. search needs)
-    (λ c κs. search needs)
-    same-length
-    returns-2
-    same-length-2
-    returns-3
-    (λ c. search needs)
-    (λ c. search needs)
-    loop-again
-    (λ c κs. search needs)
-    same-length-3
-    returns-4)
+    (tie.spec Inv-loop μ-loop returns loop-holds (λ c. search needs) (λ c. search needs) (λ c κs. search needs)
+    same-length returns-2 same-length-2 returns-3 (λ c. search needs) (λ c. search needs) loop-again
+    (λ c κs. search needs) same-length-3 returns-4)

@@ -50,12 +50,5 @@ returns-4 c =
 pub check-size-spec : {M : Type 1} → statement M
 check-size-spec =
     tie.close
-    (tie.spec
-    mul-terms
-    mul-terms-2
-    shared-slice-read-terms
-    returns
-    returns-2
-    (λ c κs. search needs)
-    returns-3
+    (tie.spec mul-terms mul-terms-2 shared-slice-read-terms returns returns-2 (λ c κs. search needs) returns-3
     returns-4)

@@ -80,18 +80,6 @@ returns-2 c = pass-ends _ _ (c .before .loop .i) (omega arith) (c .before .loop 
 pub check-sizes-spec : {M : Type 1} → statement M
 check-sizes-spec =
     tie.close
-    (tie.spec
-    Inv-loop
-    μ-loop
-    loop-holds
-    cover-bound-requires
-    (λ c. search needs)
-    (λ c. search needs)
-    check-size-requires
-    (λ c. search needs)
-    returns
-    (λ c. search needs)
-    (λ c. search needs)
-    (λ c. search needs)
-    loop-again
-    returns-2)
+    (tie.spec Inv-loop μ-loop loop-holds cover-bound-requires (λ c. search needs) (λ c. search needs)
+    check-size-requires (λ c. search needs) returns (λ c. search needs) (λ c. search needs) (λ c. search needs)
+    loop-again returns-2)

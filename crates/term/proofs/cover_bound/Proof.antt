@@ -73,14 +73,5 @@ returns-2 c =
 pub cover-bound-spec : {M : Type 1} → statement M
 cover-bound-spec =
     tie.close
-    (tie.spec
-    (λ c κs. search needs)
-    returns
-    (λ c κs. search needs)
-    mul-a
-    element-copy-out-a
-    (λ c κs. search needs)
-    mul-b
-    element-copy-out-b
-    bound-pair-requires
-    returns-2)
+    (tie.spec (λ c κs. search needs) returns (λ c κs. search needs) mul-a element-copy-out-a (λ c κs. search needs)
+    mul-b element-copy-out-b bound-pair-requires returns-2)

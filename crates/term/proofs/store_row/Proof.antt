@@ -32,17 +32,6 @@ same-length-2 c = returns-2 c .size
 pub store-row-spec : {M : Type 1} → statement M
 store-row-spec =
     tie.close
-    (tie.spec
-    (λ c. search needs)
-    (λ c. search needs)
-    (λ c. search needs)
-    (λ c. search needs)
-    returns
-    (λ c. search needs)
-    (λ c. search needs)
-    sub-copy-words
-    part-copy-words-start
-    (λ c. search needs)
-    copy-words-requires
-    same-length-2
-    returns-2)
+    (tie.spec (λ c. search needs) (λ c. search needs) (λ c. search needs) (λ c. search needs) returns
+    (λ c. search needs) (λ c. search needs) sub-copy-words part-copy-words-start (λ c. search needs)
+    copy-words-requires same-length-2 returns-2)

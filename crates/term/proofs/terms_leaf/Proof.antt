@@ -42,15 +42,5 @@ returns-4 c = λ n f g.
 pub terms-leaf-spec : {M : Type 1} → statement M
 terms-leaf-spec =
     tie.close
-    (tie.spec
-    (λ c κs. search needs)
-    returns
-    (λ c κs. search needs)
-    returns-2
-    bit-requires
-    mul-one
-    (λ c κs. search needs)
-    returns-3
-    bit-requires-2
-    (λ c κs. search needs)
-    returns-4)
+    (tie.spec (λ c κs. search needs) returns (λ c κs. search needs) returns-2 bit-requires mul-one
+    (λ c κs. search needs) returns-3 bit-requires-2 (λ c κs. search needs) returns-4)

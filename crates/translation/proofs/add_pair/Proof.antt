@@ -11,12 +11,5 @@ returns c = (number-more _ _ _ (c .pre .0) _ (c .pre .2) (c .pre .1) (c .pre .3)
 pub add-pair-spec : {M : Type 1} → statement M
 add-pair-spec =
     tie.close
-    (tie.spec
-    (λ c. search needs)
-    (λ c. search needs)
-    (λ c. search needs)
-    (λ c. search needs)
-    (λ c. search needs)
-    (λ c. search needs)
-    (λ c. search needs)
-    returns)
+    (tie.spec (λ c. search needs) (λ c. search needs) (λ c. search needs) (λ c. search needs) (λ c. search needs)
+    (λ c. search needs) (λ c. search needs) returns)

@@ -14,16 +14,6 @@ build-requires-2 c κs =
 pub build-tabled-spec : {M : Type 1} → statement M
 build-tabled-spec =
     tie.close
-    (tie.spec
-    (λ c. search needs)
-    (λ c κs. search needs)
-    (λ c. search needs)
-    (λ c. search needs)
-    (λ c. search needs)
-    (λ c. search needs)
-    (λ c. search needs)
-    build-requires-2
-    (λ c. search needs)
-    (λ c. search needs)
-    (λ c. search needs)
-    (λ c. search needs))
+    (tie.spec (λ c. search needs) (λ c κs. search needs) (λ c. search needs) (λ c. search needs) (λ c. search needs)
+    (λ c. search needs) (λ c. search needs) build-requires-2 (λ c. search needs) (λ c. search needs)
+    (λ c. search needs) (λ c. search needs))

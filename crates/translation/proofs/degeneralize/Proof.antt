@@ -57,28 +57,8 @@ returns-2 c = written-is (begun (c .before .before .before .before .before .befo
 pub degeneralize-spec : {M : Type 1} → statement M
 degeneralize-spec =
     tie.close
-    (tie.spec
-    untils-of-requires
-    (λ c. search needs)
-    (λ c. search needs)
-    start-pairs-requires
-    (λ c. search needs)
-    (λ c. search needs)
-    explore-pairs-requires
-    (λ c. search needs)
-    (λ c κs. search needs)
-    (λ c. search needs)
-    array-share-prefix-pairs
-    slice-aggregate-write-states
-    write-states-requires
-    mul-zero-behind
-    zero-behind-requires
-    write-initial-requires
-    (λ c. search needs)
-    (λ c. search needs)
-    (λ c. search needs)
-    returns
-    (λ c. search needs)
-    (λ c. search needs)
-    (λ c. search needs)
-    returns-2)
+    (tie.spec untils-of-requires (λ c. search needs) (λ c. search needs) start-pairs-requires (λ c. search needs)
+    (λ c. search needs) explore-pairs-requires (λ c. search needs) (λ c κs. search needs) (λ c. search needs)
+    array-share-prefix-pairs slice-aggregate-write-states write-states-requires mul-zero-behind zero-behind-requires
+    write-initial-requires (λ c. search needs) (λ c. search needs) (λ c. search needs) returns (λ c. search needs)
+    (λ c. search needs) (λ c. search needs) returns-2)

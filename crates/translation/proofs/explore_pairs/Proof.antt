@@ -85,32 +85,7 @@ returns-2 c = pairing-ends _ _ _ _ _ _ _ _ _ _ _ (c .before .before .before .bef
 pub explore-pairs-spec : {M : Type 1} → statement M
 explore-pairs-spec =
     tie.close
-    (tie.spec
-    Inv-loop
-    μ-loop
-    loop-holds
-    mul-code
-    slice-read-code
-    (λ c κs. search needs)
-    row-start-requires
-    (λ c κs. search needs)
-    row-end-requires
-    mul-meet-row
-    sub-meet-row
-    part-meet-row-start
-    part-meet-row-end
-    (λ c κs. search needs)
-    meet-row-requires
-    (λ c. search needs)
-    (λ c. search needs)
-    same-length
-    same-length-2
-    same-length-3
-    returns
-    add-pair
-    loop-less
-    loop-again
-    same-length-4
-    same-length-5
-    same-length-6
-    returns-2)
+    (tie.spec Inv-loop μ-loop loop-holds mul-code slice-read-code (λ c κs. search needs) row-start-requires
+    (λ c κs. search needs) row-end-requires mul-meet-row sub-meet-row part-meet-row-start part-meet-row-end
+    (λ c κs. search needs) meet-row-requires (λ c. search needs) (λ c. search needs) same-length same-length-2
+    same-length-3 returns add-pair loop-less loop-again same-length-4 same-length-5 same-length-6 returns-2)

@@ -21,14 +21,5 @@ returns-3 c = met-next _ _ _ _ (c .before .before .before .before .before .befor
 pub meet-pair-spec : {M : Type 1} → statement M
 meet-pair-spec =
     tie.close
-    (tie.spec
-    (λ c. search needs)
-    (λ c κs. search needs)
-    (λ c. search needs)
-    returns
-    returns-2
-    add-pair-requires
-    (λ c. search needs)
-    (λ c. search needs)
-    (λ c. search needs)
-    returns-3)
+    (tie.spec (λ c. search needs) (λ c κs. search needs) (λ c. search needs) returns returns-2 add-pair-requires
+    (λ c. search needs) (λ c. search needs) (λ c. search needs) returns-3)

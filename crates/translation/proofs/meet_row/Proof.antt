@@ -61,27 +61,7 @@ returns-2 c = meeting-ends _ _ _ _ _ _ _ _ _ _ _ _ (c .before .loop .inv) (c .be
 pub meet-row-spec : {M : Type 1} → statement M
 meet-row-spec =
     tie.close
-    (tie.spec
-    Inv-loop
-    μ-loop
-    loop-holds
-    (λ c. search needs)
-    (λ c. search needs)
-    target-requires
-    meet-pair-requires
-    (λ c. search needs)
-    (λ c. search needs)
-    same-length
-    same-length-2
-    same-length-3
-    returns
-    (λ c. search needs)
-    put-transition-requires
-    (λ c. search needs)
-    (λ c. search needs)
-    loop-again
-    (λ c. search needs)
-    same-length-4
-    same-length-5
-    same-length-6
-    returns-2)
+    (tie.spec Inv-loop μ-loop loop-holds (λ c. search needs) (λ c. search needs) target-requires meet-pair-requires
+    (λ c. search needs) (λ c. search needs) same-length same-length-2 same-length-3 returns (λ c. search needs)
+    put-transition-requires (λ c. search needs) (λ c. search needs) loop-again (λ c. search needs) same-length-4
+    same-length-5 same-length-6 returns-2)

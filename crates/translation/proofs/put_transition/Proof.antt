@@ -24,14 +24,5 @@ returns c = transition-stores (c .before .before .before .before .before .before
 pub put-transition-spec : {M : Type 1} → statement M
 put-transition-spec =
     tie.close
-    (tie.spec
-    (λ c. search needs)
-    (λ c κs. search needs)
-    (λ c. search needs)
-    (λ c κs. search needs)
-    (λ c. search needs)
-    slice-write-table-2
-    (λ c. search needs)
-    put-number-requires
-    same-length
-    returns)
+    (tie.spec (λ c. search needs) (λ c κs. search needs) (λ c. search needs) (λ c κs. search needs)
+    (λ c. search needs) slice-write-table-2 (λ c. search needs) put-number-requires same-length returns)

@@ -35,15 +35,5 @@ returns c = start-ends _ _ _ _ (c .before .loop .inv) (c .loop-test .left)
 pub start-pairs-spec : {M : Type 1} → statement M
 start-pairs-spec =
     tie.close
-    (tie.spec
-    Inv-loop
-    μ-loop
-    loop-holds
-    (λ c κs. search needs)
-    add-pair-requires
-    (λ c. search needs)
-    (λ c. search needs)
-    loop-again
-    same-length
-    same-length-2
-    returns)
+    (tie.spec Inv-loop μ-loop loop-holds (λ c κs. search needs) add-pair-requires (λ c. search needs)
+    (λ c. search needs) loop-again same-length same-length-2 returns)

@@ -15,9 +15,4 @@ returns c = c .code-of .ensures ∙ rw (c .before .before .before .target-of .en
 pub target-spec : {M : Type 1} → statement M
 target-spec =
     tie.close
-    (tie.spec
-    (λ c κs. search needs)
-    (λ c κs. search needs)
-    (λ c κs. search needs)
-    code-of-requires
-    returns)
+    (tie.spec (λ c κs. search needs) (λ c κs. search needs) (λ c κs. search needs) code-of-requires returns)

@@ -33,16 +33,5 @@ returns-5 c = built _ _ _ _ (c .before .before .before .before .before .before .
 pub translate-spec : {M : Type 1} → statement M
 translate-spec =
     tie.close
-    (tie.spec
-    returns
-    returns-2
-    returns-3
-    (λ c κs. search needs)
-    (λ c. search needs)
-    returns-4
-    (λ c. search needs)
-    build-tabled-requires
-    (λ c. search needs)
-    (λ c. search needs)
-    (λ c. search needs)
-    returns-5)
+    (tie.spec returns returns-2 returns-3 (λ c κs. search needs) (λ c. search needs) returns-4 (λ c. search needs)
+    build-tabled-requires (λ c. search needs) (λ c. search needs) (λ c. search needs) returns-5)

@@ -35,15 +35,5 @@ returns c = initials-end _ _ _ _ _ (c .before .before .before .before .loop-test
 pub write-initial-spec : {M : Type 1} → statement M
 write-initial-spec =
     tie.close
-    (tie.spec
-    Inv-loop
-    μ-loop
-    loop-holds
-    put-initial-requires
-    (λ c. search needs)
-    (λ c. search needs)
-    loop-again
-    (λ c. search needs)
-    zero-behind-requires
-    same-length
-    returns)
+    (tie.spec Inv-loop μ-loop loop-holds put-initial-requires (λ c. search needs) (λ c. search needs) loop-again
+    (λ c. search needs) zero-behind-requires same-length returns)

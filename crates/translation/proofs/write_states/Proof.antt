@@ -50,23 +50,7 @@ returns c = states-end _ _ _ _ _ _ (c .before .before .before .before .before .b
 pub write-states-spec : {M : Type 1} → statement M
 write-states-spec =
     tie.close
-    (tie.spec
-    Inv-loop
-    μ-loop
-    loop-holds
-    (λ c. search needs)
-    (λ c. search needs)
-    (λ c κs. search needs)
-    row-start-requires
-    (λ c κs. search needs)
-    row-end-requires
-    sub-put-state
-    (λ c κs. search needs)
-    put-state-requires
-    (λ c. search needs)
-    (λ c. search needs)
-    loop-again
-    mul-zero-behind
-    zero-behind-requires
-    same-length
-    returns)
+    (tie.spec Inv-loop μ-loop loop-holds (λ c. search needs) (λ c. search needs) (λ c κs. search needs)
+    row-start-requires (λ c κs. search needs) row-end-requires sub-put-state (λ c κs. search needs)
+    put-state-requires (λ c. search needs) (λ c. search needs) loop-again mul-zero-behind zero-behind-requires
+    same-length returns)

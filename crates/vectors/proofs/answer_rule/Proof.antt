@@ -15,15 +15,6 @@ slice-aggregate-show-rule c = simp length-take (omega arith)
 pub answer-rule-spec : {M : Type 1} → statement M
 answer-rule-spec =
     tie.close
-    (tie.spec
-    (λ c. search needs)
-    (λ c. search needs)
-    slice-aggregate-read-full
-    (λ c κs. search needs)
-    (λ c. search needs)
-    (λ c. search needs)
-    (λ c. search needs)
-    slice-aggregate-show-rule
-    (λ c κs. search needs)
-    (λ c. search needs)
-    (λ c. search needs))
+    (tie.spec (λ c. search needs) (λ c. search needs) slice-aggregate-read-full (λ c κs. search needs)
+    (λ c. search needs) (λ c. search needs) (λ c. search needs) slice-aggregate-show-rule (λ c κs. search needs)
+    (λ c. search needs) (λ c. search needs))
