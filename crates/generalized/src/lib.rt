@@ -64,34 +64,34 @@ pub enum Walked {
 }
 
 // A transition for the table: the number of its target, the untils that it fulfils, and the letters of t.
-fn keep(target: usize, untils: u8, t: u64) -> u64
+fn keep(target: usize, untils: u8, t: u64) -> u32
     requires { ⌜ target < maxGeneralizedStates ⌝ }
     ensures { λ r. ⌜ r ≡ keptN target untils (unpack t .must) (unpack t .mustNot) ⌝ }
 {
-    (target as u64 * 256 + untils as u64) * 65536 + t % 65536
+    (target as u32 * 256 + untils as u32) * 65536 + (t % 65536) as u32
 }
 
 // The parts of a transition in the table: the state that it leads to, the untils that it fulfils, a bit each, and the
 // propositions that a letter must have and must not have.
-pub fn target_of(x: u64) -> GeneralizedNumber
+pub fn target_of(x: u32) -> GeneralizedNumber
     ensures { λ s. ⌜ s .0 ≡ keptTarget x ⌝ }
 {
     GeneralizedNumber((x / 16777216) as usize)
 }
 
-pub fn fulfilled_by(x: u64) -> u64
+pub fn fulfilled_by(x: u32) -> u64
     ensures { λ r. ⌜ r ≡ keptUntils x ⌝ }
 {
-    x / 65536 % 256
+    (x / 65536 % 256) as u64
 }
 
-pub fn must_of(x: u64) -> u8
+pub fn must_of(x: u32) -> u8
     ensures { λ r. ⌜ r ≡ keptMust x ⌝ }
 {
     (x / 256 % 256) as u8
 }
 
-pub fn must_not_of(x: u64) -> u8
+pub fn must_not_of(x: u32) -> u8
     ensures { λ r. ⌜ r ≡ keptMustNot x ⌝ }
 {
     (x % 256) as u8
@@ -192,7 +192,7 @@ fn meet_all(
     count: usize,
     state: GeneralizedNumber,
     states: &mut [u64],
-    transitions: &mut [u64],
+    transitions: &mut [u32],
     before: Extent,
 ) -> Step
     requires { ⌜ (count ≤ length (now ts)) × (count ≤ length (now bytes))
@@ -252,7 +252,7 @@ pub fn walk(
     rule: &[u8],
     table: &[u64],
     states: &mut [u64],
-    transitions: &mut [u64],
+    transitions: &mut [u32],
     ends: &mut [usize],
 ) -> Walked
     requires { ⌜ (sizesChecked (now rule) ≡ fine)

@@ -144,7 +144,7 @@ fn row_end(ends: &[usize], state: GeneralizedNumber) -> usize
 }
 
 // The code of the pair to which a transition leads from a level.
-fn target(transition: u64, r: usize, level: usize) -> usize
+fn target(transition: u32, r: usize, level: usize) -> usize
     requires { ⌜ (keptTarget transition < maxGeneralizedStates) × (r ≤ maxUntils) ⌝ }
     ensures { λ c. ⌜ c ≡ targetN r level transition ⌝ }
 {
@@ -204,7 +204,7 @@ fn meet_pair(pairs: &mut [usize], index: &mut [u8], n: usize, code: usize) -> Me
 
 // A row of transitions from a level: their targets met one after another, and their records put behind those before.
 fn meet_row(
-    row: &[u64],
+    row: &[u32],
     level: usize,
     r: usize,
     pairs: &mut [usize],
@@ -236,7 +236,7 @@ fn meet_row(
 // The second walk: all pairs that can be reached from the first n, with the records of their transitions in the table.
 fn explore_pairs(
     ends: &[usize],
-    kept: &[u64],
+    kept: &[u32],
     r: usize,
     pairs: &mut [usize],
     index: &mut [u8],
@@ -306,7 +306,7 @@ fn put_state(table: &mut [u8], state: StateNumber, count: usize, accepting: bool
 }
 
 // The record of transition number k, a transition of the first walk with its target among the pairs.
-fn put_transition(table: &mut [u8], k: usize, transition: u64, target: StateNumber)
+fn put_transition(table: &mut [u8], k: usize, transition: u32, target: StateNumber)
     requires { ⌜ (k * 4 + 4 ≤ length (now table)) × (target .0 < 65536) ⌝ }
     ensures { λ _. ⌜ now (table .exit)
         ≡ sets (now (table .entry)) (k * 4)
@@ -380,7 +380,7 @@ fn refuse(
 fn degeneralize(
     rule: &[u8],
     first: usize,
-    kept: &[u64],
+    kept: &[u32],
     ends: &[usize],
     states: &mut [u8],
     transitions: &mut [u8],
@@ -428,7 +428,7 @@ fn build(
         return refuse(number, place, states, transitions, initial);
     }
     let mut found = [0u64; generalized::MAX_STATES];
-    let mut kept = [0u64; generalized::MAX_TRANSITIONS];
+    let mut kept = [0u32; generalized::MAX_TRANSITIONS];
     let mut ends = [0usize; generalized::MAX_STATES];
     let walked = generalized::walk(rule, table, &mut found, &mut kept, &mut ends);
     match walked {
