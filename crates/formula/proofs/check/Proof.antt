@@ -9,7 +9,9 @@ use Rattle.formula.proofs.check.Tie as tie
 
 returns : tie.Need-returns
 returns c =
-    syntax-refused _ (sym (ap answer (c .before .syntax .given .1)) ∙ c .before .before .before .check-syntax .ensures)
+    let syntax = c .before in
+    let check-syntax = syntax .before .before in
+    syntax-refused _ (sym (ap answer (syntax .syntax .given .1)) ∙ check-syntax .check-syntax .ensures)
 
 returns-2 : tie.Need-returns-2
 returns-2 c =

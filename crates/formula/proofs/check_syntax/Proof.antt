@@ -23,7 +23,12 @@ returns-4 c =
     (sym (ap answer (c .before .nodes .given .1)) ∙ c .before .before .before .check-nodes .ensures)
 
 check-places-requires : tie.Need-check-places-requires
-check-places-requires c κs = (refl, omega arith, children-below _ _ _ (sym (c .before .before .check-nodes .ensures) ∙ ap answer (c .enum-told .given .1)))
+check-places-requires c κs =
+    let check-nodes = c .before .before in (
+      refl,
+      omega arith,
+      children-below _ _ _ (sym (check-nodes .check-nodes .ensures) ∙ ap answer (c .enum-told .given .1)),
+    )
 
 returns-5 : tie.Need-returns-5
 returns-5 c =

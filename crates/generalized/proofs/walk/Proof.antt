@@ -22,7 +22,9 @@ untils-of-requires : tie.Need-untils-of-requires Inv-loop μ-loop
 untils-of-requires c κs = bytes-fine _ (c .before .before .before .before .before .pre .0)
 
 start-requires : tie.Need-start-requires Inv-loop μ-loop
-start-requires c κs = (c .before .before .before .before .before .before .before .pre .0, c .before .before .before .before .before .before .before .pre .2 .states-room)
+start-requires c κs =
+    let s = c .before .before .before .before .before .before .before in
+    (s .pre .0, s .pre .2 .states-room)
 
 loop-holds : tie.Need-loop-holds Inv-loop μ-loop
 loop-holds c =
@@ -41,46 +43,130 @@ slice-aggregate-state-terms : tie.Need-slice-aggregate-state-terms Inv-loop μ-l
 slice-aggregate-state-terms c = sym (c .before .before .before .before .before .loop .inv .1 .products .room)
 
 slice-aggregate-state-terms-2 : tie.Need-slice-aggregate-state-terms-2 Inv-loop μ-loop
-slice-aggregate-state-terms-2 c = sym (c .before .before .before .before .before .before .loop .inv .1 .products .beside)
+slice-aggregate-state-terms-2 c =
+    let at = c .before .before .before .before .before .before in
+    sym (at .loop .inv .1 .products .beside)
 
 state-terms-requires : tie.Need-state-terms-requires Inv-loop μ-loop
-state-terms-requires c κs = (c .before .before .before .before .before .before .before .before .before .before .before .before .before .before .before .before .before .pre .0, c .before .before .before .before .before .before .before .before .before .before .before .before .before .before .before .before .before .pre .1, c .before .before .before .before .before .before .loop .inv .1 .products)
+state-terms-requires c κs =
+    let at = c .before .before .before .before .before .before in
+    let s = at .before .before .before .before .before .before .before .before .before .before .before in
+    (s .pre .0, s .pre .1, at .loop .inv .1 .products)
 
 returns : tie.Need-returns Inv-loop μ-loop
-returns c = walk-over (c .before .before .before .before .before .before .before .before .before .before .loop .inv .0) (c .before .before .before .before .before .before .before .if1 .taken) (c .before .before .before .state-terms .ensures) (c .if2 .taken)
+returns c =
+    let state-terms = c .before .before .before in
+    let if1 = state-terms .before .before .before .before in
+    let at = if1 .before .before .before in
+    walk-over (at .loop .inv .0) (if1 .if1 .taken) (state-terms .state-terms .ensures) (c .if2 .taken)
 
 slice-aggregate-fulfil-2 : tie.Need-slice-aggregate-fulfil-2 Inv-loop μ-loop
-slice-aggregate-fulfil-2 c = sym (c .before .before .before .before .before .before .before .before .before .before .before .before .loop .inv .1 .bytes-room)
+slice-aggregate-fulfil-2 c =
+    let far = c .before .before .before .before .before .before .before .before .before .before .before in
+    let at = far .before in
+    sym (at .loop .inv .1 .bytes-room)
 
 fulfil-requires : tie.Need-fulfil-requires Inv-loop μ-loop
-fulfil-requires c κs = (omega (arith, c .before .before .if2 .left, c .before .before .before .before .before .state-terms .kept .1 .1 .1 .0, c .before .before .before .before .before .before .before .before .before .before .before .before .loop .inv .1 .products .room), omega (arith, c .before .before .if2 .left, c .before .before .before .before .before .before .before .before .before .before .before .before .loop .inv .1 .bytes-room), record { accepted = bytes-fine _ (c .before .before .before .before .before .before .before .before .before .before .before .before .before .before .before .before .before .before .before .before .before .before .before .pre .0); terms = c .before .before .before .before .before .before .before .before .before .before .before .before .before .before .before .before .before .before .before .before .before .before .before .pre .1; untils = c .before .before .before .before .before .before .before .before .before .before .before .before .before .before .before .before .before .untils-of .ensures })
+fulfil-requires c κs =
+    let if2 = c .before .before in
+    let state-terms = if2 .before .before .before in
+    let at = state-terms .before .before .before .before .before .before .before in
+    let untils-of = at .before .before .before .before .before in
+    let s = untils-of .before .before .before .before .before .before in (
+      omega (arith, if2 .if2 .left, state-terms .state-terms .kept .1 .1 .1 .0, at .loop .inv .1 .products .room),
+      omega (arith, if2 .if2 .left, at .loop .inv .1 .bytes-room),
+      record { accepted = bytes-fine _ (s .pre .0); terms = s .pre .1; untils = untils-of .untils-of .ensures },
+    )
 
 meet-all-requires : tie.Need-meet-all-requires Inv-loop μ-loop
-meet-all-requires c κs = (search needs, search needs, c .before .before .before .before .before .before .before .before .before .before .before .before .before .before .before .before .before .before .loop .inv .0 .room)
+meet-all-requires c κs =
+    let far = c .before .before .before .before .before .before .before .before .before .before .before in
+    let at = far .before .before .before .before .before .before .before in
+    (search needs, search needs, at .loop .inv .0 .room)
 
 put-end-requires : tie.Need-put-end-requires Inv-loop μ-loop
-put-end-requires c κs = omega (arith, c .before .before .before .before .before .before .before .before .before .before .before .before .before .before .before .before .before .before .before .before .before .before .before .before .before .before .before .loop .inv .0 .room .few, c .before .before .before .before .before .before .before .before .before .before .before .before .before .before .before .before .before .before .before .before .before .before .before .before .before .before .before .loop .inv .0 .ends-room, c .before .before .before .before .before .before .before .before .before .before .before .before .before .before .before .before .before .before .before .before .before .before .before .before .if1 .taken)
+put-end-requires c κs =
+    let far = c .before .before .before .before .before .before .before .before .before .before .before in
+    let far3 = far .before .before .before .before .before .before .before .before .before .before .before in
+    let if1 = far3 .before .before in
+    let at = if1 .before .before .before in
+    omega (arith, at .loop .inv .0 .room .few, at .loop .inv .0 .ends-room, if1 .if1 .taken)
 
 add-t46 : tie.Need-add-t46 Inv-loop μ-loop
-add-t46 c = omega (arith, c .before .before .before .before .before .before .before .before .before .before .before .before .before .before .before .before .before .before .before .before .before .before .before .before .before .before .before .before .before .before .before .loop .inv .0 .room .few, c .before .before .before .before .before .before .before .before .before .before .before .before .before .before .before .before .before .before .before .before .before .before .before .before .before .before .before .before .if1 .taken)
+add-t46 c =
+    let far = c .before .before .before .before .before .before .before .before .before .before .before in
+    let far3 = far .before .before .before .before .before .before .before .before .before .before .before in
+    let if1 = far3 .before .before .before .before .before .before in
+    let at = if1 .before .before .before in
+    omega (arith, at .loop .inv .0 .room .few, if1 .if1 .taken)
 
 loop-less : tie.Need-loop-less Inv-loop μ-loop
-loop-less c = omega (arith, c .before .before .before .before .before .before .before .before .before .before .before .before .before .before .before .before .before .before .before .before .before .before .before .before .before .before .before .before .before .before .before .loop .inv .0 .room .few, c .before .before .before .before .before .before .before .before .before .before .before .before .before .before .before .before .before .before .before .before .before .before .before .before .before .before .before .before .if1 .taken)
+loop-less c =
+    let far = c .before .before .before .before .before .before .before .before .before .before .before in
+    let far3 = far .before .before .before .before .before .before .before .before .before .before .before in
+    let if1 = far3 .before .before .before .before .before .before in
+    let at = if1 .before .before .before in
+    omega (arith, at .loop .inv .0 .room .few, if1 .if1 .taken)
 
 loop-again : tie.Need-loop-again Inv-loop μ-loop
-loop-again c = (walk-steps (c .before .before .before .before .before .before .before .before .before .before .before .before .before .before .before .before .before .before .before .before .before .before .before .before .before .before .before .before .before .before .before .loop .inv .0) (c .before .before .before .before .before .before .before .before .before .before .before .before .before .before .before .before .before .before .before .before .before .before .before .before .before .before .before .before .if1 .taken) (c .before .before .before .before .before .before .before .before .before .before .before .before .before .before .before .before .before .before .before .before .before .before .before .before .state-terms .ensures) (c .before .before .before .before .before .before .before .before .before .before .before .before .before .before .before .before .before .before .before .before .before .before .before .before .before .before .before .before .before .before .before .before .before .before .before .before .before .before .before .before .before .before .pre .0) (c .before .before .before .before .before .before .before .before .before .before .before .before .before .before .before .before .before .before .before .before .before .if2 .left) _ (c .before .before .before .before .before .before .before .before .before .before .before .before .before .before .before .before .before .before .fulfil .ensures) (c .before .before .before .before .before .before .before .before .before .before .before .before .meet-all .result) (c .before .before .before .before .before .before .before .before .before .before .before .before .meet-all .last .1 .1 .1 .1 .0) (c .before .before .before .before .before .before .before .before .before .before .before .before .meet-all .last .1 .1 .1 .1 .1 .0) (c .before .before .before .before .before .before .before .before .before .before .before .before .meet-all .ensures) (c .before .before .before .before .before .before .step .given .1) (c .before .before .before .before .before .before .before .before .before .before .before .before .meet-all .kept .1 .1 .1 .1 .0) (c .before .before .before .before .before .before .before .before .before .before .before .before .meet-all .kept .1 .1 .1 .1 .1 .0) (c .before .before .before .put-end .ensures), record { products = record { room = c .before .before .before .before .before .before .before .before .before .before .before .before .before .before .before .before .before .before .before .before .before .before .before .before .state-terms .kept .1 .1 .1 .0 ∙ c .before .before .before .before .before .before .before .before .before .before .before .before .before .before .before .before .before .before .before .before .before .before .before .before .before .before .before .before .before .before .before .loop .inv .1 .products .room; beside = c .before .before .before .before .before .before .before .before .before .before .before .before .before .before .before .before .before .before .before .before .before .before .before .before .state-terms .kept .1 .1 .1 .1 .0 ∙ c .before .before .before .before .before .before .before .before .before .before .before .before .before .before .before .before .before .before .before .before .before .before .before .before .before .before .before .before .before .before .before .loop .inv .1 .products .beside }; bytes-room = c .before .before .before .before .before .before .before .before .before .before .before .before .before .before .before .before .before .before .fulfil .kept .1 .1 .1 .1 .1 .0 ∙ c .before .before .before .before .before .before .before .before .before .before .before .before .before .before .before .before .before .before .before .before .before .before .before .before .before .before .before .before .before .before .before .loop .inv .1 .bytes-room })
+loop-again c =
+    let put-end = c .before .before .before in
+    let step = put-end .before .before .before in
+    let meet-all = step .before .before .before .before .before .before in
+    let fulfil = meet-all .before .before .before .before .before .before in
+    let if2 = fulfil .before .before .before in
+    let state-terms = if2 .before .before .before in
+    let if1 = state-terms .before .before .before .before in
+    let at = if1 .before .before .before in
+    let s = at .before .before .before .before .before .before .before .before .before .before .before in (
+      walk-steps (at .loop .inv .0) (if1 .if1 .taken) (state-terms .state-terms .ensures) (s .pre .0)
+          (if2 .if2 .left) _ (fulfil .fulfil .ensures) (meet-all .meet-all .result)
+          (meet-all .meet-all .last .1 .1 .1 .1 .0) (meet-all .meet-all .last .1 .1 .1 .1 .1 .0)
+          (meet-all .meet-all .ensures) (step .step .given .1) (meet-all .meet-all .kept .1 .1 .1 .1 .0)
+          (meet-all .meet-all .kept .1 .1 .1 .1 .1 .0) (put-end .put-end .ensures),
+      record
+          { products = record { room = state-terms .state-terms .kept .1 .1 .1 .0 ∙ at .loop .inv .1 .products .room; beside = state-terms .state-terms .kept .1 .1 .1 .1 .0 ∙ at .loop .inv .1 .products .beside }; bytes-room = fulfil .fulfil .kept .1 .1 .1 .1 .1 .0 ∙ at .loop .inv .1 .bytes-room },
+    )
 
 same-length-4 : tie.Need-same-length-4 Inv-loop μ-loop
-same-length-4 c = c .before .before .before .before .before .before .before .meet-all .kept .1 .1 .1 .1 .0 ∙ c .before .before .before .before .before .before .before .before .before .before .before .before .before .before .before .before .before .before .before .before .before .before .before .before .before .before .loop .inv .0 .room .states-room ∙ sym (c .before .before .before .before .before .before .before .before .before .before .before .before .before .before .before .before .before .before .before .before .before .before .before .before .before .before .before .before .before .before .before .before .before .before .before .before .before .pre .2 .states-room)
+same-length-4 c =
+    let meet-all = c .before .before .before .before .before .before .before in
+    let far = meet-all .before .before .before .before .before .before .before .before .before .before .before in
+    let at = far .before .before .before .before .before .before .before .before in
+    let s = at .before .before .before .before .before .before .before .before .before .before .before in
+    meet-all .meet-all .kept .1 .1 .1 .1 .0 ∙ at .loop .inv .0 .room .states-room ∙ sym (s .pre .2 .states-room)
 
 same-length-5 : tie.Need-same-length-5 Inv-loop μ-loop
-same-length-5 c = c .before .before .before .before .before .before .before .meet-all .kept .1 .1 .1 .1 .1 .0 ∙ c .before .before .before .before .before .before .before .before .before .before .before .before .before .before .before .before .before .before .before .before .before .before .before .before .before .before .loop .inv .0 .room .transitions-room ∙ sym (c .before .before .before .before .before .before .before .before .before .before .before .before .before .before .before .before .before .before .before .before .before .before .before .before .before .before .before .before .before .before .before .before .before .before .before .before .before .pre .2 .transitions-room)
+same-length-5 c =
+    let meet-all = c .before .before .before .before .before .before .before in
+    let far = meet-all .before .before .before .before .before .before .before .before .before .before .before in
+    let at = far .before .before .before .before .before .before .before .before in
+    let s = at .before .before .before .before .before .before .before .before .before .before .before in
+    meet-all .meet-all .kept .1 .1 .1 .1 .1 .0 ∙ at .loop .inv .0 .room .transitions-room ∙ sym
+    (s .pre .2 .transitions-room)
 
 same-length-6 : tie.Need-same-length-6 Inv-loop μ-loop
-same-length-6 c = c .before .before .before .before .before .before .before .before .before .before .before .before .before .before .before .before .before .before .before .before .before .before .before .before .before .before .loop .inv .0 .ends-room ∙ sym (c .before .before .before .before .before .before .before .before .before .before .before .before .before .before .before .before .before .before .before .before .before .before .before .before .before .before .before .before .before .before .before .before .before .before .before .before .before .pre .2 .ends-room)
+same-length-6 c =
+    let far = c .before .before .before .before .before .before .before .before .before .before .before in
+    let far3 = far .before .before .before .before .before .before .before .before .before .before .before in
+    let at = far3 .before .before .before .before in
+    let s = at .before .before .before .before .before .before .before .before .before .before .before in
+    at .loop .inv .0 .ends-room ∙ sym (s .pre .2 .ends-room)
 
 returns-2 : tie.Need-returns-2 Inv-loop μ-loop
-returns-2 c = walk-refused (c .before .before .before .before .before .before .before .before .before .before .before .before .before .before .before .before .before .before .before .before .before .before .before .before .before .before .loop .inv .0) (c .before .before .before .before .before .before .before .before .before .before .before .before .before .before .before .before .before .before .before .before .before .before .before .if1 .taken) (c .before .before .before .before .before .before .before .before .before .before .before .before .before .before .before .before .before .before .before .state-terms .ensures) (c .before .before .before .before .before .before .before .before .before .before .before .before .before .before .before .before .before .before .before .before .before .before .before .before .before .before .before .before .before .before .before .before .before .before .before .before .before .pre .0) (c .before .before .before .before .before .before .before .before .before .before .before .before .before .before .before .before .if2 .left) _ (c .before .before .before .before .before .before .before .before .before .before .before .before .before .fulfil .ensures) (c .before .before .before .before .before .before .before .meet-all .result) (c .before .before .before .before .before .before .before .meet-all .last .1 .1 .1 .1 .0) (c .before .before .before .before .before .before .before .meet-all .last .1 .1 .1 .1 .1 .0) (c .before .before .before .before .before .before .before .meet-all .ensures) (c .before .step2 .given .1)
+returns-2 c =
+    let step2 = c .before in
+    let meet-all = step2 .before .before .before .before .before .before in
+    let fulfil = meet-all .before .before .before .before .before .before in
+    let if2 = fulfil .before .before .before in
+    let state-terms = if2 .before .before .before in
+    let if1 = state-terms .before .before .before .before in
+    let at = if1 .before .before .before in
+    let s = at .before .before .before .before .before .before .before .before .before .before .before in
+    walk-refused (at .loop .inv .0) (if1 .if1 .taken) (state-terms .state-terms .ensures) (s .pre .0)
+    (if2 .if2 .left) _ (fulfil .fulfil .ensures) (meet-all .meet-all .result)
+    (meet-all .meet-all .last .1 .1 .1 .1 .0) (meet-all .meet-all .last .1 .1 .1 .1 .1 .0)
+    (meet-all .meet-all .ensures) (step2 .step2 .given .1)
 
 returns-3 : tie.Need-returns-3 Inv-loop μ-loop
 returns-3 c = walk-ends (c .before .before .before .loop .inv .0) (c .if1 .left)

@@ -6,7 +6,9 @@ use Rattle.image.proofs.check_bodies.Statement.{statement}
 use Rattle.image.proofs.check_bodies.Tie as tie
 
 returns : tie.Need-returns
-returns c = parts-whole _ (c .before .before .before .before .before .args .image .now) _ _ _ (c .check-records .ensures)
+returns c =
+    let s = c .before .before .before .before .before in
+    parts-whole _ (s .args .image .now) _ _ _ (c .check-records .ensures)
 
 pub check-bodies-spec : {M : Type 1} → statement M
 check-bodies-spec =

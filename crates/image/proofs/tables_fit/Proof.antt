@@ -7,13 +7,19 @@ use Rattle.image.proofs.tables_fit.Statement.{statement}
 use Rattle.image.proofs.tables_fit.Tie as tie
 
 returns : tie.Need-returns
-returns c = first-fails statesBytes (c .before .args .states) transitionsBytes (c .before .args .transitions) _ (omega arith)
+returns c =
+    let s = c .before in
+    first-fails statesBytes (s .args .states) transitionsBytes (s .args .transitions) _ (omega arith)
 
 returns-2 : tie.Need-returns-2
-returns-2 c = second-fails statesBytes (c .before .before .args .states) transitionsBytes (c .before .before .args .transitions) _ (omega arith) (omega arith)
+returns-2 c =
+    let s = c .before .before in
+    second-fails statesBytes (s .args .states) transitionsBytes (s .args .transitions) _ (omega arith) (omega arith)
 
 returns-3 : tie.Need-returns-3
-returns-3 c = third-left statesBytes (c .before .before .args .states) transitionsBytes (c .before .before .args .transitions) _ (omega arith) (omega arith)
+returns-3 c =
+    let s = c .before .before in
+    third-left statesBytes (s .args .states) transitionsBytes (s .args .transitions) _ (omega arith) (omega arith)
 
 pub tables-fit-spec : {M : Type 1} → statement M
 tables-fit-spec = tie.close (tie.spec returns returns-2 returns-3)

@@ -13,7 +13,10 @@ returns : tie.Need-returns
 returns c = work-short _ _ _ _ (omega arith)
 
 returns-2 : tie.Need-returns-2
-returns-2 c = image-refused _ _ _ _ (omega arith) (sym (ap readAnswer (c .before .loaded .given .1)) ∙ c .before .before .before .check .ensures)
+returns-2 c =
+    let loaded = c .before in
+    let check = loaded .before .before in
+    image-refused _ _ _ _ (omega arith) (sym (ap readAnswer (loaded .loaded .given .1)) ∙ check .check .ensures)
 
 number-at-requires : tie.Need-number-at-requires
 number-at-requires c κs =
@@ -21,10 +24,22 @@ number-at-requires c κs =
     omega (arith, fine .size)
 
 judge-lasso-requires : tie.Need-judge-lasso-requires
-judge-lasso-requires c κs = (known _ (sym (ap readAnswer (c .before .before .enum-told .given .1)) ∙ c .before .before .before .before .check .ensures), c .before .number-at .ensures)
+judge-lasso-requires c κs =
+    let number-at = c .before in
+    let enum-told = number-at .before in
+    let check = enum-told .before .before in (
+      known _ (sym (ap readAnswer (enum-told .enum-told .given .1)) ∙ check .check .ensures),
+      number-at .number-at .ensures,
+    )
 
 returns-3 : tie.Need-returns-3
-returns-3 c = image-judged _ _ _ _ (omega arith) (sym (ap readAnswer (c .before .before .before .before .before .enum-told .given .1)) ∙ c .before .before .before .before .before .before .before .check .ensures) (c .before .before .judge-lasso .ensures)
+returns-3 c =
+    let judge-lasso = c .before .before in
+    let enum-told = judge-lasso .before .before .before in
+    let check = enum-told .before .before in
+    image-judged _ _ _ _ (omega arith)
+    (sym (ap readAnswer (enum-told .enum-told .given .1)) ∙ check .check .ensures)
+    (judge-lasso .judge-lasso .ensures)
 
 pub judge-spec : {M : Type 1} → statement M
 judge-spec =

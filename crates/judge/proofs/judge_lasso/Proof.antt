@@ -10,7 +10,10 @@ use Rattle.judge.proofs.judge_lasso.Statement.{statement}
 use Rattle.judge.proofs.judge_lasso.Tie as tie
 
 returns : tie.Need-returns
-returns c = lasso-refused _ _ _ _ (sym (ap answer (c .before .checked .given .1)) ∙ c .before .before .before .check-lasso .ensures)
+returns c =
+    let checked = c .before in
+    let check-lasso = checked .before .before in
+    lasso-refused _ _ _ _ (sym (ap answer (checked .checked .given .1)) ∙ check-lasso .check-lasso .ensures)
 
 search-requires : tie.Need-search-requires
 search-requires c κs =

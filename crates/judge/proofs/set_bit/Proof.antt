@@ -8,7 +8,9 @@ use Rattle.judge.proofs.set_bit.Statement.{statement}
 use Rattle.judge.proofs.set_bit.Tie as tie
 
 returns : tie.Need-returns
-returns c = bit-is-set _ _ (c .before .args .k) (omega arith) (omega arith) _ (shifted-one (c .before .args .k % 64) (omega arith))
+returns c =
+    let s = c .before in
+    bit-is-set _ _ (s .args .k) (omega arith) (omega arith) _ (shifted-one (s .args .k % 64) (omega arith))
 
 pub set-bit-spec : {M : Type 1} → statement M
 set-bit-spec =

@@ -25,7 +25,10 @@ module _ (rows : List ℕ) (q : ℕ) where
   twice false e h d = true-false e
 
 returns : tie.Need-returns
-returns c = not-started _ _ (c .before .before .args .back) (decided-not (c .before .has-bit .ensures) (c .if1 .taken))
+returns c =
+    let has-bit = c .before in
+    let s = has-bit .before in
+    not-started _ _ (s .args .back) (decided-not (has-bit .has-bit .ensures) (c .if1 .taken))
 
 returns-2 : tie.Need-returns-2
 returns-2 c =

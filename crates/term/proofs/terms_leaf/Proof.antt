@@ -23,7 +23,9 @@ bit-requires : tie.Need-bit-requires
 bit-requires c κs = omega (arith, c .before .before .before .pre .1 (omega arith))
 
 mul-one : tie.Need-mul-one
-mul-one c = record { fits = omega (arith, c .bit .ensures, pow-lt {j = propositions} (c .before .before .before .before .pre .1 (omega arith))) }
+mul-one c =
+    let s = c .before .before .before .before in
+    record { fits = omega (arith, c .bit .ensures, pow-lt {j = propositions} (s .pre .1 (omega arith))) }
 
 returns-3 : tie.Need-returns-3
 unfolding terms

@@ -19,10 +19,22 @@ loop-holds : tie.Need-loop-holds Inv-loop μ-loop
 loop-holds c = refl
 
 returns : tie.Need-returns Inv-loop μ-loop
-returns c = sym (climb-stops _ _ (c .before .before .before .loop .j) (c .before .before .loop-test .taken) (sym (c .before .has .ensures) ∙ not-true _ (c .if1 .taken))) ∙ c .before .before .before .loop .inv
+returns c =
+    let has = c .before in
+    let loop-test = has .before in
+    let at = loop-test .before in
+    sym
+    (climb-stops _ _ (at .loop .j) (loop-test .loop-test .taken) (sym (has .has .ensures) ∙ not-true _ (c .if1 .taken)))
+    ∙ at .loop .inv
 
 loop-again : tie.Need-loop-again Inv-loop μ-loop
-loop-again c = sym (climb-steps _ _ (c .before .before .before .loop .j) (c .before .before .loop-test .taken) (sym (c .before .has .ensures) ∙ not-false _ (c .if1 .left))) ∙ c .before .before .before .loop .inv
+loop-again c =
+    let has = c .before in
+    let loop-test = has .before in
+    let at = loop-test .before in
+    sym
+    (climb-steps _ _ (at .loop .j) (loop-test .loop-test .taken) (sym (has .has .ensures) ∙ not-false _ (c .if1 .left)))
+    ∙ at .loop .inv
 
 returns-2 : tie.Need-returns-2 Inv-loop μ-loop
 returns-2 c = sym (climb-ends _ _ (c .before .loop .j) (c .loop-test .left)) ∙ c .before .loop .inv

@@ -25,34 +25,99 @@ untils-of-requires : tie.Need-untils-of-requires
 untils-of-requires c κs = bytes-fine _ (c .before .before .before .before .before .before .pre .0)
 
 start-pairs-requires : tie.Need-start-pairs-requires
-start-pairs-requires c κs = (numbered-begins _ _ refl refl, omega (arith, initial-few _ (c .before .before .before .before .before .before .before .before .before .pre .0), c .before .before .before .before .before .before .before .before .before .pre .1 .begun))
+start-pairs-requires c κs =
+    let s = c .before .before .before .before .before .before .before .before .before in
+    (numbered-begins _ _ refl refl, omega (arith, initial-few _ (s .pre .0), s .pre .1 .begun))
 
 explore-pairs-requires : tie.Need-explore-pairs-requires
-explore-pairs-requires c κs = (first-rows (begun (c .before .before .before .before .before)), begun (c .before .before .before .before .before) .numbered, c .before .before .before .before .before .before .before .before .before .before .before .before .before .before .before .pre .2 .for-transitions)
+explore-pairs-requires c κs =
+    let node = c .before .before .before .before .before in
+    let s = node .before .before .before .before .before .before .before .before .before .before in
+    (first-rows (begun (node)), begun (node) .numbered, s .pre .2 .for-transitions)
 
 array-share-prefix-pairs : tie.Need-array-share-prefix-pairs
-array-share-prefix-pairs c = count-inside (begun (c .before .before .before .before .before .before .before .before .before .before .before .before .before .before)) _ (c .before .before .before .before .before .before .before .before .explore-pairs .result) (c .before .before .before .before .before .before .before .before .explore-pairs .last .1 .1 .1 .0) (c .before .before .before .before .before .before .before .before .explore-pairs .last .1 .1 .1 .1 .0) (c .before .before .before .before .before .before .before .before .explore-pairs .last .1 .1 .1 .1 .1 .0) (c .before .before .before .before .before .before .before .before .explore-pairs .ensures) (c .before .before .walked2 .given .1)
+array-share-prefix-pairs c =
+    let walked2 = c .before .before in
+    let explore-pairs = walked2 .before .before .before .before .before .before in
+    let node = explore-pairs .before .before .before .before .before .before in
+    count-inside (begun (node)) _ (explore-pairs .explore-pairs .result)
+    (explore-pairs .explore-pairs .last .1 .1 .1 .0) (explore-pairs .explore-pairs .last .1 .1 .1 .1 .0)
+    (explore-pairs .explore-pairs .last .1 .1 .1 .1 .1 .0) (explore-pairs .explore-pairs .ensures)
+    (walked2 .walked2 .given .1)
 
 slice-aggregate-write-states : tie.Need-slice-aggregate-write-states
-slice-aggregate-write-states c = sym (codes-count (begun (c .before .before .before .before .before .before .before .before .before .before .before .before .before .before .before)) _ (c .before .before .before .before .before .before .before .before .before .explore-pairs .result) (c .before .before .before .before .before .before .before .before .before .explore-pairs .last .1 .1 .1 .0) (c .before .before .before .before .before .before .before .before .before .explore-pairs .last .1 .1 .1 .1 .0) (c .before .before .before .before .before .before .before .before .before .explore-pairs .last .1 .1 .1 .1 .1 .0) (c .before .before .before .before .before .before .before .before .before .explore-pairs .ensures) (c .before .before .before .walked2 .given .1))
+slice-aggregate-write-states c =
+    let walked2 = c .before .before .before in
+    let explore-pairs = walked2 .before .before .before .before .before .before in
+    let node = explore-pairs .before .before .before .before .before .before in
+    sym
+    (codes-count (begun (node)) _ (explore-pairs .explore-pairs .result) (explore-pairs .explore-pairs .last .1 .1 .1 .0) (explore-pairs .explore-pairs .last .1 .1 .1 .1 .0) (explore-pairs .explore-pairs .last .1 .1 .1 .1 .1 .0) (explore-pairs .explore-pairs .ensures) (walked2 .walked2 .given .1))
 
 write-states-requires : tie.Need-write-states-requires
-write-states-requires c κs = (all-rows (begun (c .before .before .before .before .before .before .before .before .before .before .before .before .before .before .before)) _ (c .before .before .before .before .before .before .before .before .before .explore-pairs .result) (c .before .before .before .before .before .before .before .before .before .explore-pairs .last .1 .1 .1 .0) (c .before .before .before .before .before .before .before .before .before .explore-pairs .last .1 .1 .1 .1 .0) (c .before .before .before .before .before .before .before .before .before .explore-pairs .last .1 .1 .1 .1 .1 .0) (c .before .before .before .before .before .before .before .before .before .explore-pairs .ensures) (c .before .before .before .walked2 .given .1) .listed, omega (arith, codes-few (begun (c .before .before .before .before .before .before .before .before .before .before .before .before .before .before .before)) _ (c .before .before .before .before .before .before .before .before .before .explore-pairs .result) (c .before .before .before .before .before .before .before .before .before .explore-pairs .last .1 .1 .1 .0) (c .before .before .before .before .before .before .before .before .before .explore-pairs .last .1 .1 .1 .1 .0) (c .before .before .before .before .before .before .before .before .before .explore-pairs .last .1 .1 .1 .1 .1 .0) (c .before .before .before .before .before .before .before .before .before .explore-pairs .ensures) (c .before .before .before .walked2 .given .1), c .before .before .before .before .before .before .before .before .before .before .before .before .before .before .before .before .before .before .before .before .before .before .before .before .before .pre .2 .for-states))
+write-states-requires c κs =
+    let walked2 = c .before .before .before in
+    let explore-pairs = walked2 .before .before .before .before .before .before in
+    let node = explore-pairs .before .before .before .before .before .before in
+    let s = node .before .before .before .before .before .before .before .before .before .before in (
+      all-rows (begun (node)) _ (explore-pairs .explore-pairs .result)
+          (explore-pairs .explore-pairs .last .1 .1 .1 .0) (explore-pairs .explore-pairs .last .1 .1 .1 .1 .0)
+          (explore-pairs .explore-pairs .last .1 .1 .1 .1 .1 .0) (explore-pairs .explore-pairs .ensures)
+          (walked2 .walked2 .given .1) .listed,
+      omega
+          (arith, codes-few (begun (node)) _ (explore-pairs .explore-pairs .result) (explore-pairs .explore-pairs .last .1 .1 .1 .0) (explore-pairs .explore-pairs .last .1 .1 .1 .1 .0) (explore-pairs .explore-pairs .last .1 .1 .1 .1 .1 .0) (explore-pairs .explore-pairs .ensures) (walked2 .walked2 .given .1), s .pre .2 .for-states),
+    )
 
 mul-zero-behind : tie.Need-mul-zero-behind
-mul-zero-behind c = omega (arith, written-inside (begun (c .before .before .before .before .before .before .before .before .before .before .before .before .before .before .before .before .before .before .before)) _ (c .before .before .before .before .before .before .before .before .before .before .before .before .before .explore-pairs .result) (c .before .before .before .before .before .before .before .before .before .before .before .before .before .explore-pairs .last .1 .1 .1 .0) (c .before .before .before .before .before .before .before .before .before .before .before .before .before .explore-pairs .last .1 .1 .1 .1 .0) (c .before .before .before .before .before .before .before .before .before .before .before .before .before .explore-pairs .last .1 .1 .1 .1 .1 .0) (c .before .before .before .before .before .before .before .before .before .before .before .before .before .explore-pairs .ensures) (c .before .before .before .before .before .before .before .walked2 .given .1), c .before .before .before .before .before .before .before .before .before .before .before .before .before .explore-pairs .kept .1 .1 .1 .1 .1 .0, c .before .before .before .before .before .before .before .before .before .before .before .before .before .before .before .before .before .before .before .before .before .before .before .before .before .before .before .before .before .good .1 .1 .1 .1 .1 .0 .0)
+mul-zero-behind c =
+    let walked2 = c .before .before .before .before .before .before .before in
+    let explore-pairs = walked2 .before .before .before .before .before .before in
+    let node = explore-pairs .before .before .before .before .before .before in
+    let s = node .before .before .before .before .before .before .before .before .before .before in
+    omega
+    (arith, written-inside (begun (node)) _ (explore-pairs .explore-pairs .result) (explore-pairs .explore-pairs .last .1 .1 .1 .0) (explore-pairs .explore-pairs .last .1 .1 .1 .1 .0) (explore-pairs .explore-pairs .last .1 .1 .1 .1 .1 .0) (explore-pairs .explore-pairs .ensures) (walked2 .walked2 .given .1), explore-pairs .explore-pairs .kept .1 .1 .1 .1 .1 .0, s .good .1 .1 .1 .1 .1 .0 .0)
 
 zero-behind-requires : tie.Need-zero-behind-requires
-zero-behind-requires c κs = written-inside (begun (c .before .before .before .before .before .before .before .before .before .before .before .before .before .before .before .before .before .before .before)) _ (c .before .before .before .before .before .before .before .before .before .before .before .before .before .explore-pairs .result) (c .before .before .before .before .before .before .before .before .before .before .before .before .before .explore-pairs .last .1 .1 .1 .0) (c .before .before .before .before .before .before .before .before .before .before .before .before .before .explore-pairs .last .1 .1 .1 .1 .0) (c .before .before .before .before .before .before .before .before .before .before .before .before .before .explore-pairs .last .1 .1 .1 .1 .1 .0) (c .before .before .before .before .before .before .before .before .before .before .before .before .before .explore-pairs .ensures) (c .before .before .before .before .before .before .before .walked2 .given .1)
+zero-behind-requires c κs =
+    let walked2 = c .before .before .before .before .before .before .before in
+    let explore-pairs = walked2 .before .before .before .before .before .before in
+    let node = explore-pairs .before .before .before .before .before .before in
+    written-inside (begun (node)) _ (explore-pairs .explore-pairs .result)
+    (explore-pairs .explore-pairs .last .1 .1 .1 .0) (explore-pairs .explore-pairs .last .1 .1 .1 .1 .0)
+    (explore-pairs .explore-pairs .last .1 .1 .1 .1 .1 .0) (explore-pairs .explore-pairs .ensures)
+    (walked2 .walked2 .given .1)
 
 write-initial-requires : tie.Need-write-initial-requires
-write-initial-requires c κs = (omega (arith, initial-few _ (c .before .before .before .before .before .before .before .before .before .before .before .before .before .before .before .before .before .before .before .before .before .before .before .before .before .before .before .before .before .before .before .before .before .pre .0), c .before .before .before .before .before .before .before .before .before .before .before .before .before .before .before .before .before .before .before .before .before .before .before .before .before .before .before .before .before .before .before .before .before .pre .1 .begun), c .before .before .before .before .before .before .before .before .before .before .before .before .before .before .before .before .before .before .before .before .before .before .before .before .before .before .before .before .before .before .before .before .before .pre .2 .for-initial)
+write-initial-requires c κs =
+    let far = c .before .before .before .before .before .before .before .before .before .before .before in
+    let far2 = far .before .before .before .before .before .before .before .before .before .before .before in
+    let s = far2 .before .before .before .before .before .before .before .before .before .before .before in
+    (omega (arith, initial-few _ (s .pre .0), s .pre .1 .begun), s .pre .2 .for-initial)
 
 returns : tie.Need-returns
-returns c = stopped-is (begun (c .before .before .before .before .before .before .before .before .before .before .before .before .before .before .before .before .before .before .before .before .before .before .before)) _ (c .before .before .before .before .before .before .before .before .before .before .before .before .before .before .before .before .before .explore-pairs .result) (c .before .before .before .before .before .before .before .before .before .before .before .before .before .before .before .before .before .explore-pairs .last .1 .1 .1 .0) (c .before .before .before .before .before .before .before .before .before .before .before .before .before .before .before .before .before .explore-pairs .last .1 .1 .1 .1 .0) (c .before .before .before .before .before .before .before .before .before .before .before .before .before .before .before .before .before .explore-pairs .last .1 .1 .1 .1 .1 .0) (c .before .before .before .before .before .before .before .before .before .before .before .before .before .before .before .before .before .explore-pairs .ensures) (c .before .before .before .before .before .before .before .before .before .before .before .walked .given .1) (c .before .before .before .before .before .before .before .before .before .before .before .before .before .before .before .before .before .explore-pairs .kept .1 .1 .1 .1 .1 .0) _ _ (c .before .before .before .before .before .before .refuse .ensures)
+returns c =
+    let refuse = c .before .before .before .before .before .before in
+    let walked = refuse .before .before .before .before .before in
+    let explore-pairs = walked .before .before .before .before .before .before in
+    let node = explore-pairs .before .before .before .before .before .before in
+    stopped-is (begun (node)) _ (explore-pairs .explore-pairs .result)
+    (explore-pairs .explore-pairs .last .1 .1 .1 .0) (explore-pairs .explore-pairs .last .1 .1 .1 .1 .0)
+    (explore-pairs .explore-pairs .last .1 .1 .1 .1 .1 .0) (explore-pairs .explore-pairs .ensures)
+    (walked .walked .given .1) (explore-pairs .explore-pairs .kept .1 .1 .1 .1 .1 .0) _ _ (refuse .refuse .ensures)
 
 returns-2 : tie.Need-returns-2
-returns-2 c = written-is (begun (c .before .before .before .before .before .before .before .before .before .before .before .before .before .before .before .before .before .before .before .before .before .before .before .before .before .before)) _ (c .before .before .before .before .before .before .before .before .before .before .before .before .before .before .before .before .before .before .before .before .explore-pairs .result) (c .before .before .before .before .before .before .before .before .before .before .before .before .before .before .before .before .before .before .before .before .explore-pairs .last .1 .1 .1 .0) (c .before .before .before .before .before .before .before .before .before .before .before .before .before .before .before .before .before .before .before .before .explore-pairs .last .1 .1 .1 .1 .0) (c .before .before .before .before .before .before .before .before .before .before .before .before .before .before .before .before .before .before .before .before .explore-pairs .last .1 .1 .1 .1 .1 .0) (c .before .before .before .before .before .before .before .before .before .before .before .before .before .before .before .before .before .before .before .before .explore-pairs .ensures) (c .before .before .before .before .before .before .before .before .before .before .before .before .before .before .walked2 .given .1) (c .before .before .before .before .before .before .before .before .before .before .before .before .before .before .before .before .before .before .before .before .explore-pairs .kept .1 .1 .1 .1 .1 .0) _ _ _ _ _ (c .before .before .before .before .before .before .before .before .before .before .write-states .ensures) (c .before .before .before .before .before .before .zero-behind .ensures) (c .before .before .write-initial .ensures)
+returns-2 c =
+    let write-initial = c .before .before in
+    let zero-behind = write-initial .before .before .before .before in
+    let write-states = zero-behind .before .before .before .before in
+    let walked2 = write-states .before .before .before .before in
+    let explore-pairs = walked2 .before .before .before .before .before .before in
+    let node = explore-pairs .before .before .before .before .before .before in
+    written-is (begun (node)) _ (explore-pairs .explore-pairs .result)
+    (explore-pairs .explore-pairs .last .1 .1 .1 .0) (explore-pairs .explore-pairs .last .1 .1 .1 .1 .0)
+    (explore-pairs .explore-pairs .last .1 .1 .1 .1 .1 .0) (explore-pairs .explore-pairs .ensures)
+    (walked2 .walked2 .given .1) (explore-pairs .explore-pairs .kept .1 .1 .1 .1 .1 .0) _ _ _ _ _
+    (write-states .write-states .ensures) (zero-behind .zero-behind .ensures)
+    (write-initial .write-initial .ensures)
 
 pub degeneralize-spec : {M : Type 1} → statement M
 degeneralize-spec =

@@ -20,67 +20,190 @@ abbrev μ-loop : tie.MeasureT-loop
 μ-loop ends kept r pairs₀ index₀ table₀ n m₀ k₀ pair₀ pairs index table m k pair = maxStates - pair
 
 loop-holds : tie.Need-loop-holds Inv-loop μ-loop
-loop-holds c = pairing-begins _ _ _ _ _ _ _ (c .before .before .before .before .before .pre .0) (c .before .before .before .before .before .pre .1)
+loop-holds c =
+    let s = c .before .before .before .before .before in
+    pairing-begins _ _ _ _ _ _ _ (s .pre .0) (s .pre .1)
 
 mul-code : tie.Need-mul-code Inv-loop μ-loop
 mul-code c = omega (arith, c .before .loop .inv .numbered .room, c .before .loop .inv .numbered .few)
 
 slice-read-code : tie.Need-slice-read-code Inv-loop μ-loop
-slice-read-code c = omega (arith, c .before .before .loop .inv .numbered .room, c .before .before .loop .inv .numbered .few)
+slice-read-code c =
+    let at = c .before .before in
+    omega (arith, at .loop .inv .numbered .room, at .loop .inv .numbered .few)
 
 row-start-requires : tie.Need-row-start-requires Inv-loop μ-loop
-row-start-requires c κs = state-inside _ _ _ (c .before .before .before .loop .inv .rows .listed) (among _ _ _ _ (c .before .before .before .loop .inv .numbered) (c .before .before .loop-test .taken)) _ (c .state-of .ensures)
+row-start-requires c κs =
+    let loop-test = c .before .before in
+    let at = loop-test .before in
+    state-inside _ _ _ (at .loop .inv .rows .listed)
+    (among _ _ _ _ (at .loop .inv .numbered) (loop-test .loop-test .taken)) _ (c .state-of .ensures)
 
 row-end-requires : tie.Need-row-end-requires Inv-loop μ-loop
-row-end-requires c κs = state-inside _ _ _ (c .before .before .before .before .before .loop .inv .rows .listed) (among _ _ _ _ (c .before .before .before .before .before .loop .inv .numbered) (c .before .before .before .before .loop-test .taken)) _ (c .state-of2 .ensures)
+row-end-requires c κs =
+    let loop-test = c .before .before .before .before in
+    let at = loop-test .before in
+    state-inside _ _ _ (at .loop .inv .rows .listed)
+    (among _ _ _ _ (at .loop .inv .numbered) (loop-test .loop-test .taken)) _ (c .state-of2 .ensures)
 
 mul-meet-row : tie.Need-mul-meet-row Inv-loop μ-loop
-mul-meet-row c = omega (arith, row-begins _ _ _ _ _ _ _ _ _ _ (c .before .before .before .before .before .before .loop .pair) (c .before .before .before .before .before .before .before .before .before .before .before .before .pre .2) (c .before .before .before .before .before .before .loop .inv) (c .before .before .before .before .before .loop-test .taken) (c .before .before .before .state-of .ensures) (c .before .state-of2 .ensures) refl (c .before .before .row-start .ensures) (c .row-end .ensures), row-fits _ _ _ _ _ _ _ _ _ _ (c .before .before .before .before .before .before .loop .pair) (c .before .before .before .before .before .before .before .before .before .before .before .before .pre .2) (c .before .before .before .before .before .before .loop .inv) (c .before .before .before .before .before .loop-test .taken) (c .before .before .before .state-of .ensures) (c .before .state-of2 .ensures) refl (c .before .before .row-start .ensures) (c .row-end .ensures), c .before .before .before .before .before .before .before .before .before .before .before .before .pre .0 .size)
+mul-meet-row c =
+    let state-of2 = c .before in
+    let row-start = state-of2 .before in
+    let state-of = row-start .before in
+    let loop-test = state-of .before .before in
+    let at = loop-test .before in
+    let s = at .before .before .before .before .before .before in
+    omega
+    (arith, row-begins _ _ _ _ _ _ _ _ _ _ (at .loop .pair) (s .pre .2) (at .loop .inv) (loop-test .loop-test .taken) (state-of .state-of .ensures) (state-of2 .state-of2 .ensures) refl (row-start .row-start .ensures) (c .row-end .ensures), row-fits _ _ _ _ _ _ _ _ _ _ (at .loop .pair) (s .pre .2) (at .loop .inv) (loop-test .loop-test .taken) (state-of .state-of .ensures) (state-of2 .state-of2 .ensures) refl (row-start .row-start .ensures) (c .row-end .ensures), s .pre .0 .size)
 
 sub-meet-row : tie.Need-sub-meet-row Inv-loop μ-loop
-sub-meet-row c = row-begins _ _ _ _ _ _ _ _ _ _ (c .before .before .before .before .before .before .loop .pair) (c .before .before .before .before .before .before .before .before .before .before .before .before .pre .2) (c .before .before .before .before .before .before .loop .inv) (c .before .before .before .before .before .loop-test .taken) (c .before .before .before .state-of .ensures) (c .before .state-of2 .ensures) refl (c .before .before .row-start .ensures) (c .row-end .ensures)
+sub-meet-row c =
+    let state-of2 = c .before in
+    let row-start = state-of2 .before in
+    let state-of = row-start .before in
+    let loop-test = state-of .before .before in
+    let at = loop-test .before in
+    let s = at .before .before .before .before .before .before in
+    row-begins _ _ _ _ _ _ _ _ _ _ (at .loop .pair) (s .pre .2) (at .loop .inv) (loop-test .loop-test .taken)
+    (state-of .state-of .ensures) (state-of2 .state-of2 .ensures) refl (row-start .row-start .ensures)
+    (c .row-end .ensures)
 
 part-meet-row-start : tie.Need-part-meet-row-start Inv-loop μ-loop
-part-meet-row-start c = row-begins _ _ _ _ _ _ _ _ _ _ (c .before .before .before .before .before .before .loop .pair) (c .before .before .before .before .before .before .before .before .before .before .before .before .pre .2) (c .before .before .before .before .before .before .loop .inv) (c .before .before .before .before .before .loop-test .taken) (c .before .before .before .state-of .ensures) (c .before .state-of2 .ensures) refl (c .before .before .row-start .ensures) (c .row-end .ensures)
+part-meet-row-start c =
+    let state-of2 = c .before in
+    let row-start = state-of2 .before in
+    let state-of = row-start .before in
+    let loop-test = state-of .before .before in
+    let at = loop-test .before in
+    let s = at .before .before .before .before .before .before in
+    row-begins _ _ _ _ _ _ _ _ _ _ (at .loop .pair) (s .pre .2) (at .loop .inv) (loop-test .loop-test .taken)
+    (state-of .state-of .ensures) (state-of2 .state-of2 .ensures) refl (row-start .row-start .ensures)
+    (c .row-end .ensures)
 
 part-meet-row-end : tie.Need-part-meet-row-end Inv-loop μ-loop
-part-meet-row-end c = row-fits _ _ _ _ _ _ _ _ _ _ (c .before .before .before .before .before .before .loop .pair) (c .before .before .before .before .before .before .before .before .before .before .before .before .pre .2) (c .before .before .before .before .before .before .loop .inv) (c .before .before .before .before .before .loop-test .taken) (c .before .before .before .state-of .ensures) (c .before .state-of2 .ensures) refl (c .before .before .row-start .ensures) (c .row-end .ensures)
+part-meet-row-end c =
+    let state-of2 = c .before in
+    let row-start = state-of2 .before in
+    let state-of = row-start .before in
+    let loop-test = state-of .before .before in
+    let at = loop-test .before in
+    let s = at .before .before .before .before .before .before in
+    row-fits _ _ _ _ _ _ _ _ _ _ (at .loop .pair) (s .pre .2) (at .loop .inv) (loop-test .loop-test .taken)
+    (state-of .state-of .ensures) (state-of2 .state-of2 .ensures) refl (row-start .row-start .ensures)
+    (c .row-end .ensures)
 
 meet-row-requires : tie.Need-meet-row-requires Inv-loop μ-loop
-meet-row-requires c κs = (c .before .before .before .before .before .before .before .before .before .before .before .loop .inv .numbered, c .before .before .before .before .before .before .before .before .before .before .before .before .before .before .before .before .before .pre .0 .levels, row-leads _ _ _ _ _ _ _ _ _ _ (c .before .before .before .before .before .before .before .before .before .before .before .loop .pair) (c .before .before .before .before .before .before .before .before .before .before .before .before .before .before .before .before .before .pre .2) (c .before .before .before .before .before .before .before .before .before .before .before .loop .inv) (c .before .before .before .before .before .before .before .before .before .before .loop-test .taken) (c .before .before .before .before .before .before .before .before .state-of .ensures) (c .before .before .before .before .before .before .state-of2 .ensures) (c .before .before .before .level-of .ensures) (c .before .before .before .before .before .before .before .row-start .ensures) (c .before .before .before .before .before .row-end .ensures), row-room _ _ _ _ _ _ _ _ _ _ (c .before .before .before .before .before .before .before .before .before .before .before .loop .pair) (c .before .before .before .before .before .before .before .before .before .before .before .before .before .before .before .before .before .pre .2) (c .before .before .before .before .before .before .before .before .before .before .before .loop .inv) (c .before .before .before .before .before .before .before .before .before .before .loop-test .taken) (c .before .before .before .before .before .before .before .before .state-of .ensures) (c .before .before .before .before .before .before .state-of2 .ensures) (c .before .before .before .level-of .ensures) (c .before .before .before .before .before .before .before .row-start .ensures) (c .before .before .before .before .before .row-end .ensures))
+meet-row-requires c κs =
+    let level-of = c .before .before .before in
+    let row-end = level-of .before .before in
+    let state-of2 = row-end .before in
+    let row-start = state-of2 .before in
+    let state-of = row-start .before in
+    let loop-test = state-of .before .before in
+    let at = loop-test .before in
+    let s = at .before .before .before .before .before .before in (
+      at .loop .inv .numbered,
+      s .pre .0 .levels,
+      row-leads _ _ _ _ _ _ _ _ _ _ (at .loop .pair) (s .pre .2) (at .loop .inv) (loop-test .loop-test .taken)
+          (state-of .state-of .ensures) (state-of2 .state-of2 .ensures) (level-of .level-of .ensures)
+          (row-start .row-start .ensures) (row-end .row-end .ensures),
+      row-room _ _ _ _ _ _ _ _ _ _ (at .loop .pair) (s .pre .2) (at .loop .inv) (loop-test .loop-test .taken)
+          (state-of .state-of .ensures) (state-of2 .state-of2 .ensures) (level-of .level-of .ensures)
+          (row-start .row-start .ensures) (row-end .row-end .ensures),
+    )
 
 same-length : tie.Need-same-length Inv-loop μ-loop
-same-length c = c .before .before .before .before .before .before .before .before .meet-row .kept .1 .1 .1 .0 ∙ c .before .before .before .before .before .before .before .before .before .before .before .before .before .before .before .before .before .before .before .before .loop .inv .numbered .room ∙ sym (c .before .before .before .before .before .before .before .before .before .before .before .before .before .before .before .before .before .before .before .before .before .before .before .before .before .before .pre .1 .room)
+same-length c =
+    let meet-row = c .before .before .before .before .before .before .before .before in
+    let far = meet-row .before .before .before .before .before .before .before .before .before .before .before in
+    let at = far .before in
+    let s = at .before .before .before .before .before .before in
+    meet-row .meet-row .kept .1 .1 .1 .0 ∙ at .loop .inv .numbered .room ∙ sym (s .pre .1 .room)
 
 same-length-2 : tie.Need-same-length-2 Inv-loop μ-loop
-same-length-2 c = c .before .before .before .before .before .before .before .before .meet-row .kept .1 .1 .1 .1 .0 ∙ c .before .before .before .before .before .before .before .before .before .before .before .before .before .before .before .before .before .before .before .before .loop .inv .numbered .size ∙ sym (c .before .before .before .before .before .before .before .before .before .before .before .before .before .before .before .before .before .before .before .before .before .before .before .before .before .before .pre .1 .size)
+same-length-2 c =
+    let meet-row = c .before .before .before .before .before .before .before .before in
+    let far = meet-row .before .before .before .before .before .before .before .before .before .before .before in
+    let at = far .before in
+    let s = at .before .before .before .before .before .before in
+    meet-row .meet-row .kept .1 .1 .1 .1 .0 ∙ at .loop .inv .numbered .size ∙ sym (s .pre .1 .size)
 
 same-length-3 : tie.Need-same-length-3 Inv-loop μ-loop
-same-length-3 c = c .before .before .before .before .before .before .before .before .meet-row .kept .1 .1 .1 .1 .1 .0 ∙ c .before .before .before .before .before .before .before .before .before .before .before .before .before .before .before .before .before .before .before .before .loop .inv .size
+same-length-3 c =
+    let meet-row = c .before .before .before .before .before .before .before .before in
+    let far = meet-row .before .before .before .before .before .before .before .before .before .before .before in
+    let at = far .before in
+    meet-row .meet-row .kept .1 .1 .1 .1 .1 .0 ∙ at .loop .inv .size
 
 returns : tie.Need-returns Inv-loop μ-loop
-returns c = pairing-stops _ _ _ _ _ _ _ _ _ _ (c .before .before .before .before .before .before .before .before .before .before .before .before .before .before .before .before .before .before .before .before .loop .pair) (c .before .before .before .before .before .before .before .before .before .before .before .before .before .before .before .before .before .before .before .before .before .before .before .before .before .before .pre .2) (c .before .before .before .before .before .before .before .before .before .before .before .before .before .before .before .before .before .before .before .before .loop .inv) (c .before .before .before .before .before .before .before .before .before .before .before .before .before .before .before .before .before .before .before .loop-test .taken) (c .before .before .before .before .before .before .before .before .before .before .before .before .before .before .before .before .before .state-of .ensures) (c .before .before .before .before .before .before .before .before .before .before .before .before .before .before .before .state-of2 .ensures) (c .before .before .before .before .before .before .before .before .before .before .before .before .level-of .ensures) (c .before .before .before .before .before .before .before .before .before .before .before .before .before .before .before .before .row-start .ensures) (c .before .before .before .before .before .before .before .before .before .before .before .before .before .before .row-end .ensures) (c .before .before .before .before .before .before .before .before .meet-row .result) (c .before .before .before .before .before .before .before .before .meet-row .last .1 .1 .1 .0) (c .before .before .before .before .before .before .before .before .meet-row .last .1 .1 .1 .1 .0) (c .before .before .before .before .before .before .before .before .meet-row .last .1 .1 .1 .1 .1 .0) (c .before .before .before .before .before .before .before .before .meet-row .ensures) (c .enum-told .given .1)
+returns c =
+    let meet-row = c .before .before .before .before .before .before .before .before in
+    let level-of = meet-row .before .before .before .before in
+    let row-end = level-of .before .before in
+    let state-of2 = row-end .before in
+    let row-start = state-of2 .before in
+    let state-of = row-start .before in
+    let loop-test = state-of .before .before in
+    let at = loop-test .before in
+    let s = at .before .before .before .before .before .before in
+    pairing-stops _ _ _ _ _ _ _ _ _ _ (at .loop .pair) (s .pre .2) (at .loop .inv) (loop-test .loop-test .taken)
+    (state-of .state-of .ensures) (state-of2 .state-of2 .ensures) (level-of .level-of .ensures)
+    (row-start .row-start .ensures) (row-end .row-end .ensures) (meet-row .meet-row .result)
+    (meet-row .meet-row .last .1 .1 .1 .0) (meet-row .meet-row .last .1 .1 .1 .1 .0)
+    (meet-row .meet-row .last .1 .1 .1 .1 .1 .0) (meet-row .meet-row .ensures) (c .enum-told .given .1)
 
 add-pair : tie.Need-add-pair Inv-loop μ-loop
-add-pair c = omega (arith, c .before .before .before .before .before .before .before .before .before .before .before .before .before .before .before .before .before .before .before .before .before .loop .inv .numbered .few)
+add-pair c =
+    let far = c .before .before .before .before .before .before .before .before .before .before .before in
+    let at = far .before .before .before .before .before .before .before .before .before .before in
+    omega (arith, at .loop .inv .numbered .few)
 
 loop-less : tie.Need-loop-less Inv-loop μ-loop
-loop-less c = omega (arith, c .before .before .before .before .before .before .before .before .before .before .before .before .before .before .before .before .before .before .before .before .before .loop .inv .numbered .few)
+loop-less c =
+    let far = c .before .before .before .before .before .before .before .before .before .before .before in
+    let at = far .before .before .before .before .before .before .before .before .before .before in
+    omega (arith, at .loop .inv .numbered .few)
 
 loop-again : tie.Need-loop-again Inv-loop μ-loop
-loop-again c = pairing-steps _ _ _ _ _ _ _ _ _ _ (c .before .before .before .before .before .before .before .before .before .before .before .before .before .before .before .before .before .before .before .before .before .loop .pair) (c .before .before .before .before .before .before .before .before .before .before .before .before .before .before .before .before .before .before .before .before .before .before .before .before .before .before .before .pre .2) (c .before .before .before .before .before .before .before .before .before .before .before .before .before .before .before .before .before .before .before .before .before .loop .inv) (c .before .before .before .before .before .before .before .before .before .before .before .before .before .before .before .before .before .before .before .before .loop-test .taken) (c .before .before .before .before .before .before .before .before .before .before .before .before .before .before .before .before .before .before .state-of .ensures) (c .before .before .before .before .before .before .before .before .before .before .before .before .before .before .before .before .state-of2 .ensures) (c .before .before .before .before .before .before .before .before .before .before .before .before .before .level-of .ensures) (c .before .before .before .before .before .before .before .before .before .before .before .before .before .before .before .before .before .row-start .ensures) (c .before .before .before .before .before .before .before .before .before .before .before .before .before .before .before .row-end .ensures) (c .before .before .before .before .before .before .before .before .before .meet-row .result) (c .before .before .before .before .before .before .before .before .before .meet-row .last .1 .1 .1 .0) (c .before .before .before .before .before .before .before .before .before .meet-row .last .1 .1 .1 .1 .0) (c .before .before .before .before .before .before .before .before .before .meet-row .last .1 .1 .1 .1 .1 .0) (c .before .before .before .before .before .before .before .before .before .meet-row .ensures) (c .before .met .given .1) (c .before .before .before .before .before .before .before .before .before .meet-row .kept .1 .1 .1 .1 .1 .0)
+loop-again c =
+    let met = c .before in
+    let meet-row = met .before .before .before .before .before .before .before .before in
+    let level-of = meet-row .before .before .before .before in
+    let row-end = level-of .before .before in
+    let state-of2 = row-end .before in
+    let row-start = state-of2 .before in
+    let state-of = row-start .before in
+    let loop-test = state-of .before .before in
+    let at = loop-test .before in
+    let s = at .before .before .before .before .before .before in
+    pairing-steps _ _ _ _ _ _ _ _ _ _ (at .loop .pair) (s .pre .2) (at .loop .inv) (loop-test .loop-test .taken)
+    (state-of .state-of .ensures) (state-of2 .state-of2 .ensures) (level-of .level-of .ensures)
+    (row-start .row-start .ensures) (row-end .row-end .ensures) (meet-row .meet-row .result)
+    (meet-row .meet-row .last .1 .1 .1 .0) (meet-row .meet-row .last .1 .1 .1 .1 .0)
+    (meet-row .meet-row .last .1 .1 .1 .1 .1 .0) (meet-row .meet-row .ensures) (met .met .given .1)
+    (meet-row .meet-row .kept .1 .1 .1 .1 .1 .0)
 
 same-length-4 : tie.Need-same-length-4 Inv-loop μ-loop
-same-length-4 c = c .before .loop .inv .numbered .room ∙ sym (c .before .before .before .before .before .before .before .pre .1 .room)
+same-length-4 c =
+    let at = c .before in
+    let s = at .before .before .before .before .before .before in
+    at .loop .inv .numbered .room ∙ sym (s .pre .1 .room)
 
 same-length-5 : tie.Need-same-length-5 Inv-loop μ-loop
-same-length-5 c = c .before .loop .inv .numbered .size ∙ sym (c .before .before .before .before .before .before .before .pre .1 .size)
+same-length-5 c =
+    let at = c .before in
+    let s = at .before .before .before .before .before .before in
+    at .loop .inv .numbered .size ∙ sym (s .pre .1 .size)
 
 same-length-6 : tie.Need-same-length-6 Inv-loop μ-loop
 same-length-6 c = c .before .loop .inv .size
 
 returns-2 : tie.Need-returns-2 Inv-loop μ-loop
-returns-2 c = pairing-ends _ _ _ _ _ _ _ _ _ _ _ (c .before .before .before .before .before .before .before .pre .2) (c .before .loop .inv) (c .loop-test .left)
+returns-2 c =
+    let at = c .before in
+    let s = at .before .before .before .before .before .before in
+    pairing-ends _ _ _ _ _ _ _ _ _ _ _ (s .pre .2) (at .loop .inv) (c .loop-test .left)
 
 pub explore-pairs-spec : {M : Type 1} → statement M
 explore-pairs-spec =

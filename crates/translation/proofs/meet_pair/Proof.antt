@@ -7,16 +7,29 @@ use Rattle.translation.proofs.meet_pair.Statement.{statement}
 use Rattle.translation.proofs.meet_pair.Tie as tie
 
 returns : tie.Need-returns
-returns c = met-seen _ _ _ _ (c .before .before .before .before .before .before .pre .0) (c .before .before .before .before .before .before .pre .1) (c .before .before .if1 .taken) (c .pair-number .ensures)
+returns c =
+    let if1 = c .before .before in
+    let s = if1 .before .before .before .before in
+    met-seen _ _ _ _ (s .pre .0) (s .pre .1) (if1 .if1 .taken) (c .pair-number .ensures)
 
 returns-2 : tie.Need-returns-2
-returns-2 c = met-full _ _ _ _ (c .before .before .before .before .before .pre .0) (c .before .before .before .before .before .pre .1) (c .before .if1 .left) (c .if2 .taken)
+returns-2 c =
+    let if1 = c .before in
+    let s = if1 .before .before .before .before in
+    met-full _ _ _ _ (s .pre .0) (s .pre .1) (if1 .if1 .left) (c .if2 .taken)
 
 add-pair-requires : tie.Need-add-pair-requires
-add-pair-requires c κs = (c .before .before .before .before .before .before .before .pre .0, omega arith, c .before .before .before .before .before .before .before .pre .1, c .before .before .before .if1 .left)
+add-pair-requires c κs =
+    let if1 = c .before .before .before in
+    let s = if1 .before .before .before .before in
+    (s .pre .0, omega arith, s .pre .1, if1 .if1 .left)
 
 returns-3 : tie.Need-returns-3
-returns-3 c = met-next _ _ _ _ (c .before .before .before .before .before .before .before .before .before .before .before .before .pre .0) (c .before .before .before .before .before .before .before .before .before .before .before .before .pre .1) (c .before .before .before .before .before .before .before .before .if1 .left) (omega arith) _ _ (c .before .before .before .before .add-pair .ensures)
+returns-3 c =
+    let add-pair = c .before .before .before .before in
+    let if1 = add-pair .before .before .before .before in
+    let s = if1 .before .before .before .before in
+    met-next _ _ _ _ (s .pre .0) (s .pre .1) (if1 .if1 .left) (omega arith) _ _ (add-pair .add-pair .ensures)
 
 pub meet-pair-spec : {M : Type 1} → statement M
 meet-pair-spec =

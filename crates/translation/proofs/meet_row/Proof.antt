@@ -23,40 +23,98 @@ loop-holds : tie.Need-loop-holds Inv-loop μ-loop
 loop-holds c = meeting-begins _ _ _ _ _ _ _ _ _ (c .before .before .before .before .pre .0)
 
 target-requires : tie.Need-target-requires Inv-loop μ-loop
-target-requires c κs = (c .before .before .before .before .before .before .before .before .before .pre .2 _ (at-in {A = ℕ} 0 (c .before .before .before .before .before .before .before .before .before .args .row .now) _ (c .before .before .before .loop-test .taken)), c .before .before .before .before .before .before .before .before .before .pre .1)
+target-requires c κs =
+    let loop-test = c .before .before .before in
+    let s = loop-test .before .before .before .before .before .before in
+    (s .pre .2 _ (at-in {A = ℕ} 0 (s .args .row .now) _ (loop-test .loop-test .taken)), s .pre .1)
 
 meet-pair-requires : tie.Need-meet-pair-requires Inv-loop μ-loop
-meet-pair-requires c κs = (c .before .before .before .before .before .loop .inv .numbered, rw (c .target .ensures) (target-inside (c .before .before .before .before .before .before .before .before .before .before .args .r) _ _ (c .before .before .before .before .before .before .before .before .before .before .pre .1) (c .before .before .before .before .before .before .before .before .before .before .pre .2 _ (at-in {A = ℕ} 0 (c .before .before .before .before .before .before .before .before .before .before .args .row .now) _ (c .before .before .before .before .loop-test .taken)))))
+meet-pair-requires c κs =
+    let loop-test = c .before .before .before .before in
+    let at = loop-test .before in
+    let s = at .before .before .before .before .before in (
+      at .loop .inv .numbered,
+      rw (c .target .ensures)
+          (target-inside (s .args .r) _ _ (s .pre .1) (s .pre .2 _ (at-in {A = ℕ} 0 (s .args .row .now) _ (loop-test .loop-test .taken)))),
+    )
 
 same-length : tie.Need-same-length Inv-loop μ-loop
-same-length c = c .before .before .before .before .before .before .meet-pair .kept .0 ∙ c .before .before .before .before .before .before .before .before .before .before .before .before .loop .inv .numbered .room ∙ sym (c .before .before .before .before .before .before .before .before .before .before .before .before .before .before .before .before .before .pre .0 .room)
+same-length c =
+    let meet-pair = c .before .before .before .before .before .before in
+    let at = meet-pair .before .before .before .before .before .before in
+    let s = at .before .before .before .before .before in
+    meet-pair .meet-pair .kept .0 ∙ at .loop .inv .numbered .room ∙ sym (s .pre .0 .room)
 
 same-length-2 : tie.Need-same-length-2 Inv-loop μ-loop
-same-length-2 c = c .before .before .before .before .before .before .meet-pair .kept .1 .0 ∙ c .before .before .before .before .before .before .before .before .before .before .before .before .loop .inv .numbered .size ∙ sym (c .before .before .before .before .before .before .before .before .before .before .before .before .before .before .before .before .before .pre .0 .size)
+same-length-2 c =
+    let meet-pair = c .before .before .before .before .before .before in
+    let at = meet-pair .before .before .before .before .before .before in
+    let s = at .before .before .before .before .before in
+    meet-pair .meet-pair .kept .1 .0 ∙ at .loop .inv .numbered .size ∙ sym (s .pre .0 .size)
 
 same-length-3 : tie.Need-same-length-3 Inv-loop μ-loop
-same-length-3 c = c .before .before .before .before .before .before .before .before .before .before .before .before .loop .inv .size
+same-length-3 c =
+    let far = c .before .before .before .before .before .before .before .before .before .before .before in
+    let at = far .before in
+    at .loop .inv .size
 
 returns : tie.Need-returns Inv-loop μ-loop
-returns c = meeting-full _ _ _ _ _ _ _ _ _ _ _ (c .before .before .before .before .before .before .before .before .before .before .before .before .loop .i) (c .before .before .before .before .before .before .before .before .before .before .before .before .loop .inv) (c .before .before .before .before .before .before .before .before .before .before .before .loop-test .taken) (c .before .before .before .before .before .before .before .target .ensures) (c .before .before .before .before .before .before .meet-pair .result) (c .before .before .before .before .before .before .meet-pair .last .0) (c .before .before .before .before .before .before .meet-pair .last .1 .0) (c .before .before .before .before .before .before .meet-pair .ensures) (c .enum-told .given .1)
+returns c =
+    let meet-pair = c .before .before .before .before .before .before in
+    let target = meet-pair .before in
+    let loop-test = target .before .before .before .before in
+    let at = loop-test .before in
+    meeting-full _ _ _ _ _ _ _ _ _ _ _ (at .loop .i) (at .loop .inv) (loop-test .loop-test .taken)
+    (target .target .ensures) (meet-pair .meet-pair .result) (meet-pair .meet-pair .last .0)
+    (meet-pair .meet-pair .last .1 .0) (meet-pair .meet-pair .ensures) (c .enum-told .given .1)
 
 put-transition-requires : tie.Need-put-transition-requires Inv-loop μ-loop
-put-transition-requires c κs = (record-room _ _ _ _ _ _ _ _ _ _ _ _ (c .before .before .before .before .before .before .before .before .before .before .before .before .before .before .loop .inv) (c .before .before .before .before .before .before .before .before .before .before .before .before .before .loop-test .taken) (c .before .before .before .before .before .before .before .before .before .before .before .before .before .before .before .before .before .before .before .pre .3), omega (arith, number-small _ _ _ _ _ _ _ _ _ _ _ (c .before .before .before .before .before .before .before .before .before .before .before .before .before .before .loop .i) (c .before .before .before .before .before .before .before .before .before .before .before .before .before .before .loop .inv) (c .before .before .before .before .before .before .before .before .before .before .before .before .before .loop-test .taken) (c .before .before .before .before .before .before .before .before .before .target .ensures) (c .before .before .before .before .before .before .before .before .meet-pair .result) (c .before .before .before .before .before .before .before .before .meet-pair .last .0) (c .before .before .before .before .before .before .before .before .meet-pair .last .1 .0) (c .before .before .before .before .before .before .before .before .meet-pair .ensures) (c .before .before .met .given .1)))
+put-transition-requires c κs =
+    let met = c .before .before in
+    let meet-pair = met .before .before .before .before .before .before in
+    let target = meet-pair .before in
+    let loop-test = target .before .before .before .before in
+    let at = loop-test .before in
+    let s = at .before .before .before .before .before in (
+      record-room _ _ _ _ _ _ _ _ _ _ _ _ (at .loop .inv) (loop-test .loop-test .taken) (s .pre .3),
+      omega
+          (arith, number-small _ _ _ _ _ _ _ _ _ _ _ (at .loop .i) (at .loop .inv) (loop-test .loop-test .taken) (target .target .ensures) (meet-pair .meet-pair .result) (meet-pair .meet-pair .last .0) (meet-pair .meet-pair .last .1 .0) (meet-pair .meet-pair .ensures) (met .met .given .1)),
+    )
 
 loop-again : tie.Need-loop-again Inv-loop μ-loop
-loop-again c = meeting-steps _ _ _ _ _ _ _ _ _ _ _ (c .before .before .before .before .before .before .before .before .before .before .before .before .before .before .before .before .before .loop .i) (c .before .before .before .before .before .before .before .before .before .before .before .before .before .before .before .before .before .loop .inv) (c .before .before .before .before .before .before .before .before .before .before .before .before .before .before .before .before .loop-test .taken) (c .before .before .before .before .before .before .before .before .before .before .before .before .target .ensures) (c .before .before .before .before .before .before .before .before .before .before .before .meet-pair .result) (c .before .before .before .before .before .before .before .before .before .before .before .meet-pair .last .0) (c .before .before .before .before .before .before .before .before .before .before .before .meet-pair .last .1 .0) (c .before .before .before .before .before .before .before .before .before .before .before .meet-pair .ensures) (c .before .before .before .before .before .met .given .1) _ (c .before .before .put-transition .kept .0) (c .before .before .before .before .before .before .before .before .before .before .before .before .before .before .before .before .before .before .before .before .before .before .pre .3) (c .before .before .put-transition .ensures)
+loop-again c =
+    let put-transition = c .before .before in
+    let met = put-transition .before .before .before in
+    let meet-pair = met .before .before .before .before .before .before in
+    let target = meet-pair .before in
+    let loop-test = target .before .before .before .before in
+    let at = loop-test .before in
+    let s = at .before .before .before .before .before in
+    meeting-steps _ _ _ _ _ _ _ _ _ _ _ (at .loop .i) (at .loop .inv) (loop-test .loop-test .taken)
+    (target .target .ensures) (meet-pair .meet-pair .result) (meet-pair .meet-pair .last .0)
+    (meet-pair .meet-pair .last .1 .0) (meet-pair .meet-pair .ensures) (met .met .given .1) _
+    (put-transition .put-transition .kept .0) (s .pre .3) (put-transition .put-transition .ensures)
 
 same-length-4 : tie.Need-same-length-4 Inv-loop μ-loop
-same-length-4 c = c .before .loop .inv .numbered .room ∙ sym (c .before .before .before .before .before .before .pre .0 .room)
+same-length-4 c =
+    let at = c .before in
+    let s = at .before .before .before .before .before in
+    at .loop .inv .numbered .room ∙ sym (s .pre .0 .room)
 
 same-length-5 : tie.Need-same-length-5 Inv-loop μ-loop
-same-length-5 c = c .before .loop .inv .numbered .size ∙ sym (c .before .before .before .before .before .before .pre .0 .size)
+same-length-5 c =
+    let at = c .before in
+    let s = at .before .before .before .before .before in
+    at .loop .inv .numbered .size ∙ sym (s .pre .0 .size)
 
 same-length-6 : tie.Need-same-length-6 Inv-loop μ-loop
 same-length-6 c = c .before .loop .inv .size
 
 returns-2 : tie.Need-returns-2 Inv-loop μ-loop
-returns-2 c = meeting-ends _ _ _ _ _ _ _ _ _ _ _ _ (c .before .loop .inv) (c .before .before .before .before .before .before .pre .3) (c .loop-test .left)
+returns-2 c =
+    let at = c .before in
+    let s = at .before .before .before .before .before in
+    meeting-ends _ _ _ _ _ _ _ _ _ _ _ _ (at .loop .inv) (s .pre .3) (c .loop-test .left)
 
 pub meet-row-spec : {M : Type 1} → statement M
 meet-row-spec =

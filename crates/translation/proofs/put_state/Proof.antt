@@ -11,7 +11,10 @@ slice-write-table-2 : tie.Need-slice-write-table-2
 slice-write-table-2 c = simp length-set (omega arith)
 
 returns : tie.Need-returns
-returns c = state-stores _ _ _ _ _ (c .before .before .before .before .before .before .before .args .accepting) (c .before .before .before .put-number .ensures) (c .flag .ensures)
+returns c =
+    let put-number = c .before .before .before in
+    let s = put-number .before .before .before .before in
+    state-stores _ _ _ _ _ (s .args .accepting) (put-number .put-number .ensures) (c .flag .ensures)
 
 pub put-state-spec : {M : Type 1} → statement M
 put-state-spec =

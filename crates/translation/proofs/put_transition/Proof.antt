@@ -19,7 +19,13 @@ same-length : tie.Need-same-length
 same-length c = c .before .before .put-number .kept .0 ∙ simp length-set
 
 returns : tie.Need-returns
-returns c = transition-stores (c .before .before .before .before .before .before .before .args .table .now) _ (c .before .before .before .before .before .before .before .args .k * 4) _ _ _ _ _ (c .before .before .before .before .before .must-of .ensures) (c .before .before .before .before .must-not-of .ensures) (c .before .before .put-number .ensures)
+returns c =
+    let put-number = c .before .before in
+    let must-not-of = put-number .before .before in
+    let must-of = must-not-of .before in
+    let s = must-of .before .before in
+    transition-stores (s .args .table .now) _ (s .args .k * 4) _ _ _ _ _ (must-of .must-of .ensures)
+    (must-not-of .must-not-of .ensures) (put-number .put-number .ensures)
 
 pub put-transition-spec : {M : Type 1} → statement M
 put-transition-spec =

@@ -9,7 +9,11 @@ use Rattle.translation.proofs.refuse.Tie as tie
 
 returns : tie.Need-returns
 unfolding stored
-returns c = same-outcome refl (c .before .before .before .before .before .before .before .before .before .before .zero .ensures) (c .before .before .before .before .before .before .zero2 .ensures) (c .before .before .zero3 .ensures)
+returns c =
+    let zero3 = c .before .before in
+    let zero2 = zero3 .before .before .before .before in
+    let zero = zero2 .before .before .before .before in
+    same-outcome refl (zero .zero .ensures) (zero2 .zero2 .ensures) (zero3 .zero3 .ensures)
 
 pub refuse-spec : {M : Type 1} → statement M
 refuse-spec =

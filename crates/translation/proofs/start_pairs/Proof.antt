@@ -18,10 +18,24 @@ loop-holds : tie.Need-loop-holds Inv-loop μ-loop
 loop-holds c = start-begins _ _ _ (c .before .before .pre .0)
 
 add-pair-requires : tie.Need-add-pair-requires Inv-loop μ-loop
-add-pair-requires c κs = (c .before .before .before .before .loop .inv .numbered, omega arith, omega (arith, c .code-of .ensures), start-new _ _ _ _ (c .before .before .before .before .loop .inv) _ (c .before .before .before .before .before .before .before .pre .1) (c .before .before .before .loop-test .taken) (c .code-of .ensures))
+add-pair-requires c κs =
+    let loop-test = c .before .before .before in
+    let at = loop-test .before in
+    let s = at .before .before .before in (
+      at .loop .inv .numbered,
+      omega arith,
+      omega (arith, c .code-of .ensures),
+      start-new _ _ _ _ (at .loop .inv) _ (s .pre .1) (loop-test .loop-test .taken) (c .code-of .ensures),
+    )
 
 loop-again : tie.Need-loop-again Inv-loop μ-loop
-loop-again c = start-steps _ _ _ _ (c .before .before .before .before .before .before .before .before .before .loop .inv) _ _ _ (c .before .before .before .before .before .before .before .before .loop-test .taken) (c .before .before .before .before .before .code-of .ensures) (c .before .before .before .before .add-pair .ensures)
+loop-again c =
+    let add-pair = c .before .before .before .before in
+    let code-of = add-pair .before in
+    let loop-test = code-of .before .before .before in
+    let at = loop-test .before in
+    start-steps _ _ _ _ (at .loop .inv) _ _ _ (loop-test .loop-test .taken) (code-of .code-of .ensures)
+    (add-pair .add-pair .ensures)
 
 same-length : tie.Need-same-length Inv-loop μ-loop
 same-length c = c .before .loop .inv .numbered .room ∙ sym (c .before .before .before .before .pre .0 .room)

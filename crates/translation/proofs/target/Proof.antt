@@ -7,10 +7,22 @@ use Rattle.translation.proofs.target.Statement.{statement}
 use Rattle.translation.proofs.target.Tie as tie
 
 code-of-requires : tie.Need-code-of-requires
-code-of-requires c κs = (rw (c .before .before .target-of .ensures) (c .before .before .before .pre .0), rw (c .next-level .ensures, c .before .fulfilled-by .ensures) (level-fits (c .before .before .before .args .r) (c .before .before .before .args .level) (c .before .before .before .args .transition) (c .before .before .before .pre .1)))
+code-of-requires c κs =
+    let fulfilled-by = c .before in
+    let target-of = fulfilled-by .before in
+    let s = target-of .before in (
+      rw (target-of .target-of .ensures) (s .pre .0),
+      rw (c .next-level .ensures, fulfilled-by .fulfilled-by .ensures)
+          (level-fits (s .args .r) (s .args .level) (s .args .transition) (s .pre .1)),
+    )
 
 returns : tie.Need-returns
-returns c = c .code-of .ensures ∙ rw (c .before .before .before .target-of .ensures, c .before .next-level .ensures, c .before .before .fulfilled-by .ensures)
+returns c =
+    let next-level = c .before in
+    let fulfilled-by = next-level .before in
+    let target-of = fulfilled-by .before in
+    c .code-of .ensures ∙ rw
+    (target-of .target-of .ensures, next-level .next-level .ensures, fulfilled-by .fulfilled-by .ensures)
 
 pub target-spec : {M : Type 1} → statement M
 target-spec =

@@ -22,13 +22,34 @@ returns-3 : tie.Need-returns-3
 returns-3 c = initial-short _ _ _ _ (c .before .before .if1 .left) (c .before .if2 .left) (c .if3 .taken)
 
 returns-4 : tie.Need-returns-4
-returns-4 c = bytes-refused _ _ _ _ (c .before .before .before .before .before .before .if1 .left) (c .before .before .before .before .before .if2 .left) (c .before .before .before .before .if3 .left) (sym (ap answer (c .before .bytes .given .1)) ∙ c .before .before .before .check .ensures)
+returns-4 c =
+    let bytes = c .before in
+    let check = bytes .before .before in
+    let if3 = check .before in
+    let if2 = if3 .before in
+    let if1 = if2 .before in
+    bytes-refused _ _ _ _ (if1 .if1 .left) (if2 .if2 .left) (if3 .if3 .left)
+    (sym (ap answer (bytes .bytes .given .1)) ∙ check .check .ensures)
 
 build-tabled-requires : tie.Need-build-tabled-requires
-build-tabled-requires c κs = (fits (c .before .before .before), record { for-states = c .before .before .before .before .before .before .before .before .if1 .left; for-transitions = c .before .before .before .before .before .before .before .if2 .left; for-initial = c .before .before .before .before .before .before .if3 .left })
+build-tabled-requires c κs =
+    let node = c .before .before .before in
+    let if3 = node .before .before .before in
+    let if2 = if3 .before in
+    let if1 = if2 .before in (
+      fits (node),
+      record { for-states = if1 .if1 .left; for-transitions = if2 .if2 .left; for-initial = if3 .if3 .left },
+    )
 
 returns-5 : tie.Need-returns-5
-returns-5 c = built _ _ _ _ (c .before .before .before .before .before .before .before .before .before .before .before .before .before .before .before .if1 .left) (c .before .before .before .before .before .before .before .before .before .before .before .before .before .before .if2 .left) (c .before .before .before .before .before .before .before .before .before .before .before .before .before .if3 .left) (fits (c .before .before .before .before .before .before .before .before .before .before)) (c .before .before .before .before .before .before .build-tabled .ensures)
+returns-5 c =
+    let build-tabled = c .before .before .before .before .before .before in
+    let node = build-tabled .before .before .before .before in
+    let if3 = node .before .before .before in
+    let if2 = if3 .before in
+    let if1 = if2 .before in
+    built _ _ _ _ (if1 .if1 .left) (if2 .if2 .left) (if3 .if3 .left) (fits (node))
+    (build-tabled .build-tabled .ensures)
 
 pub translate-spec : {M : Type 1} → statement M
 translate-spec =

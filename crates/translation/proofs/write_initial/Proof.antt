@@ -18,19 +18,35 @@ loop-holds : tie.Need-loop-holds Inv-loop μ-loop
 loop-holds c = initials-begin _ _
 
 put-initial-requires : tie.Need-put-initial-requires Inv-loop μ-loop
-put-initial-requires c κs = (omega (arith, c .before .before .loop .inv .size, c .before .before .before .before .pre .0, c .before .before .before .before .pre .1), omega (arith, c .before .before .before .before .pre .0))
+put-initial-requires c κs =
+    let at = c .before .before in
+    let s = at .before .before in
+    (omega (arith, at .loop .inv .size, s .pre .0, s .pre .1), omega (arith, s .pre .0))
 
 loop-again : tie.Need-loop-again Inv-loop μ-loop
-loop-again c = initials-step _ _ _ _ (c .before .before .before .before .before .loop .i) (omega (arith, c .before .before .before .before .before .before .before .pre .0, c .before .before .before .before .before .before .before .pre .1)) (c .before .before .before .before .loop-test .taken) (c .before .before .before .before .before .loop .inv) (c .before .before .put-initial .kept .0) (c .before .before .put-initial .ensures)
+loop-again c =
+    let put-initial = c .before .before in
+    let loop-test = put-initial .before .before in
+    let at = loop-test .before in
+    let s = at .before .before in
+    initials-step _ _ _ _ (at .loop .i) (omega (arith, s .pre .0, s .pre .1)) (loop-test .loop-test .taken)
+    (at .loop .inv) (put-initial .put-initial .kept .0) (put-initial .put-initial .ensures)
 
 zero-behind-requires : tie.Need-zero-behind-requires Inv-loop μ-loop
-zero-behind-requires c κs = omega (arith, c .before .before .loop .inv .size, c .before .before .before .before .pre .0, c .before .before .before .before .pre .1)
+zero-behind-requires c κs =
+    let at = c .before .before in
+    let s = at .before .before in
+    omega (arith, at .loop .inv .size, s .pre .0, s .pre .1)
 
 same-length : tie.Need-same-length Inv-loop μ-loop
 same-length c = c .before .before .zero-behind .kept .0 ∙ c .before .before .before .before .before .loop .inv .size
 
 returns : tie.Need-returns Inv-loop μ-loop
-returns c = initials-end _ _ _ _ _ (c .before .before .before .before .loop-test .left) (c .before .before .before .before .before .loop .inv) (c .before .before .zero-behind .ensures)
+returns c =
+    let zero-behind = c .before .before in
+    let loop-test = zero-behind .before .before in
+    let at = loop-test .before in
+    initials-end _ _ _ _ _ (loop-test .loop-test .left) (at .loop .inv) (zero-behind .zero-behind .ensures)
 
 pub write-initial-spec : {M : Type 1} → statement M
 write-initial-spec =
