@@ -79,11 +79,11 @@ pub record Meeting (row : List ℕ) (r level place : ℕ) (all : (count : ℕ) �
   pub left : (count : ℕ) → meetAllN place (count + i) (map (targetN r level) (drop i row)) (take k pairs) ≡ all count
   pub written : (more : List ℕ) → AddsRecords before w (records (transitionN (take k pairs ++ more) r level) (take i row)) table (w + i)
 
-module _ (row : List ℕ) (r level place : ℕ) where
-  pub meeting-begins : (before : List ℕ) (w : ℕ) (pairs index : List ℕ) (n : ℕ) → PairsNumbered pairs index n
+module _ {row : List ℕ} {r level place : ℕ} where
+  pub meeting-begins : {before : List ℕ} {w : ℕ} {pairs index : List ℕ} {n : ℕ} → PairsNumbered pairs index n
       → Meeting row r level place (λ count. meetAllN place count (map (targetN r level) row) (take n pairs)) before w pairs index before n 0
   unfolding records
-  meeting-begins before w pairs index n inv = record {
+  meeting-begins {w = w} inv = record {
     within = omega arith;
     numbered = inv;
     size = refl;
@@ -95,7 +95,8 @@ module _ (row : List ℕ) (r level place : ℕ) where
         record { count = omega arith; front = rw (none, append-nil) };
   }
 
-  module _ (all : (count : ℕ) → Result (List ℕ)) (before : List ℕ) (w : ℕ) (pairs index table : List ℕ) (k i : ℕ) (inv : Meeting row r level place all before w pairs index table k i) where
+  module _ {all : (count : ℕ) → Result (List ℕ)} {before : List ℕ} {w : ℕ} {pairs index table : List ℕ} {k i : ℕ}
+      (inv : Meeting row r level place all before w pairs index table k i) where
     pub meeting-ends : (w + length row) * 4 ≤ length before → length row ≤ i → (count : ℕ) → AddedRows (all count) (λ _ codes. records (transitionN codes r level) row) before w k (w + length row) pairs index table
     meeting-ends room le count =
         let last : i ≡ length row = omega (arith, inv .within) in

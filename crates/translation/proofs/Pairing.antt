@@ -47,11 +47,20 @@ pub record Pairing (ends transitions : List ℕ) (r : ℕ) (all : Result (List �
   pub few : m ≤ place * maxOfState
   pub written : (more : List ℕ) → AddsRecords before 0 (records (rowN ends transitions r (take k pairs ++ more)) (take place pairs)) table m
 
-module _ (ends transitions : List ℕ) (r : ℕ) where
-  pub pairing-begins : (before pairs index : List ℕ) (n : ℕ) → PairRows ends transitions r (take n pairs) → PairsNumbered pairs index n
+-- where the row of a pair begins and ends in the table
+pub record OwnRow (ends : List ℕ) (code start end : ℕ) : Type 0 where
+  pub begins : start ≡ rowStart ends (code / levelPlaces)
+  pub ending : end ≡ getD ends (code / levelPlaces) 0
+
+pub own-row : {ends : List ℕ} {code s t start end : ℕ} → s ≡ code / levelPlaces → t ≡ code / levelPlaces
+    → start ≡ rowStart ends s → end ≡ getD ends t 0 → OwnRow ends code start end
+own-row es et b e = record { begins = rw (← es) b; ending = rw (← et) e }
+
+module _ {ends transitions : List ℕ} {r : ℕ} where
+  pub pairing-begins : {before pairs index : List ℕ} {n : ℕ} → PairRows ends transitions r (take n pairs) → PairsNumbered pairs index n
       → Pairing ends transitions r (exploreN ends transitions r maxStates 0 0 (take n pairs)) before pairs index before n 0 0
   unfolding records
-  pairing-begins before pairs index n rows numbered = record {
+  pairing-begins rows numbered = record {
     count = 0;
     numbered = numbered;
     rows = rows;
@@ -62,7 +71,9 @@ module _ (ends transitions : List ℕ) (r : ℕ) where
     written = λ more. record { count = refl; front = refl };
   }
 
-  module _ (all : Result (List ℕ)) (before pairs index table : List ℕ) (k m place : ℕ) (room : transitionsBytes ≤ length before) (inv : Pairing ends transitions r all before pairs index table k m place) where
+  module _ {all : Result (List ℕ)} {before pairs index table : List ℕ} {k m place : ℕ}
+      (inv : Pairing ends transitions r all before pairs index table k m place)
+      (room : transitionsBytes ≤ length before) where
     size : length (take k pairs) ≡ k
     size = length-take-le k pairs (omega (arith, inv .numbered .room, inv .numbered .few))
 
@@ -98,15 +109,15 @@ module _ (ends transitions : List ℕ) (r : ℕ) where
       own-few = omega (arith, own-size, row-few ends (take k pairs) code (inv .rows .listed) here (code / levelPlaces) refl)
 
       -- the row as the code reads it
-      module _ {s t level start end : ℕ} (es : s ≡ code / levelPlaces) (et : t ≡ code / levelPlaces) (el : level ≡ code % levelPlaces) (ef : start ≡ rowStart ends s) (ee : end ≡ getD ends t 0) where
+      module _ {start end : ℕ} (at : OwnRow ends code start end) where
         own-is : take (end - start) (drop start transitions) ≡ own
-        own-is = rw (ef, ee, es, et)
+        own-is = rw (at .begins, at .ending)
 
         pub row-begins : start ≤ end
-        row-begins = rw (ef, ee, es, et) (row-rises ends (take k pairs) code (inv .rows .listed) here (code / levelPlaces) refl)
+        row-begins = rw (at .begins, at .ending) (row-rises ends (take k pairs) code (inv .rows .listed) here (code / levelPlaces) refl)
 
         pub row-fits : end ≤ length transitions
-        row-fits = rw (ee, et, inv .rows .size) (row-inside ends (take k pairs) code (inv .rows .listed) here (code / levelPlaces) refl)
+        row-fits = rw (at .ending, inv .rows .size) (row-inside ends (take k pairs) code (inv .rows .listed) here (code / levelPlaces) refl)
 
         pub row-leads : Leads (take (end - start) (drop start transitions))
         row-leads = rw own-is (λ x h. omega (arith, inv .rows .closed (code / levelPlaces) state-here x h, inv .rows .listed .rows .states))
@@ -114,7 +125,7 @@ module _ (ends transitions : List ℕ) (r : ℕ) where
         pub row-room : (m + length (take (end - start) (drop start transitions))) * 4 ≤ length table
         row-room = rw own-is (omega (arith, own-few, inv .few, inv .size, inv .numbered .few))
 
-        module _ (met : Paired) (pairs′ index′ table′ : List ℕ)
+        module _ {level : ℕ} (el : level ≡ code % levelPlaces) (met : Paired) (pairs′ index′ table′ : List ℕ)
             (meets : (count : ℕ) → AddsRows (meetAllN place count (map (targetN r level) (take (end - start) (drop start transitions))) (take k pairs)) (λ _ codes. records (transitionN codes r level) (take (end - start) (drop start transitions))) table m met pairs′ index′ table′) where
           met-is : AddsRows (meetAllN place (inv .count) (targetsN ends transitions r code) (take k pairs)) (λ _ codes. rowN ends transitions r codes code) table m met pairs′ index′ table′
           met-is = rw (← own-is, ← el) (meets (inv .count))
@@ -128,7 +139,7 @@ module _ (ends transitions : List ℕ) (r : ℕ) where
           at-place : getD (take k pairs) place 0 ≡ code
           at-place = getD-take k pairs place 0 lt
 
-          pub pairing-stops : {at : StateNumber} → met ≡ Stop at → AddsRows all (λ done codes. records (rowN ends transitions r codes) done) before 0 met pairs′ index′ table′
+          pub pairing-stops : {last : StateNumber} → met ≡ Stop last → AddsRows all (λ done codes. records (rowN ends transitions r codes) done) before 0 met pairs′ index′ table′
           pairing-stops e =
               rw (e, ← inv .left, fuel) (explore-refused eqb maxStates 24 (λ _ _. fine) 0 (targetsN ends transitions r) (λ _ _. fine) (maxStates - suc place) place (inv .count) (take k pairs) inside (rw at-place (rw e at met-is)))
 

@@ -20,7 +20,7 @@ abbrev μ-loop : tie.MeasureT-loop
 μ-loop row level r pairs₀ index₀ table₀ before written k₀ i₀ pairs index table k i = length row - i
 
 loop-holds : tie.Need-loop-holds Inv-loop μ-loop
-loop-holds c = meeting-begins _ _ _ _ _ _ _ _ _ (c .before .before .before .before .pre .0)
+loop-holds c = meeting-begins (c .before .before .before .before .pre .0)
 
 target-requires : tie.Need-target-requires Inv-loop μ-loop
 target-requires c κs =
@@ -32,11 +32,9 @@ meet-pair-requires : tie.Need-meet-pair-requires Inv-loop μ-loop
 meet-pair-requires c κs =
     let loop-test = c .before .before .before .before in
     let at = loop-test .before in
-    let s = at .before .before .before .before .before in (
-      at .loop .inv .numbered,
-      rw (c .target .ensures)
-          (target-inside (s .args .r) _ _ (s .pre .1) (s .pre .2 _ (at-in {A = ℕ} 0 (s .args .row .now) _ (loop-test .loop-test .taken)))),
-    )
+    let s = at .before .before .before .before .before in
+    let leads = s .pre .2 _ (at-in {A = ℕ} 0 (s .args .row .now) _ (loop-test .loop-test .taken)) in
+    (at .loop .inv .numbered, rw (c .target .ensures) (target-inside (s .args .r) _ _ (s .pre .1) leads))
 
 same-length : tie.Need-same-length Inv-loop μ-loop
 same-length c =
@@ -64,7 +62,7 @@ returns c =
     let target = meet-pair .before in
     let loop-test = target .before .before .before .before in
     let at = loop-test .before in
-    meeting-full _ _ _ _ _ _ _ _ _ _ _ (at .loop .i) (at .loop .inv) (loop-test .loop-test .taken)
+    meeting-full (at .loop .inv) (loop-test .loop-test .taken)
     (target .target .ensures) (meet-pair .meet-pair .result) (meet-pair .meet-pair .last .0)
     (meet-pair .meet-pair .last .1 .0) (meet-pair .meet-pair .ensures) (c .enum-told .given .1)
 
@@ -75,11 +73,11 @@ put-transition-requires c κs =
     let target = meet-pair .before in
     let loop-test = target .before .before .before .before in
     let at = loop-test .before in
-    let s = at .before .before .before .before .before in (
-      record-room _ _ _ _ _ _ _ _ _ _ _ _ (at .loop .inv) (loop-test .loop-test .taken) (s .pre .3),
-      omega
-          (arith, number-small _ _ _ _ _ _ _ _ _ _ _ (at .loop .i) (at .loop .inv) (loop-test .loop-test .taken) (target .target .ensures) (meet-pair .meet-pair .result) (meet-pair .meet-pair .last .0) (meet-pair .meet-pair .last .1 .0) (meet-pair .meet-pair .ensures) (met .met .given .1)),
-    )
+    let s = at .before .before .before .before .before in
+    let small = number-small (at .loop .inv) (loop-test .loop-test .taken) (target .target .ensures)
+    (meet-pair .meet-pair .result) (meet-pair .meet-pair .last .0) (meet-pair .meet-pair .last .1 .0)
+    (meet-pair .meet-pair .ensures) (met .met .given .1) in
+    (record-room (at .loop .inv) (loop-test .loop-test .taken) (s .pre .3), omega (arith, small))
 
 loop-again : tie.Need-loop-again Inv-loop μ-loop
 loop-again c =
@@ -90,7 +88,7 @@ loop-again c =
     let loop-test = target .before .before .before .before in
     let at = loop-test .before in
     let s = at .before .before .before .before .before in
-    meeting-steps _ _ _ _ _ _ _ _ _ _ _ (at .loop .i) (at .loop .inv) (loop-test .loop-test .taken)
+    meeting-steps (at .loop .inv) (loop-test .loop-test .taken)
     (target .target .ensures) (meet-pair .meet-pair .result) (meet-pair .meet-pair .last .0)
     (meet-pair .meet-pair .last .1 .0) (meet-pair .meet-pair .ensures) (met .met .given .1) _
     (put-transition .put-transition .kept .0) (s .pre .3) (put-transition .put-transition .ensures)
@@ -114,7 +112,7 @@ returns-2 : tie.Need-returns-2 Inv-loop μ-loop
 returns-2 c =
     let at = c .before in
     let s = at .before .before .before .before .before in
-    meeting-ends _ _ _ _ _ _ _ _ _ _ _ _ (at .loop .inv) (s .pre .3) (c .loop-test .left)
+    meeting-ends (at .loop .inv) (s .pre .3) (c .loop-test .left)
 
 pub meet-row-spec : {M : Type 1} → statement M
 meet-row-spec =
