@@ -10,7 +10,7 @@ use lib.ListN.{length, getD, take, drop, drop-of-length-le}
 use lib.Seq.{length-take-le}
 use borrow.Author.Tests.{lt-ltb, le-ltb}
 use Rattle.answer.specs.Result.{Result, accepted, refused, andThen, Check, fine}
-use Rattle.generalized.specs.Explore.{find, meet, meetAll, explore}
+use Rattle.generalized.specs.Explore.{find, meet, Numbering, meetAll, Walk, explore}
 use Rattle.generalized.proofs.Lists.{drop-next}
 
 and-then-on : {A : Type 0} (a : Check) (b : Result A) (next : A → Result A)
@@ -66,57 +66,58 @@ module _ {A : Type 0} (same : A → A → Bool) where
     unfolding meet
     meet-full le l = rw (le-ltb (find same x xs) (length xs) le, le-ltb (length xs) limit l, meet)
 
-  module _ (limit full : ℕ) (each : (place count : ℕ) → Check) where
-    abbrev all : (place : ℕ) (targets : List A) (count : ℕ) → List A → Result (List A)
-    all = meetAll same limit full each
+module _ {A : Type 0} (n : Numbering A) where
+  pub all-met : (place count : ℕ) (xs : List A) → meetAll n place [] count xs ≡ accepted xs
+  unfolding meetAll
+  all-met place count xs = refl
 
-    pub all-met : (place count : ℕ) (xs : List A) → all place [] count xs ≡ accepted xs
+  -- the targets of a state, of which y is the next
+  module _ (place : ℕ) (y : A) (ys : List A) (count : ℕ) (xs : List A) where
+    abbrev all : Result (List A)
+    all = meetAll n place (y ∷ ys) count xs
+
+    abbrev first : Result (List A)
+    first = meet (n .same) (n .limit) (n .full) place y xs
+
+    pub all-refused : {number at : ℕ} → n .each place count ≡ refused number at → all ≡ refused number at
     unfolding meetAll
-    all-met place count xs = refl
+    all-refused e = rw e
 
-    -- the targets of a state, of which y is the next
-    module _ (place : ℕ) (y : A) (ys : List A) (count : ℕ) (xs : List A) where
-      pub all-refused : {number at : ℕ} → each place count ≡ refused number at
-          → all place (y ∷ ys) count xs ≡ refused number at
-      unfolding meetAll
-      all-refused e = rw e
+    pub all-full : {number at : ℕ} → n .each place count ≡ fine → first ≡ refused number at → all ≡ refused number at
+    unfolding meetAll
+    all-full e f = rw (e, f)
 
-      pub all-full : {number at : ℕ} → each place count ≡ fine → meet same limit full place y xs ≡ refused number at
-          → all place (y ∷ ys) count xs ≡ refused number at
-      unfolding meetAll
-      all-full e f = rw (e, f)
+    pub all-next : {more : List A} → n .each place count ≡ fine → first ≡ accepted more
+        → all ≡ meetAll n place ys (suc count) more
+    unfolding meetAll
+    all-next e f = rw (e, f)
 
-      pub all-next : {more : List A} → each place count ≡ fine → meet same limit full place y xs ≡ accepted more
-          → all place (y ∷ ys) count xs ≡ all place ys (suc count) more
-      unfolding meetAll
-      all-next e f = rw (e, f)
+module _ {A : Type 0} (w : Walk A) where
+  pub explore-ends : (fuel place count : ℕ) (xs : List A) → length xs ≤ place
+      → explore w fuel place count xs ≡ accepted xs
+  unfolding explore
+  explore-ends zero place count xs le = refl
+  explore-ends (suc fuel) place count xs le = rw (le-ltb place (length xs) le, explore)
 
-    module _ (none : A) (targets : A → List A) (before : ℕ → A → Check) where
-      abbrev walk : (fuel place count : ℕ) → List A → Result (List A)
-      walk = explore same limit full each none targets before
+  -- the state at place, as it is taken, and the walk after it
+  module _ (fuel place count : ℕ) (xs : List A) where
+    abbrev here : A
+    here = getD xs place (w .none)
 
-      pub explore-ends : (fuel place count : ℕ) (xs : List A) → length xs ≤ place
-          → walk fuel place count xs ≡ accepted xs
-      unfolding explore
-      explore-ends zero place count xs le = refl
-      explore-ends (suc fuel) place count xs le = rw (le-ltb place (length xs) le, explore)
+    abbrev taken : Result (List A)
+    taken = andThen (w .before place here) (λ _. meetAll (w .numbering) place (w .targets here) count xs)
 
-      -- the state at place, as it is taken, and the walk after it
-      module _ (fuel place count : ℕ) (xs : List A) where
-        abbrev taken : Result (List A)
-        taken = andThen (before place (getD xs place none)) (λ _. all place (targets (getD xs place none)) count xs)
+    abbrev rest : List A → Result (List A)
+    rest more = explore w fuel (suc place) (count + length (w .targets here)) more
 
-        abbrev rest : List A → Result (List A)
-        rest more = walk fuel (suc place) (count + length (targets (getD xs place none))) more
+    pub explore-is : place < length xs → explore w (suc fuel) place count xs ≡ andThen taken rest
+    unfolding explore
+    explore-is lt = rw (lt-ltb place (length xs) lt, explore) (and-then-on (w .before place here) _ _)
 
-        pub explore-is : place < length xs → walk (suc fuel) place count xs ≡ andThen taken rest
-        unfolding explore
-        explore-is lt = rw (lt-ltb place (length xs) lt, explore) (and-then-on (before place (getD xs place none)) _ _)
+    pub explore-next : {ys : List A} → place < length xs → taken ≡ accepted ys
+        → explore w (suc fuel) place count xs ≡ rest ys
+    explore-next lt e = explore-is lt ∙ rw e
 
-        pub explore-next : {ys : List A} → place < length xs → taken ≡ accepted ys
-            → walk (suc fuel) place count xs ≡ rest ys
-        explore-next lt e = explore-is lt ∙ rw e
-
-        pub explore-refused : {number at : ℕ} → place < length xs → taken ≡ refused number at
-            → walk (suc fuel) place count xs ≡ refused number at
-        explore-refused lt e = explore-is lt ∙ rw e
+    pub explore-refused : {number at : ℕ} → place < length xs → taken ≡ refused number at
+        → explore w (suc fuel) place count xs ≡ refused number at
+    explore-refused lt e = explore-is lt ∙ rw e

@@ -21,7 +21,7 @@ use Rattle.generalized.specs.declared.Met.{Met}
 use Rattle.generalized.specs.declared.Met.the-variants.{Number, Full}
 use Rattle.generalized.specs.declared.Step.the-variants.{On}
 use Rattle.generalized.specs.Explore.{find, meet}
-use Rattle.generalized.specs.Generalized.{transitionCheck}
+use Rattle.generalized.specs.Generalized.{transitionCheck, stateNumbering}
 use Rattle.generalized.specs.Memory.{keptN, kept, ListedKept, OwnNumber, NumberedState, MeetsState}
 use Rattle.generalized.specs.Memory.{WalkRoom, meetTargets, Told, MeetsAll}
 use Rattle.generalized.proofs.Lists.{drop-next}
@@ -92,7 +92,7 @@ module _ {ts bytes : List ℕ} {count place : ℕ} {before : Extent}
       let left = rw none at (inv .left) in
       let all : length (map unpack (take count ts)) ≡ count = length-map (take count ts) unpack ∙ size in
       record {
-        are = sym left ∙ all-met eqb maxGeneralizedStates 23 transitionCheck place (total + i) (take seen states);
+        are = sym left ∙ all-met stateNumbering place (total + i) (take seen states);
         few = inv .room .few;
         counted = rw all;
         fits = omega (arith, inv .room .fits);
@@ -111,7 +111,7 @@ module _ {ts bytes : List ℕ} {count place : ℕ} {before : Extent}
     pub meeting-late : maxGeneralizedTransitions ≤ total + i → whole ≡ refused 22 place
     meeting-late ge =
         sym left-is
-        ∙ all-refused eqb maxGeneralizedStates 23 transitionCheck place _ _ (total + i) (take seen states)
+        ∙ all-refused stateNumbering place _ _ (total + i) (take seen states)
         (rw (le-ltb (total + i) maxGeneralizedTransitions ge))
 
     module _ (free : total + i < maxGeneralizedTransitions) (result : Met) (after : List ℕ)
@@ -122,7 +122,7 @@ module _ {ts bytes : List ℕ} {count place : ℕ} {before : Extent}
       pub meeting-full : result ≡ Full → whole ≡ refused 23 place
       meeting-full e =
           sym left-is
-          ∙ all-full eqb maxGeneralizedStates 23 transitionCheck place _ _ (total + i) (take seen states) in-time
+          ∙ all-full stateNumbering place _ _ (total + i) (take seen states) in-time
           (rw (e, inv .room .states-room) at (meets 23 place))
 
       module _ {target more : ℕ} (numbered : result ≡ Number target more) where
@@ -165,7 +165,7 @@ module _ {ts bytes : List ℕ} {count place : ℕ} {before : Extent}
                 };
                 own = own-met (obligationsN t) target more after met;
                 left = rw (up, add-one)
-                    (sym (all-next eqb maxGeneralizedStates 23 transitionCheck place _ _ _ _ in-time known) ∙ left-is);
+                    (sym (all-next stateNumbering place _ _ _ _ in-time known) ∙ left-is);
                 same = take-set-le total transitions (total + i) x (omega arith) ∙ inv .same;
                 listed = λ rule told.
                     let is : x ≡ kept rule (take more after) (unpack t) =

@@ -24,7 +24,7 @@ use Rattle.generalized.specs.declared.Step.{Step}
 use Rattle.generalized.specs.declared.Step.the-variants.{On, Stop}
 use Rattle.generalized.specs.declared.Walked.the-variants.{Accepted}
 use Rattle.generalized.specs.Explore.{explore}
-use Rattle.generalized.specs.Generalized.{transitions, productCheck, transitionCheck, targets, generalized}
+use Rattle.generalized.specs.Generalized.{transitions, productCheck, targets, stateNumbering, stateWalk, generalized}
 use Rattle.generalized.specs.Memory.{ProductRoom, Product, ListedKept, WalkRoom, meetTargets, Added, AddsTransitions, Told}
 use Rattle.generalized.specs.Memory.{MeetsAll, allTransitions, WalkPlaces, Walks}
 use Rattle.generalized.proofs.Exploring.{explore-next, explore-refused, explore-ends}
@@ -66,7 +66,7 @@ state-extends : (rule : List ℕ) (place total : ℕ) (xs ys : List ℕ) → wal
     → Extends xs ys
 state-extends rule place total xs ys e =
     let met = then-accepted (productCheck rule place (getD xs place 0)) _ e .2 in
-    all-grows eqb maxGeneralizedStates 23 transitionCheck place _ total xs ys met .extends
+    all-grows stateNumbering place _ total xs ys met .extends
 
 -- one state more
 all-last : (rule xs : List ℕ) (x : ℕ)
@@ -81,9 +81,7 @@ numbered size states = take (size .states) states
 
 -- what is left of the walk at place, when count transitions and the states xs are there
 abbrev rest : (rule : List ℕ) (place count : ℕ) (xs : List ℕ) → Result (List ℕ)
-rest rule place count xs =
-    explore eqb maxGeneralizedStates 23 transitionCheck 0 (targets rule) (productCheck rule)
-    (maxGeneralizedStates - place) place count xs
+rest rule place count xs = explore (stateWalk rule) (maxGeneralizedStates - place) place count xs
 
 -- the walk that stands at place: what is left of it comes to the whole, and the states before place are in the tables
 pub record Walking (rule : List ℕ) (initial : ℕ) (states transitions ends : List ℕ) (size : Extent) (place : ℕ)
@@ -140,8 +138,7 @@ module _ {rule : List ℕ} {initial : ℕ} {states transitions ends : List ℕ} 
   walk-ends ge =
       let all : take place xs ≡ xs = take-all place xs (omega (arith, count)) in
       record {
-        are = inv .left ∙ explore-ends eqb maxGeneralizedStates 23 transitionCheck 0 (targets rule) (productCheck rule)
-            (maxGeneralizedStates - place) place total xs (omega (arith, count));
+        are = inv .left ∙ explore-ends (stateWalk rule) (maxGeneralizedStates - place) place total xs (omega (arith, count));
         few = inv .room .few;
         begun = inv .begun;
         counted = rw all at (inv .counted);
@@ -165,8 +162,7 @@ module _ {rule : List ℕ} {initial : ℕ} {states transitions ends : List ℕ} 
     refused-here e =
         inv .left
         ∙ rw fuel
-        (explore-refused eqb maxGeneralizedStates 23 transitionCheck 0 (targets rule) (productCheck rule)
-        (maxGeneralizedStates - suc place) place total xs inside e)
+        (explore-refused (stateWalk rule) (maxGeneralizedStates - suc place) place total xs inside e)
 
     pub walk-over : maxProduct < many → generalized rule ≡ refused 21 place
     walk-over over = refused-here (state-refused rule states place size lt items many product over)
@@ -219,8 +215,7 @@ module _ {rule : List ℕ} {initial : ℕ} {states transitions ends : List ℕ} 
         left-now : generalized rule ≡ rest rule (suc place) end ys
         unfolding targets
         left-now =
-            let next = explore-next eqb maxGeneralizedStates 23 transitionCheck 0 (targets rule) (productCheck rule)
-            (maxGeneralizedStates - suc place) place total xs inside (added .are) in
+            let next = explore-next (stateWalk rule) (maxGeneralizedStates - suc place) place total xs inside (added .are) in
             inv .left ∙ rw (fuel, next, getD-take (size .states) states place 0 lt, count-is)
 
         listed-now : ListedKept rule ys (allTransitions rule (take (suc place) ys)) (take end transitions′)

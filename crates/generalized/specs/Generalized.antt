@@ -11,7 +11,7 @@ use Rattle.formula.specs.Formula.{tree, formula}
 use Rattle.sets.specs.Bits.{has}
 use Rattle.term.specs.Term.{Term, term, product, cover, terms}
 use Rattle.generalized.specs.Limits.{maxProduct, maxGeneralizedTransitions, maxGeneralizedStates}
-use Rattle.generalized.specs.Explore.{explore}
+use Rattle.generalized.specs.Explore.{Numbering, Walk, walked}
 
 -- the product of ts and us where the obligation is there, else ts as they are
 abbrev pub times : Bool → List Term → List Term → List Term
@@ -44,10 +44,20 @@ transitionCheck place count = require (ltb count maxGeneralizedTransitions) 22 p
 unfoldable pub targets : List ℕ → ℕ → List ℕ
 targets rule state = map (λ t. t .obligations) (transitions rule state)
 
--- the states by number: the sets of the root's cover, then those that the walk meets. It ends at its first refusal:
--- 21 as a state is taken, 22 at a transition, then 23 if the target would be one state too many (01, First walk
--- and second walk, sentences 1 to 3, 7 and 8; Numbers that come from the state, 21 to 23)
+-- states are obligation sets; 22 at a transition, then 23 if its target would be one state too many
+abbrev pub stateNumbering : Numbering ℕ
+stateNumbering = record { same = eqb; limit = maxGeneralizedStates; full = 23; each = transitionCheck }
+
+-- the walk asks 21 as a state is taken
+abbrev pub stateWalk : List ℕ → Walk ℕ
+stateWalk rule = record {
+  numbering = stateNumbering;
+  none = 0;
+  targets = targets rule;
+  before = productCheck rule;
+}
+
+-- the states by number: the sets of the root's cover, then those that the walk meets; it ends at its first refusal (01,
+-- First walk and second walk, sentences 1 to 3, 7 and 8; Numbers that come from the state, 21 to 23)
 unfoldable pub generalized : List ℕ → Result (List ℕ)
-generalized rule =
-    explore eqb maxGeneralizedStates 23 transitionCheck 0 (targets rule) (productCheck rule)
-    maxGeneralizedStates 0 0 (cover (formula rule))
+generalized rule = walked (stateWalk rule) (cover (formula rule))

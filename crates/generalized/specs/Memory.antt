@@ -21,7 +21,7 @@ use Rattle.generalized.specs.declared.Step.the-variants.{On, Stop}
 use Rattle.generalized.specs.declared.Walked.{Walked}
 use Rattle.generalized.specs.declared.Walked.the-variants.{Accepted, Refused}
 use Rattle.generalized.specs.Explore.{find, meet, meetAll}
-use Rattle.generalized.specs.Generalized.{transitions, productCheck, transitionCheck, generalized}
+use Rattle.generalized.specs.Generalized.{transitions, productCheck, stateNumbering, generalized}
 
 -- ---- the transitions of a state
 
@@ -105,8 +105,7 @@ pub record WalkRoom (size : Extent) (states transitions : List ℕ) : Type 0 whe
 
 -- the targets of the transitions ts of the state at place, met when count transitions and the states xs are there
 abbrev pub meetTargets : (place : ℕ) (ts : List Term) (count : ℕ) (xs : List ℕ) → Result (List ℕ)
-meetTargets place ts count xs =
-    meetAll eqb maxGeneralizedStates 23 transitionCheck place (map (λ t. t .obligations) ts) count xs
+meetTargets place ts count xs = meetAll stateNumbering place (map (λ t. t .obligations) ts) count xs
 
 -- ts added to the total transitions that were in the table before: n states and m transitions are there then
 pub record Added (rule : List ℕ) (ts : List Term) (total : ℕ) (before : List ℕ) (met : Result (List ℕ))
