@@ -15,18 +15,16 @@ use Rattle.answer.specs.Result.{accepted, fine}
 use Rattle.formula.specs.Formula.{formula}
 use Rattle.term.specs.Term.{Term, cover}
 use Rattle.term.specs.Size.{sizesChecked}
-use Rattle.generalized.specs.Limits.{maxGeneralizedStates}
 use Rattle.generalized.specs.Explore.{find}
-use Rattle.generalized.specs.Generalized.{transitions, transitionCheck, productCheck, targets, generalized}
+use Rattle.generalized.specs.Generalized.{transitions, targets, stateWalk, generalized}
 use Rattle.generalized.proofs.Passed.{initial-few}
-use Rattle.generalized.proofs.Explored.{Explored, explored, extends-longer, extends-at}
+use Rattle.generalized.proofs.Explored.{Explored, walk-explored, extends-longer, extends-at}
 use Rattle.automaton.specs.Automaton.{Transition, State, Automaton, noState, reads, Step}
 use Rattle.sets.specs.Sets.{In}
 use Rattle.acceptance.specs.Acceptance.{untilCount}
-use Rattle.translation.specs.Degeneralized.{nextLevel, Pair, pair, samePair, numbers, initialNumbers, pairTransitions, target, degeneralized, stateOf}
+use Rattle.translation.specs.Degeneralized.{nextLevel, Pair, pair, samePair, numbers, initialNumbers, pairTransitions, target, pairWalk, degeneralized, stateOf}
 use Rattle.translation.proofs.Codes.{numbers-length}
 use Rattle.sets.proofs.Members.{All, at-in, in-at, map-in, in-map, map-at}
-use Rattle.automaton.specs.Limits.{maxStates}
 use Rattle.correctness.proofs.Runs.{Reads, Represents}
 use Rattle.correctness.proofs.Tests.{reads-iff}
 use Rattle.automaton.proofs.Passes.{numbered}
@@ -99,17 +97,19 @@ module _ (rule : List ℕ) (accepted-rule : sizesChecked rule ≡ fine) (states 
   abbrev listedAt : ℕ → List Term
   listedAt k = transitions rule (getD states (at k .state) 0)
 
-  pub first-walked : Explored eqb maxGeneralizedStates 23 transitionCheck 0 (targets rule) (productCheck rule) 0 (cover (formula rule)) states
+  pub first-walked : Explored (stateWalk rule) 0 (cover (formula rule)) states
   unfolding generalized
-  first-walked = explored eqb maxGeneralizedStates 23 transitionCheck 0 (targets rule) (productCheck rule) eqb-true (λ x. eq-eqb x x refl) maxGeneralizedStates 0 0 (cover (formula rule)) states (omega (arith, initial-few rule accepted-rule)) (omega arith) first
+  first-walked =
+      walk-explored (stateWalk rule) eqb-true (λ x. eq-eqb x x refl) (omega (arith, initial-few rule accepted-rule)) first
 
   initial-count : length (map (λ i. pair i 0) (numbers count)) ≡ count
   initial-count = length-map (numbers count) (λ i. pair i 0) ∙ numbers-length count
 
-  pub second-walked : Explored samePair maxStates 24 (λ _ _. fine) (pair 0 0) (λ x. map (target rule states x) (pairTransitions rule states x)) (λ _ _. fine) 0 (map (λ i. pair i 0) (numbers count)) pairs
+  pub second-walked : Explored (pairWalk rule states) 0 (map (λ i. pair i 0) (numbers count)) pairs
   unfolding degeneralized initialNumbers
-  second-walked = explored samePair maxStates 24 (λ _ _. fine) (pair 0 0) (λ x. map (target rule states x) (pairTransitions rule states x)) (λ _ _. fine) same-equal same-self
-      maxStates 0 0 (map (λ i. pair i 0) (numbers count)) pairs (omega (arith, initial-few rule accepted-rule, initial-count)) (omega arith) second
+  second-walked =
+      walk-explored (pairWalk rule states) same-equal same-self
+      (omega (arith, initial-few rule accepted-rule, initial-count)) second
 
   -- the first numbers are the initial ones
   initial-at : (k : ℕ) → k < count → at k ≡ pair k 0

@@ -7,7 +7,6 @@ use native.Mathlib.Numerals.{add-one}
 use native.Mathlib.Omega.{arith}
 use lib.ListN.{length, getD, take, set, length-append, length-map, length-set, length-take}
 use lib.Seq.{getD-take, length-take-le, take-append-le, take-all, take-add, take-suc, getD-set-same, getD-set-other}
-use lib.Dec.{eqb}
 use borrow.Author.Count.{below-more}
 use Rattle.answer.specs.Result.{Result, accepted, refused, andThen, fine}
 use Rattle.answer.proofs.Results.{then-accepted}

@@ -15,7 +15,7 @@ use Rattle.formula.specs.Rule
 use Rattle.answer.proofs.Lowest.{fine-first}
 use Rattle.answer.proofs.Results.{never-both, require-fine, required}
 use Rattle.term.specs.Size.{sizeCheck, sizesChecked}
-use Rattle.generalized.specs.Explore.{find, meet, meetAll, explore}
+use Rattle.generalized.specs.Explore.{find, meet, Numbering, meetAll, Walk, explore}
 use Rattle.generalized.specs.Generalized.{productCheck, generalized}
 use Rattle.automaton.specs.Automaton.{Automaton}
 use Rattle.translation.specs.Degeneralized.{degeneralized, translation}
@@ -85,36 +85,45 @@ lowest-proper check (suc n) each =
     then-proper (lowest check n) (λ _. check n) (lowest-proper check n (λ k lt. each k (omega arith)))
     (λ _ _. each n (omega arith))
 
--- a walk, which takes at most its fuel of states
-module _ {A : Type 0} (same : A → A → Bool) (limit full : ℕ)
-    (over : (place : ℕ) → place ≤ maxTransitions → Refusal full place) where
-  meet-proper : (place : ℕ) (x : A) (xs : List A) → place ≤ maxTransitions → Proper (meet same limit full place x xs)
+-- how a walk numbers
+module _ {A : Type 0} (n : Numbering A) (over : (place : ℕ) → place ≤ maxTransitions → Refusal (n .full) place)
+    (each-is : (place count : ℕ) → place ≤ maxTransitions → Proper (n .each place count)) where
+  meet-proper : (place : ℕ) (x : A) (xs : List A) → place ≤ maxTransitions
+      → Proper (meet (n .same) (n .limit) (n .full) place x xs)
   unfolding meet
   meet-proper place x xs le =
-      either-proper (ltb (find same x xs) (length xs)) (accepted xs) _ accepts (either-proper (ltb (length xs) limit) (accepted (xs ++ (x ∷ []))) (refused full place) accepts (refuses (over place le)))
+      either-proper (ltb (find (n .same) x xs) (length xs)) (accepted xs) _ accepts
+      (either-proper (ltb (length xs) (n .limit)) (accepted (xs ++ (x ∷ []))) (refused (n .full) place) accepts
+      (refuses (over place le)))
 
-  module _ (each : (place count : ℕ) → Check)
-      (each-is : (place count : ℕ) → place ≤ maxTransitions → Proper (each place count)) where
-    meetAll-proper : (place : ℕ) (targets : List A) (count : ℕ) (xs : List A) → place ≤ maxTransitions
-        → Proper (meetAll same limit full each place targets count xs)
-    unfolding meetAll
-    meetAll-proper place [] count xs le = accepts
-    meetAll-proper place (y ∷ ys) count xs le =
-        then-proper (each place count) _ (each-is place count le) (λ _ _. then-proper (meet same limit full place y xs) _ (meet-proper place y xs le) (λ more _. meetAll-proper place ys (suc count) more le))
+  meetAll-proper : (place : ℕ) (targets : List A) (count : ℕ) (xs : List A) → place ≤ maxTransitions
+      → Proper (meetAll n place targets count xs)
+  unfolding meetAll
+  meetAll-proper place [] count xs le = accepts
+  meetAll-proper place (y ∷ ys) count xs le =
+      then-proper (n .each place count) _ (each-is place count le)
+      (λ _ _. then-proper (meet (n .same) (n .limit) (n .full) place y xs) _ (meet-proper place y xs le)
+      (λ more _. meetAll-proper place ys (suc count) more le))
 
-    module _ (none : A) (targets : A → List A) (before : ℕ → A → Check)
-        (before-is : (place : ℕ) (x : A) → place ≤ maxTransitions → Proper (before place x)) where
-      explore-proper : (fuel place count : ℕ) (xs : List A) → fuel + place ≤ maxTransitions
-          → Proper (explore same limit full each none targets before fuel place count xs)
-      unfolding explore
-      explore-proper zero place count xs le = accepts
-      explore-proper (suc fuel) place count xs le =
-          let here = getD xs place none in
-          let near : place ≤ maxTransitions = omega arith in
-          let next : fuel + suc place ≤ maxTransitions = omega arith in
-          either-proper (ltb place (length xs)) _ (accepted xs)
-          (then-proper (before place here) _ (before-is place here near) (λ _ _. then-proper (meetAll same limit full each place (targets here) count xs) _ (meetAll-proper place (targets here) count xs near) (λ more _. explore-proper fuel (suc place) (count + length (targets here)) more next)))
-          accepts
+-- a walk, which takes at most its fuel of states
+module _ {A : Type 0} (w : Walk A) (over : (place : ℕ) → place ≤ maxTransitions → Refusal (w .numbering .full) place)
+    (each-is : (place count : ℕ) → place ≤ maxTransitions → Proper (w .numbering .each place count))
+    (before-is : (place : ℕ) (x : A) → place ≤ maxTransitions → Proper (w .before place x)) where
+  explore-proper : (fuel place count : ℕ) (xs : List A) → fuel + place ≤ maxTransitions
+      → Proper (explore w fuel place count xs)
+  unfolding explore
+  explore-proper zero place count xs le = accepts
+  explore-proper (suc fuel) place count xs le =
+      let here = getD xs place (w .none) in
+      let near : place ≤ maxTransitions = omega arith in
+      let next : fuel + suc place ≤ maxTransitions = omega arith in
+      let targets = w .targets here in
+      either-proper (ltb place (length xs)) _ (accepted xs)
+      (then-proper (w .before place here) _ (before-is place here near)
+      (λ _ _. then-proper (meetAll (w .numbering) place targets count xs) _
+      (meetAll-proper (w .numbering) over each-is place targets count xs near)
+      (λ more _. explore-proper fuel (suc place) (count + length targets) more next)))
+      accepts
 
 -- the closure laws, for search: a numeral is a refusal's number, or a place, by computation
 ruleset proper = (accepts, then-proper, require-proper, lowest-proper, numbered, at-most, nearer, refl)

@@ -17,10 +17,10 @@ use Rattle.term.specs.Term.{Term, cover}
 use Rattle.term.specs.Size.{sizesChecked}
 use Rattle.generalized.specs.Limits.{maxGeneralizedStates, maxGeneralizedTransitions}
 use Rattle.generalized.specs.Explore.{find}
-use Rattle.generalized.specs.Generalized.{transitions, productCheck, transitionCheck, targets, generalized}
+use Rattle.generalized.specs.Generalized.{transitions, targets, stateWalk, generalized}
 use Rattle.generalized.specs.Memory.{kept, keptTarget, allTransitions, Tables}
 use Rattle.generalized.proofs.Passed.{initial-few, few-transitions}
-use Rattle.generalized.proofs.Explored.{Explored, explored, extends-longer}
+use Rattle.generalized.proofs.Explored.{Explored, walk-explored, extends-longer}
 use Rattle.generalized.proofs.Kept.{Parts, kept-parts}
 use Rattle.translation.specs.Memory.{rowStart, rowCount, row, FirstWalk, Ends}
 
@@ -70,10 +70,10 @@ module _ (rule : List ℕ) (passed : sizesChecked rule ≡ fine) {initial : ℕ}
   abbrev pub ts : List Term
   ts = allTransitions rule xs
 
-  pub whole : Explored eqb maxGeneralizedStates 23 transitionCheck 0 (targets rule) (productCheck rule) 0 (cover (formula rule)) xs
+  pub whole : Explored (stateWalk rule) 0 (cover (formula rule)) xs
   unfolding generalized
   whole =
-      explored eqb maxGeneralizedStates 23 transitionCheck 0 (targets rule) (productCheck rule) eqb-true (λ x. eq-eqb x x refl) maxGeneralizedStates 0 0 (cover (formula rule)) xs (omega (arith, initial-few rule passed)) (omega arith) (w .found)
+      walk-explored (stateWalk rule) eqb-true (λ x. eq-eqb x x refl) (omega (arith, initial-few rule passed)) (w .found)
 
   -- the initial states are the first
   pub initial-states : length (cover (formula rule)) ≤ length xs

@@ -9,10 +9,10 @@ use lib.ListN.{length, getD, take, drop, take-append-drop, drop-of-length-le}
 use lib.Seq.{sets, getD-take, take-suc, take-all, take-length, take-append-seam, drop-cons, length-take-le}
 use lib.Dec.{eqb}
 use borrow.Author.Tests.{eq-eqb}
-use Rattle.answer.specs.Result.{Result, refused, fine}
+use Rattle.answer.specs.Result.{Result, refused}
 use Rattle.sets.specs.Sets.{In}
 use Rattle.sets.proofs.Members.{at-in}
-use Rattle.generalized.specs.Explore.{find, meet}
+use Rattle.generalized.specs.Explore.{find, meet, meetAll}
 use Rattle.generalized.specs.Memory.{keptMust, keptMustNot}
 use Rattle.generalized.proofs.Exploring.{meet-seen, meet-next, meet-full, all-full, all-next, all-met}
 use Rattle.generalized.proofs.Numbers.{find-stays, find-next}
@@ -22,7 +22,7 @@ use Rattle.automaton.proofs.Records.{records-last}
 use Rattle.translation.specs.declared.StateNumber.{StateNumber}
 use Rattle.translation.specs.declared.Met.{Met}
 use Rattle.translation.specs.declared.Met.the-variants.{Number, Full}
-use Rattle.translation.specs.Memory.{codePlaces, targetN, meetAllN, numberN, transitionN, PairsNumbered, NumberedPair, MeetsPair, AddsRecords, AddedRows}
+use Rattle.translation.specs.Memory.{codePlaces, targetN, codeNumbering, numberN, transitionN, PairsNumbered, NumberedPair, MeetsPair, AddsRecords, AddedRows}
 use Rattle.translation.proofs.Numbering.{seen, unseen, number-is}
 use Rattle.translation.proofs.Filling.{transition-length, front-more, adds-more}
 
@@ -76,12 +76,12 @@ pub record Meeting (row : List ℕ) (r level place : ℕ) (all : (count : ℕ) �
   pub within : i ≤ length row
   pub numbered : PairsNumbered pairs index k
   pub size : length table ≡ length before
-  pub left : (count : ℕ) → meetAllN place (count + i) (map (targetN r level) (drop i row)) (take k pairs) ≡ all count
+  pub left : (count : ℕ) → meetAll codeNumbering place (map (targetN r level) (drop i row)) (count + i) (take k pairs) ≡ all count
   pub written : (more : List ℕ) → AddsRecords before w (records (transitionN (take k pairs ++ more) r level) (take i row)) table (w + i)
 
 module _ {row : List ℕ} {r level place : ℕ} where
   pub meeting-begins : {before : List ℕ} {w : ℕ} {pairs index : List ℕ} {n : ℕ} → PairsNumbered pairs index n
-      → Meeting row r level place (λ count. meetAllN place count (map (targetN r level) row) (take n pairs)) before w pairs index before n 0
+      → Meeting row r level place (λ count. meetAll codeNumbering place (map (targetN r level) row) count (take n pairs)) before w pairs index before n 0
   unfolding records
   meeting-begins {w = w} inv = record {
     within = omega arith;
@@ -101,7 +101,7 @@ module _ {row : List ℕ} {r level place : ℕ} where
     meeting-ends room le count =
         let last : i ≡ length row = omega (arith, inv .within) in
         record {
-          are = sym (inv .left count) ∙ rw (drop-of-length-le row {i = i} le) (all-met eqb maxStates 24 (λ _ _. fine) place _ (take k pairs));
+          are = sym (inv .left count) ∙ rw (drop-of-length-le row {i = i} le) (all-met codeNumbering place _ (take k pairs));
           numbered = inv .numbered;
           inside = omega (arith, inv .size);
           written = λ more. rw (← last) (rw (take-all i row le) at (inv .written more));
@@ -111,12 +111,12 @@ module _ {row : List ℕ} {r level place : ℕ} where
       pub record-room : (w + length row) * 4 ≤ length before → (w + i) * 4 + 4 ≤ length table
       record-room room = omega (arith, inv .size)
 
-      left-is : (count : ℕ) → meetAllN place (count + i) (targetN r level (getD row i 0) ∷ map (targetN r level) (drop (suc i) row)) (take k pairs) ≡ all count
+      left-is : (count : ℕ) → meetAll codeNumbering place (targetN r level (getD row i 0) ∷ map (targetN r level) (drop (suc i) row)) (count + i) (take k pairs) ≡ all count
       left-is count = rw (drop-cons row i 0 lt) at (inv .left count)
 
       module _ {code : ℕ} (is : code ≡ targetN r level (getD row i 0)) (met : Met) (pairs′ index′ : List ℕ) (meets : (at : ℕ) → MeetsPair at code (take k pairs) met pairs′ index′) where
         pub meeting-full : met ≡ Full → (count : ℕ) → all count ≡ refused 24 place
-        meeting-full e count = sym (left-is count) ∙ all-full eqb maxStates 24 (λ _ _. fine) place _ _ (count + i) (take k pairs) refl (rw (← is) (rw e at (meets place)))
+        meeting-full e count = sym (left-is count) ∙ all-full codeNumbering place _ _ (count + i) (take k pairs) refl (rw (← is) (rw e at (meets place)))
 
         module _ {number : StateNumber} {n : ℕ} (e : met ≡ Number number n) where
           m : NumberedPair (targetN r level (getD row i 0)) (take k pairs) (meet eqb maxStates 24 place (targetN r level (getD row i 0)) (take k pairs)) (number .0) n pairs′ index′
@@ -159,7 +159,7 @@ module _ {row : List ℕ} {r level place : ℕ} where
                   size = same ∙ inv .size;
                   left = λ count.
                       let next : count + (i + 1) ≡ suc (count + i) = omega arith in
-                      rw (next, add-one) (sym (all-next eqb maxStates 24 (λ _ _. fine) place _ _ (count + i) (take k pairs) refl (m .are)) ∙ left-is count);
+                      rw (next, add-one) (sym (all-next codeNumbering place _ _ (count + i) (take k pairs) refl (m .are)) ∙ left-is count);
                   written = λ more.
                       rw (up, add-one i, take-suc row i 0 lt, records-last (transitionN (take n pairs′ ++ more) r level) (take i row) (getD row i 0))
                       (adds-more before w _ table (w + i) _ table′ (w + i + 1) (earlier more) (one more));

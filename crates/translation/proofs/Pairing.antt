@@ -7,12 +7,12 @@ use native.Mathlib.Numerals.{add-one}
 use native.Mathlib.Omega.{arith}
 use lib.ListN.{length, getD, take, drop, length-append, length-drop}
 use lib.Seq.{getD-take, take-suc, take-take, take-append-le, length-take-le}
-use lib.Dec.{eqb}
-use Rattle.answer.specs.Result.{Result, fine}
+use Rattle.answer.specs.Result.{Result}
 use Rattle.answer.specs.Bytes.{twoBytes}
 use Rattle.sets.specs.Sets.{In}
 use Rattle.sets.proofs.Members.{map-in}
 use Rattle.formula.specs.Limits.{maxUntils}
+use Rattle.generalized.specs.Explore.{meetAll, explore, walked}
 use Rattle.generalized.specs.Memory.{keptTarget}
 use Rattle.generalized.proofs.Explored.{Grows, all-grows}
 use Rattle.generalized.proofs.Exploring.{explore-next, explore-refused, explore-ends}
@@ -22,7 +22,7 @@ use Rattle.automaton.proofs.Records.{records-last, records-length}
 use Rattle.translation.specs.declared.StateNumber.{StateNumber}
 use Rattle.translation.specs.declared.Paired.{Paired}
 use Rattle.translation.specs.declared.Paired.the-variants.{Count, Stop}
-use Rattle.translation.specs.Memory.{rowStart, rowCount, row, levelPlaces, targetN, targetsN, meetAllN, exploreN, transitionN, rowN, Within, Leads, PairRows, PairsNumbered, AddsRecords, AddedRows, AddsRows}
+use Rattle.translation.specs.Memory.{rowStart, rowCount, row, levelPlaces, targetN, targetsN, codeNumbering, codeWalk, transitionN, rowN, Within, Leads, PairRows, PairsNumbered, AddsRecords, AddedRows, AddsRows}
 use Rattle.translation.proofs.Levels.{target-state}
 use Rattle.translation.proofs.Within.{state-within, row-rises, row-inside, row-few}
 use Rattle.translation.proofs.Filling.{adds-more}
@@ -42,7 +42,7 @@ pub record Pairing (ends transitions : List ℕ) (r : ℕ) (all : Result (List �
   pub numbered : PairsNumbered pairs index k
   pub rows : PairRows ends transitions r (take k pairs)
   pub reached : place ≤ k
-  pub left : exploreN ends transitions r (maxStates - place) place count (take k pairs) ≡ all
+  pub left : explore (codeWalk ends transitions r) (maxStates - place) place count (take k pairs) ≡ all
   pub size : length table ≡ length before
   pub few : m ≤ place * maxOfState
   pub written : (more : List ℕ) → AddsRecords before 0 (records (rowN ends transitions r (take k pairs ++ more)) (take place pairs)) table m
@@ -58,7 +58,7 @@ own-row es et b e = record { begins = rw (← es) b; ending = rw (← et) e }
 
 module _ {ends transitions : List ℕ} {r : ℕ} where
   pub pairing-begins : {before pairs index : List ℕ} {n : ℕ} → PairRows ends transitions r (take n pairs) → PairsNumbered pairs index n
-      → Pairing ends transitions r (exploreN ends transitions r maxStates 0 0 (take n pairs)) before pairs index before n 0 0
+      → Pairing ends transitions r (walked (codeWalk ends transitions r) (take n pairs)) before pairs index before n 0 0
   unfolding records
   pairing-begins rows numbered = record {
     count = 0;
@@ -81,7 +81,7 @@ module _ {ends transitions : List ℕ} {r : ℕ} where
     pairing-ends le =
         let last : place ≡ k = omega (arith, inv .reached) in
         record {
-          are = sym (inv .left) ∙ explore-ends eqb maxStates 24 (λ _ _. fine) 0 (targetsN ends transitions r) (λ _ _. fine) (maxStates - place) place (inv .count) (take k pairs) (omega (arith, size));
+          are = sym (inv .left) ∙ explore-ends (codeWalk ends transitions r) (maxStates - place) place (inv .count) (take k pairs) (omega (arith, size));
           numbered = inv .numbered;
           inside = omega (arith, inv .few, inv .size, inv .numbered .few);
           written = λ more. rw last at (inv .written more);
@@ -126,8 +126,8 @@ module _ {ends transitions : List ℕ} {r : ℕ} where
         row-room = rw own-is (omega (arith, own-few, inv .few, inv .size, inv .numbered .few))
 
         module _ {level : ℕ} (el : level ≡ code % levelPlaces) (met : Paired) (pairs′ index′ table′ : List ℕ)
-            (meets : (count : ℕ) → AddsRows (meetAllN place count (map (targetN r level) (take (end - start) (drop start transitions))) (take k pairs)) (λ _ codes. records (transitionN codes r level) (take (end - start) (drop start transitions))) table m met pairs′ index′ table′) where
-          met-is : AddsRows (meetAllN place (inv .count) (targetsN ends transitions r code) (take k pairs)) (λ _ codes. rowN ends transitions r codes code) table m met pairs′ index′ table′
+            (meets : (count : ℕ) → AddsRows (meetAll codeNumbering place (map (targetN r level) (take (end - start) (drop start transitions))) count (take k pairs)) (λ _ codes. records (transitionN codes r level) (take (end - start) (drop start transitions))) table m met pairs′ index′ table′) where
+          met-is : AddsRows (meetAll codeNumbering place (targetsN ends transitions r code) (inv .count) (take k pairs)) (λ _ codes. rowN ends transitions r codes code) table m met pairs′ index′ table′
           met-is = rw (← own-is, ← el) (meets (inv .count))
 
           fuel : maxStates - place ≡ suc (maxStates - suc place)
@@ -141,14 +141,14 @@ module _ {ends transitions : List ℕ} {r : ℕ} where
 
           pub pairing-stops : {last : StateNumber} → met ≡ Stop last → AddsRows all (λ done codes. records (rowN ends transitions r codes) done) before 0 met pairs′ index′ table′
           pairing-stops e =
-              rw (e, ← inv .left, fuel) (explore-refused eqb maxStates 24 (λ _ _. fine) 0 (targetsN ends transitions r) (λ _ _. fine) (maxStates - suc place) place (inv .count) (take k pairs) inside (rw at-place (rw e at met-is)))
+              rw (e, ← inv .left, fuel) (explore-refused (codeWalk ends transitions r) (maxStates - suc place) place (inv .count) (take k pairs) inside (rw at-place (rw e at met-is)))
 
           module _ {n after : ℕ} (e : met ≡ Count n after) (same : length table′ ≡ length table) where
-            counted : AddedRows (meetAllN place (inv .count) (targetsN ends transitions r code) (take k pairs)) (λ _ codes. rowN ends transitions r codes code) table m n after pairs′ index′ table′
+            counted : AddedRows (meetAll codeNumbering place (targetsN ends transitions r code) (inv .count) (take k pairs)) (λ _ codes. rowN ends transitions r codes code) table m n after pairs′ index′ table′
             counted = rw e at met-is
 
-            grown : Grows eqb maxStates 24 (λ _ _. fine) (targetsN ends transitions r code) (take k pairs) (take n pairs′)
-            grown = all-grows eqb maxStates 24 (λ _ _. fine) place (targetsN ends transitions r code) (inv .count) (take k pairs) (take n pairs′) (counted .are)
+            grown : Grows codeNumbering (targetsN ends transitions r code) (take k pairs) (take n pairs′)
+            grown = all-grows codeNumbering place (targetsN ends transitions r code) (inv .count) (take k pairs) (take n pairs′) (counted .are)
 
             rest : List ℕ
             rest = grown .extends .more
@@ -188,7 +188,7 @@ module _ {ends transitions : List ℕ} {r : ℕ} where
                 closed = inv .rows .closed;
               };
               reached = omega (arith, longer);
-              left = rw (add-one, ← at-place) (sym (explore-next eqb maxStates 24 (λ _ _. fine) 0 (targetsN ends transitions r) (λ _ _. fine) (maxStates - suc place) place (inv .count) (take k pairs) inside (rw at-place (counted .are))) ∙ rw (← fuel) (inv .left));
+              left = rw (add-one, ← at-place) (sym (explore-next (codeWalk ends transitions r) (maxStates - suc place) place (inv .count) (take k pairs) inside (rw at-place (counted .are))) ∙ rw (← fuel) (inv .left));
               size = same ∙ inv .size;
               few = omega (arith, inv .few, counted .written [] .count, records-length (transitionN (take n pairs′ ++ []) r (code % levelPlaces)) 4 (λ x. refl) own, own-few);
               written = λ more.

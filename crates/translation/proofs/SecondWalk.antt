@@ -18,7 +18,7 @@ use Rattle.sets.proofs.Members.{at-in}
 use Rattle.formula.specs.Limits.{maxUntils}
 use Rattle.term.specs.Term.{Term}
 use Rattle.term.specs.Size.{sizesChecked}
-use Rattle.generalized.specs.Explore.{find}
+use Rattle.generalized.specs.Explore.{find, walked}
 use Rattle.generalized.specs.Generalized.{transitions}
 use Rattle.acceptance.specs.Acceptance.{untilCount}
 use Rattle.translation.specs.declared.StateNumber.{StateNumber}
@@ -29,13 +29,13 @@ use Rattle.automaton.specs.Limits.{maxStates}
 use Rattle.automaton.specs.Records.{records, numbered, numberedRecords, stateBytes, stateRecord, transitionRecord, stateRecords, transitionRecords, initialRecords}
 use Rattle.automaton.specs.Tables.{Counts, transitionCount, outcome, Outcome}
 use Rattle.automaton.proofs.Records.{transitions-count}
-use Rattle.translation.specs.Degeneralized.{Pair, pair, samePair, numbers, initialNumbers, nextLevel, pairTransitions, target, degeneralized, transitionOf, stateOf, translation}
+use Rattle.translation.specs.Degeneralized.{Pair, pair, samePair, numbers, initialNumbers, nextLevel, pairTransitions, target, pairWalk, degeneralized, transitionOf, stateOf, translation}
 use Rattle.translation.specs.Translate.{stored}
 use Rattle.generalized.specs.Memory.{kept, keptTarget}
 use Rattle.generalized.proofs.Kept.{Parts}
-use Rattle.translation.specs.Memory.{row, levelPlaces, codeOf, pairOf, targetN, targetsN, exploreN, pairBytes, transitionN, rowN, FirstWalk, Within, PairRows, PairsNumbered, AddsRecords, AddedRows, AddsRows}
+use Rattle.translation.specs.Memory.{row, levelPlaces, codeOf, pairOf, targetN, targetsN, codeNumbering, codeWalk, pairBytes, transitionN, rowN, FirstWalk, Within, PairRows, PairsNumbered, AddsRecords, AddedRows, AddsRows}
 use Rattle.translation.proofs.Levels.{target-state, target-level, next-level-is}
-use Rattle.generalized.proofs.Explored.{Explored, explored}
+use Rattle.generalized.proofs.Explored.{Explored, walk-explored}
 use Rattle.generalized.proofs.Passed.{initial-few}
 use Rattle.acceptance.proofs.Gathering.{untils-few}
 use Rattle.term.proofs.Sizes.{bytes-fine}
@@ -167,28 +167,28 @@ module _ {rule : List ℕ} {initial : ℕ} {kepts ends : List ℕ} {r : ℕ} {pa
   pub first-rows : PairRows ends kepts r (take initial pairs₀)
   first-rows = rw (b .start) (rows-over (starts initial) first-within)
 
-  walk-is : degeneralized rule states ≡ mapped pairOf (exploreN ends kepts r maxStates 0 0 (starts initial))
+  walk-is : degeneralized rule states ≡ mapped pairOf (walked (codeWalk ends kepts r) (starts initial))
   unfolding degeneralized initialNumbers
   walk-is =
       rw (← b .walked-first .begun, starts-are (numbers initial))
-      (explore-map eqb samePair pairOf same-codes maxStates 24 (λ _ _. fine) 0 (λ code. code / levelPlaces < n) (targetsN ends kepts r) (λ x. map (target rule states x) (pairTransitions rule states x))
-      targets-are keeps-within maxStates 0 0 (starts initial) first-within)
+      (explore-map codeNumbering samePair pairOf same-codes 0 (λ code. code / levelPlaces < n) (targetsN ends kepts r)
+      (pairWalk rule states .targets) targets-are keeps-within maxStates 0 0 (starts initial) first-within)
 
   -- ---- what the walk over the pairs comes to
 
   module _ (t : List ℕ) (met : Paired) (pairs index table : List ℕ)
-      (met-is : AddsRows (exploreN ends kepts r maxStates 0 0 (take initial pairs₀)) (λ done codes. records (rowN ends kepts r codes) done) t 0 met pairs index table) where
-    explored-is : AddsRows (exploreN ends kepts r maxStates 0 0 (starts initial)) (λ done codes. records (rowN ends kepts r codes) done) t 0 met pairs index table
+      (met-is : AddsRows (walked (codeWalk ends kepts r) (take initial pairs₀)) (λ done codes. records (rowN ends kepts r codes) done) t 0 met pairs index table) where
+    explored-is : AddsRows (walked (codeWalk ends kepts r) (starts initial)) (λ done codes. records (rowN ends kepts r codes) done) t 0 met pairs index table
     explored-is = rw (← b .start) met-is
 
     pub stopped-is : {at : StateNumber} → met ≡ Stop at → length table ≡ length t → {o : Outcome} (s i : List ℕ) → o ≡ stored (refused 24 (at .0)) s table i → o ≡ stored (translation rule) s t i
     unfolding stored translation
     stopped-is {at} e same s i done =
-        let full : exploreN ends kepts r maxStates 0 0 (starts initial) ≡ refused 24 (at .0) = rw e at explored-is in
+        let full : walked (codeWalk ends kepts r) (starts initial) ≡ refused 24 (at .0) = rw e at explored-is in
         done ∙ rw (same, b .passed, b .walked-first .found, walk-is, full)
 
     module _ {count written : ℕ} (e : met ≡ Count count written) where
-      counted : AddedRows (exploreN ends kepts r maxStates 0 0 (starts initial)) (λ done codes. records (rowN ends kepts r codes) done) t 0 count written pairs index table
+      counted : AddedRows (walked (codeWalk ends kepts r) (starts initial)) (λ done codes. records (rowN ends kepts r codes) done) t 0 count written pairs index table
       counted = rw e at explored-is
 
       abbrev codes : List ℕ
@@ -206,9 +206,8 @@ module _ {rule : List ℕ} {initial : ℕ} {kepts ends : List ℕ} {r : ℕ} {pa
       pub written-inside : written * 4 ≤ length table
       written-inside = counted .inside
 
-      whole : Explored eqb maxStates 24 (λ _ _. fine) 0 (targetsN ends kepts r) (λ _ _. fine) 0 (starts initial) codes
-      whole =
-          explored eqb maxStates 24 (λ _ _. fine) 0 (targetsN ends kepts r) (λ _ _. fine) eqb-true (λ x. eq-eqb x x refl) maxStates 0 0 (starts initial) codes first-few (omega arith) (counted .are)
+      whole : Explored (codeWalk ends kepts r) 0 (starts initial) codes
+      whole = walk-explored (codeWalk ends kepts r) eqb-true (λ x. eq-eqb x x refl) first-few (counted .are)
 
       codes-within : Within n codes
       codes-within = whole .every (λ code. code / levelPlaces < n) keeps-within first-within
@@ -229,7 +228,7 @@ module _ {rule : List ℕ} {initial : ℕ} {kepts ends : List ℕ} {r : ℕ} {pa
           each : (u : Term) → In u (own code inside) → transitionN codes r (code % levelPlaces) (kept rule states u) ≡ transitionRecord (transitionOf rule states (map pairOf codes) (pairOf code) u)
           each u h =
               let number : find eqb (targetN r (code % levelPlaces) (kept rule states u)) codes ≡ find samePair (target rule states (pairOf code) u) (map pairOf codes) =
-              sym (find-map eqb samePair pairOf same-codes (targetN r (code % levelPlaces) (kept rule states u)) codes)
+              sym (find-map codeNumbering samePair pairOf same-codes (targetN r (code % levelPlaces) (kept rule states u)) codes)
               ∙ rw (target-is code inside u h) in
               rw (parts code inside u h .must, parts code inside u h .mustNot, number)
 

@@ -8,7 +8,7 @@ use Rattle.answer.specs.Result.{Result, accepted, andThen, fine}
 use Rattle.formula.specs.Formula.{formula}
 use Rattle.term.specs.Term.{Term, cover}
 use Rattle.term.specs.Size.{sizesChecked}
-use Rattle.generalized.specs.Explore.{find, explore}
+use Rattle.generalized.specs.Explore.{find, Walk, walked}
 use Rattle.generalized.specs.Generalized.{transitions, generalized}
 use Rattle.acceptance.specs.Acceptance.{untilCount, fulfilsNext}
 use Rattle.automaton.specs.Automaton.{Transition, State, Automaton}
@@ -55,13 +55,19 @@ module _ (rule states : List ℕ) where
   unfoldable pub target : Pair → Term → Pair
   target x t = pair (find eqb (t .obligations) states) (nextLevel rule (x .level) t)
 
-  -- the pairs by number, as the first walk would number them; one more than an automaton has states is refused by 24,
-  -- at the pair that is walked (01, First walk and second walk, sentences 14 and 16; Numbers that come from the state,
-  -- 24)
+  -- one more pair than an automaton has states is refused by 24, at the pair that is walked; nothing else is asked (01,
+  -- First walk and second walk, sentence 16; Numbers that come from the state, 24)
+  abbrev pub pairWalk : Walk Pair
+  pairWalk = record {
+    numbering = record { same = samePair; limit = maxStates; full = 24; each = λ _ _. fine };
+    none = pair 0 0;
+    targets = λ x. map (target x) (pairTransitions x);
+    before = λ _ _. fine;
+  }
+
+  -- the pairs by number, as the first walk would number them (01, First walk and second walk, sentence 14)
   unfoldable pub degeneralized : Result (List Pair)
-  degeneralized =
-      explore samePair maxStates 24 (λ _ _. fine) (pair 0 0) (λ x. map (target x) (pairTransitions x)) (λ _ _. fine)
-      maxStates 0 0 (map (λ i. pair i 0) (initialNumbers rule))
+  degeneralized = walked pairWalk (map (λ i. pair i 0) (initialNumbers rule))
 
   -- a transition of the first walk as one of the automaton, to its target's number (01, First walk and second walk,
   -- sentence 14)

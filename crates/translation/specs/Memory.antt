@@ -13,7 +13,7 @@ use Rattle.formula.specs.Limits.{maxUntils}
 use Rattle.formula.specs.Formula.{formula}
 use Rattle.term.specs.Term.{cover}
 use Rattle.generalized.specs.Limits.{maxGeneralizedTransitions, maxGeneralizedStates}
-use Rattle.generalized.specs.Explore.{find, meet, meetAll, explore}
+use Rattle.generalized.specs.Explore.{find, meet, Numbering, meetAll, Walk, walked}
 use Rattle.generalized.specs.Generalized.{generalized}
 use Rattle.generalized.specs.Memory.{kept, keptTarget, keptUntils, keptMust, keptMustNot, allTransitions}
 use Rattle.translation.specs.declared.Met.{Met}
@@ -85,9 +85,9 @@ nextLevelN untils r j = cond (ltb j r) (climbN untils (r - j) j) (climbN untils 
 abbrev pub targetN : (r level x : ℕ) → ℕ
 targetN r level x = codeOf (keptTarget x) (nextLevelN (keptUntils x) r level)
 
--- the targets ts of the pair at place, met when the pairs codes are numbered
-abbrev pub meetAllN : (place count : ℕ) (ts codes : List ℕ) → Result (List ℕ)
-meetAllN place count ts codes = meetAll eqb maxStates 24 (λ _ _. fine) place ts count codes
+-- codes are numbered as their pairs are
+abbrev pub codeNumbering : Numbering ℕ
+codeNumbering = record { same = eqb; limit = maxStates; full = 24; each = λ _ _. fine }
 
 -- the number of a pair, of which index has one more
 abbrev pub numberN : (index : List ℕ) (code : ℕ) → ℕ
@@ -105,8 +105,8 @@ module _ (ends transitions : List ℕ) (r : ℕ) where
   abbrev pub targetsN : (code : ℕ) → List ℕ
   targetsN code = map (targetN r (code % levelPlaces)) (row ends transitions (code / levelPlaces))
 
-  abbrev pub exploreN : (fuel place count : ℕ) (codes : List ℕ) → Result (List ℕ)
-  exploreN = explore eqb maxStates 24 (λ _ _. fine) 0 targetsN (λ _ _. fine)
+  abbrev pub codeWalk : Walk ℕ
+  codeWalk = record { numbering = codeNumbering; none = 0; targets = targetsN; before = λ _ _. fine }
 
   -- the records of a pair's transitions
   abbrev pub rowN : (codes : List ℕ) (code : ℕ) → List ℕ
@@ -194,14 +194,14 @@ abbrev pub MeetsRow : (row : List ℕ) (level r : ℕ) (before : Extent) (pairs 
     → Paired → (pairs′ index′ table′ : List ℕ) → Type 0
 MeetsRow row level r before pairs table met pairs′ index′ table′ =
     (count : ℕ)
-    → AddsRows (meetAllN (before .walked) count (map (targetN r level) row) (take (before .pairs) pairs))
+    → AddsRows (meetAll codeNumbering (before .walked) (map (targetN r level) row) count (take (before .pairs) pairs))
     (λ _ codes. records (transitionN codes r level) row) table (before .transitions) met pairs′ index′ table′
 
 -- all pairs walked from the first n, and the records of their transitions put from the table's beginning
 abbrev pub WalksPairs : (ends transitions : List ℕ) (r n : ℕ) (pairs table : List ℕ)
     → Paired → (pairs′ index′ table′ : List ℕ) → Type 0
 WalksPairs ends transitions r n pairs table met pairs′ index′ table′ =
-    AddsRows (exploreN ends transitions r maxStates 0 0 (take n pairs))
+    AddsRows (walked (codeWalk ends transitions r) (take n pairs))
     (λ done codes. records (rowN ends transitions r codes) done) table 0 met pairs′ index′ table′
 
 -- the three tables are large enough

@@ -6,7 +6,8 @@ use Prim.Native.Nat.{_-_}
 use mathlib.Core.Path.{sym, _∙_}
 use lib.ListN.{getD, take}
 use Rattle.automaton.specs.Limits.{maxStates}
-use Rattle.translation.specs.Memory.{exploreN}
+use Rattle.generalized.specs.Explore.{walked}
+use Rattle.translation.specs.Memory.{codeWalk}
 use Rattle.translation.proofs.Within.{state-inside}
 use Rattle.translation.proofs.Meeting.{among}
 use Rattle.translation.proofs.Pairing.{Pairing, OwnRow, own-row, row-begins, row-fits, row-leads, row-room}
@@ -15,7 +16,8 @@ use Rattle.translation.proofs.explore_pairs.Statement.{statement}
 use Rattle.translation.proofs.explore_pairs.Tie as tie
 
 abbrev Inv-loop : tie.InvT-loop
-Inv-loop ends kept r pairs₀ index₀ table₀ n m₀ k₀ pair₀ pairs index table m k pair = Pairing ends kept r (exploreN ends kept r maxStates 0 0 (take n pairs₀)) table₀ pairs index table k m pair
+Inv-loop ends kept r pairs₀ index₀ table₀ n m₀ k₀ pair₀ pairs index table m k pair =
+    Pairing ends kept r (walked (codeWalk ends kept r) (take n pairs₀)) table₀ pairs index table k m pair
 
 abbrev μ-loop : tie.MeasureT-loop
 μ-loop ends kept r pairs₀ index₀ table₀ n m₀ k₀ pair₀ pairs index table m k pair = maxStates - pair

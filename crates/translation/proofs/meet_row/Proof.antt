@@ -7,14 +7,18 @@ use mathlib.Core.Path.{sym, _∙_}
 use mathlib.Core.List.{map}
 use lib.ListN.{length, take}
 use Rattle.sets.proofs.Members.{at-in}
-use Rattle.translation.specs.Memory.{targetN, meetAllN}
+use Rattle.generalized.specs.Explore.{meetAll}
+use Rattle.translation.specs.Memory.{codeNumbering, targetN}
 use Rattle.translation.proofs.Levels.{target-inside}
 use Rattle.translation.proofs.Meeting.{Meeting, meeting-begins, meeting-ends, meeting-full, meeting-steps, record-room, number-small}
 use Rattle.translation.proofs.meet_row.Statement.{statement}
 use Rattle.translation.proofs.meet_row.Tie as tie
 
 abbrev Inv-loop : tie.InvT-loop
-Inv-loop row level r pairs₀ index₀ table₀ before written k₀ i₀ pairs index table k i = Meeting row r level (before .walked) (λ count. meetAllN (before .walked) count (map (targetN r level) row) (take (before .pairs) pairs₀)) table₀ (before .transitions) pairs index table k i
+Inv-loop row level r pairs₀ index₀ table₀ before written k₀ i₀ pairs index table k i =
+    Meeting row r level (before .walked)
+    (λ count. meetAll codeNumbering (before .walked) (map (targetN r level) row) count (take (before .pairs) pairs₀))
+    table₀ (before .transitions) pairs index table k i
 
 abbrev μ-loop : tie.MeasureT-loop
 μ-loop row level r pairs₀ index₀ table₀ before written k₀ i₀ pairs index table k i = length row - i
