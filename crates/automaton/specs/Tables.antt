@@ -4,20 +4,22 @@ use mathlib.Core.List.{List, [], _∷_}
 use mathlib.Core.Bool.{Bool, _&&_}
 use lib.ListN.{length}
 use lib.Dec.{leb}
-use Rattle.answer.specs.Result.{Result, Check, require}
+use Rattle.answer.specs.Result.{Result, accepted, refused, Check, require}
+use Rattle.automaton.specs.declared.Counts.{Counts as Struct}
+use Rattle.automaton.specs.declared.Counted.{Counted}
+use Rattle.automaton.specs.declared.Counted.the-variants.{Accepted, Refused}
 use Rattle.automaton.specs.Automaton.{State, Automaton}
 use Rattle.automaton.specs.Limits.{statesBytes, transitionsBytes, initialBytes}
 
--- how many states, transitions and initial states there are: the answer of an accepted translate or read (01, Numbers
--- that come from the state, last paragraph, sentence 2)
-pub record Counts : Type 0 where
-  pub states : ℕ
-  pub transitions : ℕ
-  pub initial : ℕ
+-- how many states, transitions and initial states there are, the code's own struct: the answer of an accepted translate
+-- or read (01, Numbers that come from the state, last paragraph, sentence 2)
+abbrev pub Counts : Type 0
+Counts = Struct
 
--- three numbers as counts
-abbrev pub countsOf : (states transitions initial : ℕ) → Counts
-countsOf states transitions initial = record { states = states; transitions = transitions; initial = initial }
+-- what the answer of translate, read or check tells in document 01's numbers and values
+abbrev pub told : Counted → Result Counts
+told (Accepted c) = accepted c
+told (Refused number place) = refused number place
 
 unfoldable pub transitionCount : List State → ℕ
 transitionCount [] = 0

@@ -1,4 +1,4 @@
-// The sizes of an automaton and of the tables that hold its records.
+// The limits and the counts of an automaton, and the sizes of the tables that hold its records.
 
 // The limits of an automaton (specs/Limits.antt has where they come from): its states, the transitions of one state and
 // so of all, its initial states.
@@ -16,3 +16,16 @@ pub const STATES_BYTES: usize = 4 * MAX_STATES;
 pub const TRANSITIONS_BYTES: usize = 4 * MAX_TRANSITIONS;
 
 pub const INITIAL_BYTES: usize = 2 * MAX_INITIAL;
+
+// How many states, transitions and initial numbers an automaton has.
+pub struct Counts {
+    pub states: usize,
+    pub transitions: usize,
+    pub initial: usize,
+}
+
+// The answer of a call that gives an automaton: its counts, or a refusal's number and place.
+pub enum Counted {
+    Accepted(Counts),
+    Refused(u8, usize),
+}

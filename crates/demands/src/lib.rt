@@ -1,6 +1,7 @@
 // From a rule and a lasso to the verdict: the calls translate, write and judge in a row.
 use answer::Checked;
 use answer::TABLE_TOO_SHORT;
+use automaton::Counted;
 use automaton::INITIAL_BYTES;
 use automaton::STATES_BYTES;
 use automaton::TRANSITIONS_BYTES;
@@ -11,7 +12,6 @@ use judge::Judged;
 use judge::WORK_BYTES;
 use judge::judge;
 use lasso::check_lasso;
-use translation::Translated;
 use translation::translate;
 ghost use mathlib.Core.Path.{_≡_};
 ghost use mathlib.Core.Bool.{_&&_};
@@ -63,8 +63,8 @@ fn decide_checked(
         (now (image .entry)) (now (work .entry)) ⌝ }
 {
     match translate(rule, states, transitions, initial) {
-        Translated::Refused(number, place) => Judged::Refused(number, place),
-        Translated::Accepted(n, m, k) => match write(states, n, transitions, m, initial, k, image) {
+        Counted::Refused(number, place) => Judged::Refused(number, place),
+        Counted::Accepted(counts) => match write(states, transitions, initial, counts, image) {
             WrittenImage::Refused(number, place) => Judged::Refused(number, place),
             WrittenImage::Accepted(length) => judge(&image[..length], stem, cycle, work),
         },

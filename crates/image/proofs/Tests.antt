@@ -12,7 +12,7 @@ use Rattle.answer.specs.Result.{Result, accepted, refused, andThen, Check, fine
 use Rattle.automaton.specs.Limits.{maxStates, maxOfState, maxTransitions, maxInitial}
 use Rattle.automaton.specs.Tables.{Counts}
 use Rattle.image.specs.Memory.{Small}
-use Rattle.image.specs.Image.{stateCountAt, transitionCountAt, initialCountAt, contentsBytes}
+use Rattle.image.specs.Image.{contentsBytes}
 use Rattle.image.specs.Image.{transitionsAt, initialAt, imageLength}
 use Rattle.answer.specs.Bytes.{numberAt}
 use Rattle.image.specs.Reader.{countsAt, countsFit, kindsFit, offsetsFit, contentsCheck}
@@ -70,9 +70,7 @@ module _ (image : List ℕ) where
 pub record Opened (image : List ℕ) (c : Counts) : Type 0 where
   pub long : contentsBytes ≤ length image
   pub kinds : kindsFit image ≡ true
-  pub states : c .states ≡ numberAt image stateCountAt
-  pub transitions : c .transitions ≡ numberAt image transitionCountAt
-  pub initial : c .initial ≡ numberAt image initialCountAt
+  pub counted : c ≡ countsAt image
 
 module _ {image : List ℕ} {c : Counts} (read : Opened image c) where
   abbrev offsets : Bool
@@ -82,8 +80,7 @@ module _ {image : List ℕ} {c : Counts} (read : Opened image c) where
       ≡ andThen (require (countsFit c && (offsets && eqb (length image) (imageLength c))) 10 0) (λ _. accepted c)
   unfolding contentsCheck
   decided =
-      rw (le-leb contentsBytes (length image) (read .long), read .kinds)
-      (rw (← read .states, ← read .transitions, ← read .initial))
+      rw (le-leb contentsBytes (length image) (read .long), read .kinds, read .counted)
 
   pub counts-wrong : {t : Bool} → t ≡ countsFit c → not t ≡ true → refused 10 0 ≡ contentsAnswer image
   counts-wrong {t} e f = rw (decided, ← e, not-true t f)

@@ -6,12 +6,10 @@ use lib.Dec.{leb}
 use Rattle.answer.specs.Result.{Result, accepted, refused, andThen, Check, require}
 use Rattle.automaton.specs.Automaton.{Automaton}
 use Rattle.automaton.specs.Records.{stateRecords, transitionRecords, initialRecords}
-use Rattle.automaton.specs.Tables.{countsOf, Counts, counts, Outcome, outcome, tableCheck}
+use Rattle.automaton.specs.Tables.{Counts, counts, Outcome, outcome, tableCheck}
 use Rattle.answer.specs.Bytes.{filled}
 use Rattle.image.specs.declared.WrittenImage.{WrittenImage}
 use Rattle.image.specs.declared.WrittenImage.the-variants.{Accepted, Refused}
-use Rattle.image.specs.declared.Loaded.{Loaded}
-use Rattle.image.specs.declared.Loaded.the-variants.{Accepted as IsLoaded, Refused as NotLoaded}
 use Rattle.image.specs.Image.{imageBytes, largestImage}
 use Rattle.image.specs.Reader.{countsFit, readTables, readImage}
 
@@ -48,11 +46,6 @@ readCounted c s t i = andThen (require (countsFit c) 10 0) (λ _. readTables c s
 unfoldable pub writes : Counts → (states transitions initial image : List ℕ) → Buffer
 writes c s t i image =
     written (andThen (tableCheck s t i) (λ _. andThen (bufferCheck image) (λ _. readCounted c s t i))) image
-
--- what the answer of read says in document 01's numbers and values
-abbrev pub readAnswer : Loaded → Result Counts
-readAnswer (IsLoaded states transitions initial) = accepted (countsOf states transitions initial)
-readAnswer (NotLoaded number place) = refused number place
 
 -- the counts, the records, and zero in all unused bytes; a refusal leaves all as it was
 abbrev pub loaded : Result Automaton → (states transitions initial : List ℕ) → Outcome

@@ -4,6 +4,8 @@ use answer::TABLE_TOO_SHORT;
 use answer::copy;
 use answer::number_at;
 use answer::zero;
+use automaton::Counted;
+use automaton::Counts;
 use automaton::INITIAL_BYTES;
 use automaton::MAX_INITIAL;
 use automaton::MAX_OF_STATE;
@@ -18,12 +20,12 @@ ghost use lib.ListN.{length, take, drop};
 ghost use lib.Seq.{sets};
 ghost use Rattle.answer.specs.Result.{accepted, andThen, require, lowest, answer};
 ghost use Rattle.automaton.specs.Limits.{maxStates};
-ghost use Rattle.automaton.specs.Tables.{outcome, countsOf, lengthsFit};
+ghost use Rattle.automaton.specs.Tables.{told, outcome, lengthsFit};
 ghost use Rattle.answer.specs.Bytes.{filled, numberAt};
 ghost use Rattle.image.specs.Image.{entry, entryBytes, contentsBytes, largestImage};
 ghost use Rattle.image.specs.Reader.{countsAt, countsFit, entriesHave, contentsCheck, stateCheck, countSum};
 ghost use Rattle.image.specs.Reader.{transitionRecordCheck, initialCheck, recordsCheck, bodiesCheck};
-ghost use Rattle.image.specs.Calls.{writeAnswer, buffer, writes, readAnswer, readInto, checks};
+ghost use Rattle.image.specs.Calls.{writeAnswer, buffer, writes, readInto, checks};
 ghost use Rattle.image.specs.Memory.{stateAnswer, joinedOver, HasRecords, Small, Sized, Long, Loads};
 
 // The numbers of document 01 by which an image or tables are refused.
@@ -66,12 +68,6 @@ pub enum WrittenImage {
     Refused(u8, usize),
 }
 
-// The answer of read: how many states, transitions and initial states, or a refusal's number and place.
-pub enum Loaded {
-    Accepted(usize, usize, usize),
-    Refused(u8, usize),
-}
-
 // The transition count of a state record, or that the record is refused.
 enum StateCount {
     Accepted(usize),
@@ -92,16 +88,16 @@ fn tables_fit(states: usize, transitions: usize, initial: usize) -> bool
 }
 
 // The counts against 10.
-fn counts_fit(states: usize, transitions: usize, initial: usize) -> bool
-    ensures { λ r. ⌜ r ≡ countsFit (countsOf states transitions initial) ⌝ }
+fn counts_fit(counts: Counts) -> bool
+    ensures { λ r. ⌜ r ≡ countsFit counts ⌝ }
 {
-    if MAX_STATES < states {
+    if MAX_STATES < counts.states {
         return false;
     }
-    if MAX_TRANSITIONS < transitions {
+    if MAX_TRANSITIONS < counts.transitions {
         return false;
     }
-    initial <= MAX_INITIAL
+    counts.initial <= MAX_INITIAL
 }
 
 // The transition count of state record i, unless 11 refuses it.
@@ -200,29 +196,20 @@ fn check_initial(initial: &[u8], n: usize, state_count: usize) -> Checked
 }
 
 // 11 to 13 of three tables.
-fn check_records(
-    states: &[u8],
-    state_count: usize,
-    transitions: &[u8],
-    transition_count: usize,
-    initial: &[u8],
-    initial_count: usize,
-) -> Checked
-    requires { ⌜ HasRecords (countsOf «state_count» «transition_count» «initial_count»)
-        (now states) (now transitions) (now initial) ⌝ }
+fn check_records(states: &[u8], transitions: &[u8], initial: &[u8], counts: Counts) -> Checked
+    requires { ⌜ HasRecords counts (now states) (now transitions) (now initial) ⌝ }
     ensures { λ r. ⌜ answer r
-        ≡ recordsCheck (countsOf «state_count» «transition_count» «initial_count»)
-        (now (states .entry)) (now (transitions .entry)) (now (initial .entry)) ⌝ }
+        ≡ recordsCheck counts (now (states .entry)) (now (transitions .entry)) (now (initial .entry)) ⌝ }
 {
-    let first = check_states(states, state_count, transition_count);
+    let first = check_states(states, counts.states, counts.transitions);
     let Checked::Accepted = first else {
         return first;
     };
-    let second = check_transitions(transitions, transition_count, state_count);
+    let second = check_transitions(transitions, counts.transitions, counts.states);
     let Checked::Accepted = second else {
         return second;
     };
-    check_initial(initial, initial_count, state_count)
+    check_initial(initial, counts.initial, counts.states)
 }
 
 // The numbers at byte `at` of the three entries against 10.
@@ -240,63 +227,63 @@ fn entries_have(image: &[u8], at: usize, first: usize, second: usize, third: usi
 }
 
 // The counts of an image, unless 10 refuses it.
-fn check_contents(image: &[u8]) -> Loaded
-    ensures { λ r. ⌜ readAnswer r
+fn check_contents(image: &[u8]) -> Counted
+    ensures { λ r. ⌜ told r
         ≡ andThen (contentsCheck (now (image .entry))) (λ _. accepted (countsAt (now (image .entry)))) ⌝ }
 {
     if image.len() < CONTENTS_BYTES {
-        return Loaded::Refused(BAD_CONTENTS, 0);
+        return Counted::Refused(BAD_CONTENTS, 0);
     }
     if !entries_have(image, KIND_AT, 1, 2, 3) {
-        return Loaded::Refused(BAD_CONTENTS, 0);
+        return Counted::Refused(BAD_CONTENTS, 0);
     }
-    let states = number_at(image, STATE_COUNT_AT);
-    let transitions = number_at(image, TRANSITION_COUNT_AT);
-    let initial = number_at(image, INITIAL_COUNT_AT);
-    if !counts_fit(states, transitions, initial) {
-        return Loaded::Refused(BAD_CONTENTS, 0);
+    let counts = Counts {
+        states: number_at(image, STATE_COUNT_AT),
+        transitions: number_at(image, TRANSITION_COUNT_AT),
+        initial: number_at(image, INITIAL_COUNT_AT),
+    };
+    if !counts_fit(counts) {
+        return Counted::Refused(BAD_CONTENTS, 0);
     }
-    let transitions_at = CONTENTS_BYTES + 4 * states;
-    let initial_at = transitions_at + 4 * transitions;
+    let transitions_at = CONTENTS_BYTES + 4 * counts.states;
+    let initial_at = transitions_at + 4 * counts.transitions;
     if !entries_have(image, OFFSET_AT, CONTENTS_BYTES, transitions_at, initial_at) {
-        return Loaded::Refused(BAD_CONTENTS, 0);
+        return Counted::Refused(BAD_CONTENTS, 0);
     }
-    if image.len() != initial_at + 2 * initial {
-        return Loaded::Refused(BAD_CONTENTS, 0);
+    if image.len() != initial_at + 2 * counts.initial {
+        return Counted::Refused(BAD_CONTENTS, 0);
     }
-    Loaded::Accepted(states, transitions, initial)
+    Counted::Accepted(counts)
 }
 
 // 11 to 13 of an image that has its contents and its length.
-fn check_bodies(image: &[u8], states: usize, transitions: usize, initial: usize) -> Checked
-    requires { ⌜ Sized (countsOf states transitions initial) (now image) ⌝ }
-    ensures { λ r. ⌜ answer r ≡ bodiesCheck (countsOf states transitions initial) (now (image .entry)) ⌝ }
+fn check_bodies(image: &[u8], counts: Counts) -> Checked
+    requires { ⌜ Sized counts (now image) ⌝ }
+    ensures { λ r. ⌜ answer r ≡ bodiesCheck counts (now (image .entry)) ⌝ }
 {
-    let transitions_at = CONTENTS_BYTES + 4 * states;
-    let initial_at = transitions_at + 4 * transitions;
+    let transitions_at = CONTENTS_BYTES + 4 * counts.states;
+    let initial_at = transitions_at + 4 * counts.transitions;
     check_records(
         &image[CONTENTS_BYTES..],
-        states,
         &image[transitions_at..],
-        transitions,
         &image[initial_at..],
-        initial,
+        counts,
     )
 }
 
 // 10 to 13 of any bytes; on acceptance the counts.
-pub fn check(image: &[u8]) -> Loaded
-    ensures { λ r. ⌜ readAnswer r ≡ checks (now (image .entry)) ⌝ }
+pub fn check(image: &[u8]) -> Counted
+    ensures { λ r. ⌜ told r ≡ checks (now (image .entry)) ⌝ }
 {
     let contents = check_contents(image);
-    let Loaded::Accepted(states, transitions, initial) = contents else {
+    let Counted::Accepted(counts) = contents else {
         return contents;
     };
-    let bodies = check_bodies(image, states, transitions, initial);
+    let bodies = check_bodies(image, counts);
     if let Checked::Refused(number, place) = bodies {
-        return Loaded::Refused(number, place);
+        return Counted::Refused(number, place);
     }
-    Loaded::Accepted(states, transitions, initial)
+    contents
 }
 
 // n bytes of image from byte `at` on in a table, and zero behind them.
@@ -311,49 +298,38 @@ fn load(table: &mut [u8], image: &[u8], at: usize, n: usize)
 // The bodies of an image in three tables.
 fn load_bodies(
     image: &[u8],
-    state_count: usize,
-    transition_count: usize,
-    initial_count: usize,
+    counts: Counts,
     states: &mut [u8],
     transitions: &mut [u8],
     initial: &mut [u8],
 )
-    requires { ⌜ Sized (countsOf «state_count» «transition_count» «initial_count») (now image)
-        × Long (now states) (now transitions) (now initial) ⌝ }
-    ensures { λ _. ⌜ Loads (now (image .entry)) (countsOf «state_count» «transition_count» «initial_count»)
+    requires { ⌜ Sized counts (now image) × Long (now states) (now transitions) (now initial) ⌝ }
+    ensures { λ _. ⌜ Loads (now (image .entry)) counts
         (now (states .entry)) (now (transitions .entry)) (now (initial .entry))
         (now (states .exit)) (now (transitions .exit)) (now (initial .exit)) ⌝ }
 {
-    let states_size = 4 * state_count;
-    let transitions_size = 4 * transition_count;
+    let states_size = 4 * counts.states;
+    let transitions_size = 4 * counts.transitions;
     let transitions_at = CONTENTS_BYTES + states_size;
     let initial_at = transitions_at + transitions_size;
     load(states, image, CONTENTS_BYTES, states_size);
     load(transitions, image, transitions_at, transitions_size);
-    load(initial, image, initial_at, 2 * initial_count);
+    load(initial, image, initial_at, 2 * counts.initial);
 }
 
 // 25, then 10 to 13; the whole image is looked at before anything is stored.
-pub fn read(image: &[u8], states: &mut [u8], transitions: &mut [u8], initial: &mut [u8]) -> Loaded
-    ensures { λ r. ⌜ outcome (readAnswer r) (now (states .exit)) (now (transitions .exit)) (now (initial .exit))
+pub fn read(image: &[u8], states: &mut [u8], transitions: &mut [u8], initial: &mut [u8]) -> Counted
+    ensures { λ r. ⌜ outcome (told r) (now (states .exit)) (now (transitions .exit)) (now (initial .exit))
         ≡ readInto (now (image .entry)) (now (states .entry)) (now (transitions .entry)) (now (initial .entry)) ⌝ }
 {
     if !tables_fit(states.len(), transitions.len(), initial.len()) {
-        return Loaded::Refused(TABLE_TOO_SHORT, 0);
+        return Counted::Refused(TABLE_TOO_SHORT, 0);
     }
     let found = check(image);
-    let Loaded::Accepted(state_count, transition_count, initial_count) = found else {
+    let Counted::Accepted(counts) = found else {
         return found;
     };
-    load_bodies(
-        image,
-        state_count,
-        transition_count,
-        initial_count,
-        states,
-        transitions,
-        initial,
-    );
+    load_bodies(image, counts, states, transitions, initial);
     found
 }
 
@@ -378,34 +354,32 @@ fn put(image: &mut [u8], at: usize, source: &[u8], n: usize)
 // The contents, then each body at its offset; the image's length.
 fn write_image(
     states: &[u8],
-    state_count: usize,
     transitions: &[u8],
-    transition_count: usize,
     initial: &[u8],
-    initial_count: usize,
+    counts: Counts,
     image: &mut [u8],
 ) -> usize
-    requires { ⌜ Small (countsOf «state_count» «transition_count» «initial_count»)
-        × Long (now states) (now transitions) (now initial) × (largestImage ≤ length (now image)) ⌝ }
+    requires { ⌜ Small counts × Long (now states) (now transitions) (now initial)
+        × (largestImage ≤ length (now image)) ⌝ }
     ensures { λ r. ⌜ buffer (accepted r) (now (image .exit))
-        ≡ joinedOver (countsOf «state_count» «transition_count» «initial_count»)
-        (now (states .entry)) (now (transitions .entry)) (now (initial .entry)) (now (image .entry)) ⌝ }
+        ≡ joinedOver counts (now (states .entry)) (now (transitions .entry)) (now (initial .entry))
+        (now (image .entry)) ⌝ }
 {
-    let states_size = 4 * state_count;
-    let transitions_size = 4 * transition_count;
-    let initial_size = 2 * initial_count;
+    let states_size = 4 * counts.states;
+    let transitions_size = 4 * counts.transitions;
+    let initial_size = 2 * counts.initial;
     let transitions_at = CONTENTS_BYTES + states_size;
     let initial_at = transitions_at + transitions_size;
     let end = initial_at + initial_size;
-    write_entry(image, 0, 1, state_count, CONTENTS_BYTES);
+    write_entry(image, 0, 1, counts.states, CONTENTS_BYTES);
     write_entry(
         image,
         TRANSITIONS_ENTRY,
         2,
-        transition_count,
+        counts.transitions,
         transitions_at,
     );
-    write_entry(image, INITIAL_ENTRY, 3, initial_count, initial_at);
+    write_entry(image, INITIAL_ENTRY, 3, counts.initial, initial_at);
     put(image, CONTENTS_BYTES, states, states_size);
     put(image, transitions_at, transitions, transitions_size);
     put(image, initial_at, initial, initial_size);
@@ -415,16 +389,13 @@ fn write_image(
 // 25, then 10 to 13 of the tables; on acceptance the image's length.
 pub fn write(
     states: &[u8],
-    state_count: usize,
     transitions: &[u8],
-    transition_count: usize,
     initial: &[u8],
-    initial_count: usize,
+    counts: Counts,
     image: &mut [u8],
 ) -> WrittenImage
     ensures { λ r. ⌜ buffer (writeAnswer r) (now (image .exit))
-        ≡ writes (countsOf «state_count» «transition_count» «initial_count»)
-        (now (states .entry)) (now (transitions .entry)) (now (initial .entry)) (now (image .entry)) ⌝ }
+        ≡ writes counts (now (states .entry)) (now (transitions .entry)) (now (initial .entry)) (now (image .entry)) ⌝ }
 {
     if !tables_fit(states.len(), transitions.len(), initial.len()) {
         return WrittenImage::Refused(TABLE_TOO_SHORT, 0);
@@ -432,28 +403,13 @@ pub fn write(
     if image.len() < IMAGE_BYTES {
         return WrittenImage::Refused(TABLE_TOO_SHORT, 0);
     }
-    if !counts_fit(state_count, transition_count, initial_count) {
+    if !counts_fit(counts) {
         return WrittenImage::Refused(BAD_CONTENTS, 0);
     }
-    let records = check_records(
-        states,
-        state_count,
-        transitions,
-        transition_count,
-        initial,
-        initial_count,
-    );
+    let records = check_records(states, transitions, initial, counts);
     if let Checked::Refused(number, place) = records {
         return WrittenImage::Refused(number, place);
     }
-    let n = write_image(
-        states,
-        state_count,
-        transitions,
-        transition_count,
-        initial,
-        initial_count,
-        image,
-    );
+    let n = write_image(states, transitions, initial, counts, image);
     WrittenImage::Accepted(n)
 }

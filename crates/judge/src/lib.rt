@@ -3,9 +3,9 @@ use answer::Checked;
 use answer::TABLE_TOO_SHORT;
 use answer::number_at;
 use answer::zero;
+use automaton::Counted;
 use image::CONTENTS_BYTES;
 use image::INITIAL_COUNT_AT;
-use image::Loaded;
 use image::STATE_COUNT_AT;
 use image::check;
 use lasso::check_lasso;
@@ -412,7 +412,7 @@ pub fn judge(image: &[u8], stem: &[u8], cycle: &[u8], work: &mut [u8]) -> Judged
         return Judged::Refused(TABLE_TOO_SHORT, 0);
     }
     let loaded = check(image);
-    if let Loaded::Refused(number, place) = loaded {
+    if let Counted::Refused(number, place) = loaded {
         return Judged::Refused(number, place);
     }
     judge_lasso(image, number_at(image, STATE_COUNT_AT), stem, cycle, work)

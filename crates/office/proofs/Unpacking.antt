@@ -11,7 +11,7 @@ use Rattle.answer.proofs.Results.{never-both, require-fine}
 use Rattle.automaton.specs.Automaton.{Automaton}
 use Rattle.translation.specs.Degeneralized.{translation}
 use Rattle.automaton.specs.Limits.{maxStates, maxTransitions, maxInitial}
-use Rattle.automaton.specs.Tables.{Counts, counts, tableCheck, countsOf}
+use Rattle.automaton.specs.Tables.{Counts, counts, tableCheck}
 use Rattle.translation.specs.Translate.{stored, unless, translated}
 use Rattle.image.specs.Memory.{Small}
 use Rattle.image.specs.Image.{imageLength, largestImage}
@@ -184,7 +184,7 @@ unpacks-refused number place h = record {
       subst₂ (RefusalRead (packRefusal number place)) same-number same-place (refusal-unpacks number place h);
 }
 
-three-read : (c : Counts) → Small c → CountsRead (packThree (c .states) (c .transitions) (c .initial)) c
+three-read : (c : Counts) → Small c → CountsRead (packThree c) c
 three-read c small =
     let s : c .states % 256 ≡ c .states = omega (arith, small .states) in
     let t : c .transitions % 65536 ≡ c .transitions = omega (arith, small .transitions) in
@@ -192,7 +192,7 @@ three-read c small =
     rw (s, t, i) (three (c .states) (c .transitions) (c .initial) (small .states) (small .transitions) (small .initial))
   where
     three : (s t i : ℕ) → s ≤ maxStates → t ≤ maxTransitions → i ≤ maxInitial
-        → CountsRead (256 * s + 65536 * t + 2 ^ 32 * i) (countsOf s t i)
+        → CountsRead (256 * s + 65536 * t + 2 ^ 32 * i) (record { states = s; transitions = t; initial = i })
     three s t i a b d = record { states = omega arith; transitions = omega arith; initial = omega arith }
 
 counts-unpack : (r : Result Counts) → Proper r → ((c : Counts) → r ≡ accepted c → Small c)

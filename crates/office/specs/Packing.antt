@@ -13,15 +13,15 @@ abbrev pub packRefusal : (number place : ℕ) → ℕ
 packRefusal number place = number + 256 * (place % 2 ^ 32)
 
 -- states in bits 8 to 15, transitions in bits 16 to 31, initial in bits 32 to 39
-abbrev pub packThree : (states transitions initial : ℕ) → ℕ
-packThree states transitions initial = 256 * (states % 256) + 65536 * (transitions % 65536) + 2 ^ 32 * (initial % 256)
+abbrev pub packThree : Counts → ℕ
+packThree c = 256 * (c .states % 256) + 65536 * (c .transitions % 65536) + 2 ^ 32 * (c .initial % 256)
 
 -- the length in bits 8 to 39
 abbrev pub packSize : ℕ → ℕ
 packSize n = 256 * (n % 2 ^ 32)
 
 unfoldable pub packCounts : Result Counts → ℕ
-packCounts (accepted c) = packThree (c .states) (c .transitions) (c .initial)
+packCounts (accepted c) = packThree c
 packCounts (refused number place) = packRefusal number place
 
 unfoldable pub packLength : Result ℕ → ℕ
@@ -46,6 +46,10 @@ packedTables a s t i = record { answer = a; states = s; transitions = t; initial
 
 abbrev pub packOutcome : Outcome → PackedTables
 packOutcome o = packedTables (packCounts (o .answer)) (o .states) (o .transitions) (o .initial)
+
+-- the counts that C hands to write, one by one
+abbrev pub countsOf : (states transitions initial : ℕ) → Counts
+countsOf states transitions initial = record { states = states; transitions = transitions; initial = initial }
 
 -- a packed answer with one lent slice afterwards: write's buffer, judge's working bytes
 pub record PackedSlice : Type 0 where

@@ -1,22 +1,22 @@
 // The calls for C: numbers and byte slices, each slice a pointer and a length. An answer is packed into one number.
+use automaton::Counted;
+use automaton::Counts;
 use demands::decide;
-use image::Loaded;
 use image::WrittenImage;
 use image::read;
 use image::write;
 use judge::Judged;
 use judge::judge;
-use translation::Translated;
 use translation::translate;
 ghost use mathlib.Core.Path.{_≡_};
-ghost use Rattle.translation.specs.Translate.{translateAnswer, translated};
-ghost use Rattle.image.specs.Calls.{readAnswer, readInto, writeAnswer, writes};
-ghost use Rattle.automaton.specs.Tables.{countsOf};
+ghost use Rattle.translation.specs.Translate.{translated};
+ghost use Rattle.image.specs.Calls.{readInto, writeAnswer, writes};
+ghost use Rattle.automaton.specs.Tables.{told};
 ghost use Rattle.judge.specs.Judge.{judgeAnswer, judged};
 ghost use Rattle.demands.specs.Demand.{decided};
 ghost use Rattle.office.specs.Packing.{packRefusal, packThree, packSize, packCounts, packLength, packVerdict};
 ghost use Rattle.office.specs.Packing.{packedTables, packOutcome, packedSlice, packBuffer, packJudgement};
-ghost use Rattle.office.specs.Packing.{packedDecision, packDecision};
+ghost use Rattle.office.specs.Packing.{packedDecision, packDecision, countsOf};
 
 // A refusal's number and place.
 fn pack_refusal(number: u8, place: usize) -> u64
@@ -26,12 +26,12 @@ fn pack_refusal(number: u8, place: usize) -> u64
 }
 
 // The three counts.
-fn pack_three(states: usize, transitions: usize, initial: usize) -> u64
-    ensures { λ r. ⌜ r ≡ packThree states transitions initial ⌝ }
+fn pack_three(counts: Counts) -> u64
+    ensures { λ r. ⌜ r ≡ packThree counts ⌝ }
 {
-    256 * ((states % 256) as u64)
-        + 65536 * ((transitions % 65536) as u64)
-        + 4294967296 * ((initial % 256) as u64)
+    256 * ((counts.states % 256) as u64)
+        + 65536 * ((counts.transitions % 65536) as u64)
+        + 4294967296 * ((counts.initial % 256) as u64)
 }
 
 // An image's length.
@@ -42,24 +42,22 @@ fn pack_size(length: usize) -> u64
 }
 
 // The answer of translate: the counts, or the refusal.
-fn pack_translated(made: Translated) -> u64
-    ensures { λ r. ⌜ r ≡ packCounts (translateAnswer made) ⌝ }
+fn pack_translated(made: Counted) -> u64
+    ensures { λ r. ⌜ r ≡ packCounts (told made) ⌝ }
 {
     match made {
-        Translated::Accepted(states, transitions, initial) => {
-            pack_three(states, transitions, initial)
-        }
-        Translated::Refused(number, place) => pack_refusal(number, place),
+        Counted::Accepted(counts) => pack_three(counts),
+        Counted::Refused(number, place) => pack_refusal(number, place),
     }
 }
 
 // The answer of read: the counts, or the refusal.
-fn pack_loaded(loaded: Loaded) -> u64
-    ensures { λ r. ⌜ r ≡ packCounts (readAnswer loaded) ⌝ }
+fn pack_loaded(loaded: Counted) -> u64
+    ensures { λ r. ⌜ r ≡ packCounts (told loaded) ⌝ }
 {
     match loaded {
-        Loaded::Accepted(states, transitions, initial) => pack_three(states, transitions, initial),
-        Loaded::Refused(number, place) => pack_refusal(number, place),
+        Counted::Accepted(counts) => pack_three(counts),
+        Counted::Refused(number, place) => pack_refusal(number, place),
     }
 }
 
@@ -114,15 +112,12 @@ pub extern "C" fn zimboralo_write(
         ≡ packBuffer (writes (countsOf «state_count» «transition_count» «initial_count»)
         (now (states .entry)) (now (transitions .entry)) (now (initial .entry)) (now (image .entry))) ⌝ }
 {
-    pack_written(write(
-        states,
-        state_count,
-        transitions,
-        transition_count,
-        initial,
-        initial_count,
-        image,
-    ))
+    let counts = Counts {
+        states: state_count,
+        transitions: transition_count,
+        initial: initial_count,
+    };
+    pack_written(write(states, transitions, initial, counts, image))
 }
 
 // An image into three tables. Its counts, or a refusal.

@@ -21,13 +21,13 @@ use Rattle.translation.specs.declared.Met.the-variants.{Number, Full}
 use Rattle.translation.specs.declared.Paired.{Paired}
 use Rattle.translation.specs.declared.Paired.the-variants.{Count, Stop}
 use Rattle.translation.specs.declared.Extent.{Extent}
-use Rattle.translation.specs.declared.Translated.{Translated}
+use Rattle.automaton.specs.declared.Counted.{Counted}
 use Rattle.automaton.specs.Automaton.{Automaton}
 use Rattle.automaton.specs.Limits.{maxStates, maxOfState, statesBytes, transitionsBytes, initialBytes}
 use Rattle.automaton.specs.Records.{records, stateBytes, transitionBytes}
-use Rattle.automaton.specs.Tables.{outcome}
+use Rattle.automaton.specs.Tables.{told, outcome}
 use Rattle.translation.specs.Degeneralized.{Pair, pair, translation}
-use Rattle.translation.specs.Translate.{translateAnswer, stored}
+use Rattle.translation.specs.Translate.{stored}
 
 -- ---- the first walk's transitions
 
@@ -213,9 +213,9 @@ pub record TablesRoom (states transitions initial : List ℕ) : Type 0 where
 -- ---- the call's tables
 
 -- the answer, and the three tables as the automaton or its refusal by 20 to 24 leaves them
-abbrev pub Leaves : Result Automaton → Translated → (s t i s′ t′ i′ : List ℕ) → Type 0
-Leaves made answer s t i s′ t′ i′ = outcome (translateAnswer answer) s′ t′ i′ ≡ stored made s t i
+abbrev pub Leaves : Result Automaton → Counted → (s t i s′ t′ i′ : List ℕ) → Type 0
+Leaves made answer s t i s′ t′ i′ = outcome (told answer) s′ t′ i′ ≡ stored made s t i
 
 -- for a rule that 25 and 1 to 7 let pass
-abbrev pub Builds : (rule : List ℕ) → Translated → (s t i s′ t′ i′ : List ℕ) → Type 0
+abbrev pub Builds : (rule : List ℕ) → Counted → (s t i s′ t′ i′ : List ℕ) → Type 0
 Builds rule = Leaves (translation rule)

@@ -2,20 +2,12 @@
 use Prim.Native.Nat.{ℕ}
 use mathlib.Core.List.{List}
 use Rattle.answer.specs.Bytes.{zeros, filled}
-use Rattle.automaton.specs.Tables.{counts, tableCheck, outcome, Outcome, Counts}
+use Rattle.automaton.specs.Tables.{counts, tableCheck, outcome, Outcome}
 use Rattle.answer.specs.Result.{Result, accepted, refused, andThen, Check}
 use Rattle.formula.specs.Rule
-use Rattle.translation.specs.declared.Translated.{Translated}
-use Rattle.translation.specs.declared.Translated.the-variants.{Accepted, Refused}
 use Rattle.automaton.specs.Automaton.{Automaton}
 use Rattle.translation.specs.Degeneralized.{translation}
 use Rattle.automaton.specs.Records.{stateRecords, transitionRecords, initialRecords}
-
--- what the answer of the call says in document 01's numbers and values
-abbrev pub translateAnswer : Translated → Result Counts
-translateAnswer (Accepted states transitions initial) =
-    accepted (record { states = states; transitions = transitions; initial = initial })
-translateAnswer (Refused number place) = refused number place
 
 -- the outcome for a rule that 25 and 1 to 7 let pass
 unfoldable pub stored : Result Automaton → (states transitions initial : List ℕ) → Outcome

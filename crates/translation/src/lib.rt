@@ -4,6 +4,8 @@ use answer::Checked;
 use answer::TABLE_TOO_SHORT;
 use answer::put_number;
 use answer::zero;
+use automaton::Counted;
+use automaton::Counts;
 use automaton::INITIAL_BYTES;
 use automaton::MAX_STATES;
 use automaton::STATES_BYTES;
@@ -27,13 +29,13 @@ ghost use Rattle.generalized.specs.Limits.{maxGeneralizedStates};
 ghost use Rattle.generalized.specs.Memory.{keptTarget, keptMust, keptMustNot};
 ghost use Rattle.automaton.specs.Limits.{maxStates, transitionsBytes, initialBytes};
 ghost use Rattle.automaton.specs.Records.{records, numberedRecords, stateBytes, transitionBytes};
-ghost use Rattle.automaton.specs.Tables.{outcome};
+ghost use Rattle.automaton.specs.Tables.{told, outcome};
 ghost use Rattle.translation.specs.Degeneralized.{numbers};
 ghost use Rattle.translation.specs.Memory.{FirstWalk, rowStart, levelPlaces, codeOf, codePlaces, climbN};
 ghost use Rattle.translation.specs.Memory.{nextLevelN, targetN, numberN, pairBytes, InRows, PairRows};
 ghost use Rattle.translation.specs.Memory.{PairsNumbered, Leads, MeetsPair, MeetsRow, WalksPairs, TablesRoom};
 ghost use Rattle.translation.specs.Memory.{Leaves, Builds};
-ghost use Rattle.translation.specs.Translate.{translateAnswer, translated};
+ghost use Rattle.translation.specs.Translate.{translated};
 
 // The number of document 01 by which the second walk is refused.
 pub const TOO_MANY_PAIRS: u8 = 24;
@@ -49,12 +51,6 @@ const FEW_NODES: usize = 8;
 
 // A state's number in the automaton; the first walk's states have numbers of another type.
 pub struct StateNumber(pub usize);
-
-// The answer of translate: how many states, transitions and initial states, or a refusal's number and place.
-pub enum Translated {
-    Accepted(usize, usize, usize),
-    Refused(u8, usize),
-}
 
 // How far the second walk is: the pairs that are walked, those that are numbered, and the transitions that are written.
 struct Extent {
@@ -364,7 +360,7 @@ fn refuse(
     states: &mut [u8],
     transitions: &mut [u8],
     initial: &mut [u8],
-) -> Translated
+) -> Counted
     ensures { λ r. ⌜ Leaves (refused number place) r
         (now (states .entry)) (now (transitions .entry)) (now (initial .entry))
         (now (states .exit)) (now (transitions .exit)) (now (initial .exit)) ⌝ }
@@ -372,7 +368,7 @@ fn refuse(
     zero(states);
     zero(transitions);
     zero(initial);
-    Translated::Refused(number, place)
+    Counted::Refused(number, place)
 }
 
 // The second walk over the first walk's transitions, of which each state's end where ends says, and the automaton in
@@ -385,7 +381,7 @@ fn degeneralize(
     states: &mut [u8],
     transitions: &mut [u8],
     initial: &mut [u8],
-) -> Translated
+) -> Counted
     requires { ⌜ (sizesChecked (now rule) ≡ fine) × FirstWalk (now rule) first (now kept) (now ends)
         × TablesRoom (now states) (now transitions) (now initial) ⌝ }
     ensures { λ r. ⌜ Builds (now (rule .entry)) r
@@ -404,7 +400,12 @@ fn degeneralize(
             write_states(states, ends, r, &pairs[..count]);
             zero_behind(transitions, written * 4);
             write_initial(initial, first);
-            Translated::Accepted(count, written, first)
+            let counts = Counts {
+                states: count,
+                transitions: written,
+                initial: first,
+            };
+            Counted::Accepted(counts)
         }
     }
 }
@@ -416,7 +417,7 @@ fn build(
     states: &mut [u8],
     transitions: &mut [u8],
     initial: &mut [u8],
-) -> Translated
+) -> Counted
     requires { ⌜ (Rule.checked (now rule) ≡ fine) × TableRoom (now rule) (now table)
         × TablesRoom (now states) (now transitions) (now initial) ⌝ }
     ensures { λ r. ⌜ Builds (now (rule .entry)) r
@@ -451,7 +452,7 @@ fn build_tabled(
     states: &mut [u8],
     transitions: &mut [u8],
     initial: &mut [u8],
-) -> Translated
+) -> Counted
     requires { ⌜ (Rule.checked (now rule) ≡ fine) × TablesRoom (now states) (now transitions) (now initial) ⌝ }
     ensures { λ r. ⌜ Builds (now (rule .entry)) r
         (now (states .entry)) (now (transitions .entry)) (now (initial .entry))
@@ -471,22 +472,22 @@ pub fn translate(
     states: &mut [u8],
     transitions: &mut [u8],
     initial: &mut [u8],
-) -> Translated
-    ensures { λ r. ⌜ outcome (translateAnswer r) (now (states .exit)) (now (transitions .exit)) (now (initial .exit))
+) -> Counted
+    ensures { λ r. ⌜ outcome (told r) (now (states .exit)) (now (transitions .exit)) (now (initial .exit))
         ≡ translated (now (rule .entry)) (now (states .entry)) (now (transitions .entry)) (now (initial .entry)) ⌝ }
 {
     if states.len() < STATES_BYTES {
-        return Translated::Refused(TABLE_TOO_SHORT, 0);
+        return Counted::Refused(TABLE_TOO_SHORT, 0);
     }
     if transitions.len() < TRANSITIONS_BYTES {
-        return Translated::Refused(TABLE_TOO_SHORT, 0);
+        return Counted::Refused(TABLE_TOO_SHORT, 0);
     }
     if initial.len() < INITIAL_BYTES {
-        return Translated::Refused(TABLE_TOO_SHORT, 0);
+        return Counted::Refused(TABLE_TOO_SHORT, 0);
     }
     let bytes = formula::check(rule);
     if let Checked::Refused(number, place) = bytes {
-        return Translated::Refused(number, place);
+        return Counted::Refused(number, place);
     }
     build_tabled(rule, states, transitions, initial)
 }

@@ -2,7 +2,7 @@
 -- its image of them, and `judge` gives the verdict on that image. Assumes nothing.
 use mathlib.Core.Path.{sym, ap}
 use lib.Seq.{length-take-le}
-use Rattle.translation.specs.Translate.{translateAnswer}
+use Rattle.automaton.specs.Tables.{told}
 use Rattle.image.specs.Calls.{writeAnswer}
 use Rattle.demands.proofs.Deciding.{rule-refused, write-refused, image-inside, lasso-judged}
 use borrow.Author.Needs.{needs}
@@ -19,7 +19,7 @@ slice-reshare-prefix-judge c =
     let a = start .args in
     image-inside (a .rule .now) (a .stem .now) (a .cycle .now) (a .states .now) (a .transitions .now) (a .initial .now)
     (a .image .now) (a .work .now) (start .pre) _ _ _ (called .translate .ensures) _
-    (ap translateAnswer (matched .n .given .1)) _ (stored .write .ensures) _
+    (ap told (matched .counts .given .1)) _ (stored .write .ensures) _
     (ap writeAnswer (c .before .length .given .1))
 
 slice-aggregate-judge : tie.Need-slice-aggregate-judge
@@ -31,7 +31,7 @@ returns c =
     let start =
     called .before .before .before .before .before .before .before .before .before .before .before .before in
     rule-refused _ _ _ _ _ _ _ _ (start .pre) _ _ _ (called .translate .ensures)
-    (ap translateAnswer (c .before .number .given .1))
+    (ap told (c .before .number .given .1))
 
 returns-2 : tie.Need-returns-2
 returns-2 c =
@@ -41,7 +41,7 @@ returns-2 c =
     let start =
     called .before .before .before .before .before .before .before .before .before .before .before .before in
     write-refused _ _ _ _ _ _ _ _ (start .pre) _ _ _ (called .translate .ensures) _
-    (ap translateAnswer (matched .n .given .1)) _ (stored .write .ensures)
+    (ap told (matched .counts .given .1)) _ (stored .write .ensures)
     (ap writeAnswer (c .before .number2 .given .1))
 
 returns-3 : tie.Need-returns-3
@@ -52,7 +52,7 @@ returns-3 c =
     let start =
     called .before .before .before .before .before .before .before .before .before .before .before .before in
     lasso-judged _ _ _ _ _ _ _ _ (start .pre) _ _ _ (called .translate .ensures) _
-    (ap translateAnswer (matched .n .given .1)) _ (stored .write .ensures) _
+    (ap told (matched .counts .given .1)) _ (stored .write .ensures) _
     (ap writeAnswer (c .before .before .before .before .before .before .length .given .1))
     (c .before .before .judge .ensures)
 

@@ -2,12 +2,9 @@
 -- Assumes nothing.
 use borrow.Author.Needs.{needs}
 use mathlib.Core.Path.{sym, ap, _∙_}
-use mathlib.Core.List.{List}
-use Prim.Native.Nat.{ℕ}
 use Rattle.answer.specs.Result.{answer}
 use Rattle.image.specs.Reader.{countsAt, contentsCheck}
-use Rattle.automaton.specs.Tables.{Counts, countsOf}
-use Rattle.image.specs.Calls.{readAnswer}
+use Rattle.automaton.specs.Tables.{told}
 use Rattle.image.proofs.Before.{Passes, passes, handed-on}
 use Rattle.image.proofs.Contents.{sized, contents-refused, bodies-refused, image-accepted}
 use Rattle.image.proofs.check.Statement.{statement}
@@ -15,22 +12,16 @@ use Rattle.image.proofs.check.Tie as tie
 
 returns : tie.Need-returns
 returns c =
-    handed-on (ap readAnswer (c .enum-told .given .1)) (c .before .before .check-contents .ensures)
+    handed-on (ap told (c .enum-told .given .1)) (c .before .before .check-contents .ensures)
     (contents-refused _)
 
 -- what the contents say where they are accepted
-abbrev image : tie.After-known-told → List ℕ
-image c = c .before .before .before .before .before .args .image .now
-
-abbrev counts : tie.After-known-told → Counts
-counts c =
-    let (states, (transitions, (initial, _))) = c .before .contents .given .0 in
-    countsOf states transitions initial
-
-read : (c : tie.After-known-told) → Passes (contentsCheck (image c)) (counts c) (countsAt (image c))
+read : (c : tie.After-known-told)
+    → let image = c .before .before .before .before .before .args .image .now in
+    Passes (contentsCheck image) (c .before .contents .given .0 .0) (countsAt image)
 read c =
     let known = c .before .before .before .check-contents .ensures in
-    passes _ _ _ (sym (ap readAnswer (c .before .contents .given .1)) ∙ known)
+    passes _ _ _ (sym (ap told (c .before .contents .given .1)) ∙ known)
 
 check-bodies-requires : tie.Need-check-bodies-requires
 check-bodies-requires c κs = sized (read c)

@@ -7,7 +7,7 @@ use Rattle.image.proofs.check_bodies.Tie as tie
 
 returns : tie.Need-returns
 returns c =
-    let s = c .before .before .before .before .before in
+    let s = c .before .before .before .before .before .before .before in
     parts-whole _ (s .args .image .now) _ _ _ (c .check-records .ensures)
 
 pub check-bodies-spec : {M : Type 1} → statement M

@@ -10,20 +10,20 @@ use Rattle.image.proofs.counts_fit.Tie as tie
 returns : tie.Need-returns
 unfolding countsFit
 returns c =
-    let s = c .before in
-    first-fails (s .args .states) maxStates (s .args .transitions) maxTransitions _ (omega arith)
+    let counts = c .before .before .args .counts in
+    first-fails (counts .states) maxStates (counts .transitions) maxTransitions _ (omega arith)
 
 returns-2 : tie.Need-returns-2
 unfolding countsFit
 returns-2 c =
-    let s = c .before .before in
-    second-fails (s .args .states) maxStates (s .args .transitions) maxTransitions _ (omega arith) (omega arith)
+    let counts = c .before .before .before .before .args .counts in
+    second-fails (counts .states) maxStates (counts .transitions) maxTransitions _ (omega arith) (omega arith)
 
 returns-3 : tie.Need-returns-3
 unfolding countsFit
 returns-3 c =
-    let s = c .before .before in
-    third-left (s .args .states) maxStates (s .args .transitions) maxTransitions _ (omega arith) (omega arith)
+    let counts = c .before .before .before .before .before .args .counts in
+    third-left (counts .states) maxStates (counts .transitions) maxTransitions _ (omega arith) (omega arith)
 
 pub counts-fit-spec : {M : Type 1} → statement M
 counts-fit-spec = tie.close (tie.spec returns returns-2 returns-3)

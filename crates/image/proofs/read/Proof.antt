@@ -2,7 +2,7 @@
 -- records. Assumes nothing.
 use borrow.Author.Needs.{needs}
 use mathlib.Core.Path.{sym, ap, _∙_}
-use Rattle.image.specs.Calls.{readAnswer}
+use Rattle.automaton.specs.Tables.{told}
 use Rattle.image.specs.Memory.{Long}
 use Rattle.image.proofs.Outcomes.{tables-long, read-short, read-refused, read-accepted}
 use Rattle.image.proofs.Contents.{checks-sized}
@@ -22,13 +22,13 @@ returns c = read-short _ _ _ _ (c .before .tables-fit .ensures) (c .if1 .taken)
 
 returns-2 : tie.Need-returns-2
 returns-2 c =
-    read-refused _ _ _ _ (long (c .before .before .before)) (ap readAnswer (c .enum-told .given .1))
+    read-refused _ _ _ _ (long (c .before .before .before)) (ap told (c .enum-told .given .1))
     (c .before .before .check .ensures)
 
 load-bodies-requires : tie.Need-load-bodies-requires
 load-bodies-requires c κs =
     let found = c .before .before .before .before in
-    let told = sym (ap readAnswer (found .found .given .1)) ∙ found .before .before .check .ensures in
+    let told = sym (ap told (found .found .given .1)) ∙ found .before .before .check .ensures in
     (checks-sized _ _ told, long (found .before .before .before))
 
 returns-3 : tie.Need-returns-3
@@ -38,7 +38,7 @@ returns-3 c =
     let tables = found .before .before .before in
     read-accepted _ _ _ _ (long tables)
     (λ i. tables .before .before .before .before .before .shared-slice-known .given i .fits)
-    (sym (ap readAnswer (found .found .given .1)) ∙ found .before .before .check .ensures)
+    (sym (ap told (found .found .given .1)) ∙ found .before .before .check .ensures)
     (loaded .load-bodies .ensures)
 
 pub read-spec : {M : Type 1} → statement M

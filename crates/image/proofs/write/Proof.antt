@@ -5,7 +5,6 @@ use native.Mathlib.Omega.{arith}
 use mathlib.Core.Path.{sym, ap, _∙_}
 use borrow.Author.Tests.{not-false}
 use Rattle.answer.specs.Result.{answer}
-use Rattle.automaton.specs.Tables.{Counts, countsOf}
 use Rattle.image.specs.Memory.{Long}
 use Rattle.image.proofs.Tests.{counts-small}
 use Rattle.image.proofs.Outcomes.{tables-long, Ready, has-records}
@@ -17,17 +16,14 @@ use Rattle.image.proofs.write.Tie as tie
 abbrev start : tie.Else1 → tie.Start
 start c = c .before .before .before .before .before .before
 
-abbrev counts : tie.Start → Counts
-counts s = countsOf (s .args .state-count) (s .args .transition-count) (s .args .initial-count)
-
 -- what is known of it once the tables, and once the counts, fit
 long : (c : tie.Else1)
     → Long (start c .args .states .now) (start c .args .transitions .now) (start c .args .initial .now)
 long c = tables-long _ _ _ (c .before .tables-fit .ensures) (c .if1 .left)
 
 ready : (c : tie.Else3)
-    → let s = start (c .before .before .before) in
-    Ready (counts s) (s .args .states .now) (s .args .transitions .now) (s .args .initial .now) (s .args .image .now)
+    → let a = start (c .before .before .before) .args in
+    Ready (a .counts) (a .states .now) (a .transitions .now) (a .initial .now) (a .image .now)
 ready c = record {
   small = counts-small _ (sym (c .before .counts-fit .ensures) ∙ not-false _ (c .if3 .left));
   long = long (c .before .before .before);

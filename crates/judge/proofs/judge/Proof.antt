@@ -2,7 +2,7 @@
 -- Assumes nothing.
 use native.Mathlib.Omega.{arith}
 use mathlib.Core.Path.{sym, ap, _∙_}
-use Rattle.image.specs.Calls.{readAnswer}
+use Rattle.automaton.specs.Tables.{told}
 use Rattle.image.proofs.Accepted.{known}
 use Rattle.judge.proofs.Judgements.{work-short, image-refused, image-judged}
 use borrow.Author.Needs.{needs}
@@ -16,11 +16,11 @@ returns-2 : tie.Need-returns-2
 returns-2 c =
     let loaded = c .before in
     let check = loaded .before .before in
-    image-refused _ _ _ _ (omega arith) (sym (ap readAnswer (loaded .loaded .given .1)) ∙ check .check .ensures)
+    image-refused _ _ _ _ (omega arith) (sym (ap told (loaded .loaded .given .1)) ∙ check .check .ensures)
 
 number-at-requires : tie.Need-number-at-requires
 number-at-requires c κs =
-    let fine = known _ (sym (ap readAnswer (c .enum-told .given .1)) ∙ c .before .before .check .ensures) in
+    let fine = known _ (sym (ap told (c .enum-told .given .1)) ∙ c .before .before .check .ensures) in
     omega (arith, fine .size)
 
 judge-lasso-requires : tie.Need-judge-lasso-requires
@@ -28,7 +28,7 @@ judge-lasso-requires c κs =
     let number-at = c .before in
     let enum-told = number-at .before in
     let check = enum-told .before .before in (
-      known _ (sym (ap readAnswer (enum-told .enum-told .given .1)) ∙ check .check .ensures),
+      known _ (sym (ap told (enum-told .enum-told .given .1)) ∙ check .check .ensures),
       number-at .number-at .ensures,
     )
 
@@ -38,7 +38,7 @@ returns-3 c =
     let enum-told = judge-lasso .before .before .before in
     let check = enum-told .before .before in
     image-judged _ _ _ _ (omega arith)
-    (sym (ap readAnswer (enum-told .enum-told .given .1)) ∙ check .check .ensures)
+    (sym (ap told (enum-told .enum-told .given .1)) ∙ check .check .ensures)
     (judge-lasso .judge-lasso .ensures)
 
 pub judge-spec : {M : Type 1} → statement M
