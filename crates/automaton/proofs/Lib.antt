@@ -4,3 +4,4 @@ pub mod Passes
 pub mod InRange
 pub mod WellFormed
 pub mod Records
+pub mod Room

@@ -1,5 +1,5 @@
 -- Three lent tables with an automaton's records: how many of each, and 25.
-use Prim.Native.Nat.{ℕ, _+_}
+use Prim.Native.Nat.{ℕ, _+_, _≤_}
 use mathlib.Core.List.{List, [], _∷_}
 use mathlib.Core.Bool.{Bool, _&&_}
 use lib.ListN.{length}
@@ -52,3 +52,9 @@ lengthsFit states transitions initial =
 unfoldable pub tableCheck : (states transitions initial : List ℕ) → Check
 tableCheck states transitions initial =
     require (lengthsFit (length states) (length transitions) (length initial)) 25 0
+
+-- tables that 25 lets pass
+pub record TablesRoom (s t i : List ℕ) : Type 0 where
+  pub states : statesBytes ≤ length s
+  pub transitions : transitionsBytes ≤ length t
+  pub initial : initialBytes ≤ length i

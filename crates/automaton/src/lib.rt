@@ -1,4 +1,6 @@
 // The limits and the counts of an automaton, and the sizes of the tables that hold its records.
+ghost use mathlib.Core.Path.{_≡_};
+ghost use Rattle.automaton.specs.Tables.{lengthsFit};
 
 // The limits of an automaton (specs/Limits.antt has where they come from): its states, the transitions of one state and
 // so of all, its initial states.
@@ -28,4 +30,17 @@ pub struct Counts {
 pub enum Counted {
     Accepted(Counts),
     Refused(u8, usize),
+}
+
+// The lengths of three lent tables against 25.
+pub fn tables_fit(states: usize, transitions: usize, initial: usize) -> bool
+    ensures { λ r. ⌜ r ≡ lengthsFit states transitions initial ⌝ }
+{
+    if states < STATES_BYTES {
+        return false;
+    }
+    if transitions < TRANSITIONS_BYTES {
+        return false;
+    }
+    INITIAL_BYTES <= initial
 }

@@ -1,28 +1,25 @@
 -- Translate, write and judge in a row: what each call hands to the next, and what the five buffers hold at each way
 -- out. Assumes nothing.
-use Prim.Native.Nat.{ℕ, _≤_}
+use Prim.Native.Nat.{ℕ, _≤_, _<_}
 use mathlib.Core.Path.{_≡_, refl, sym, _∙_, ap}
 use mathlib.Core.List.{List, _++_}
-use mathlib.Core.Bool.{Bool, true, false, not, _&&_, and-eq-true-iff}
+use mathlib.Core.Bool.{Bool, true, not}
 use native.Mathlib.Omega.{arith}
 use lib.ListN.{length, take, drop, length-append}
 use lib.Seq.{take-at}
-use lib.Dec.{leb}
-use borrow.Author.Tests.{leb-true, le-leb, not-true, not-false}
+use borrow.Author.Tests.{leb-true, le-leb, lt-leb}
 use Rattle.answer.specs.Result.{Result, accepted, refused, fine}
 use Rattle.formula.specs.Rule
 use Rattle.answer.proofs.Results.{require-fine, never-both, then-accepted}
 use Rattle.automaton.specs.Automaton.{Automaton}
 use Rattle.translation.specs.Degeneralized.{translation}
-use Rattle.automaton.specs.Limits.{statesBytes, transitionsBytes, initialBytes}
 use Rattle.automaton.specs.Records.{stateRecords, transitionRecords, initialRecords}
-use Rattle.automaton.specs.Tables.{Counts, counts, Outcome, outcome}
+use Rattle.automaton.specs.Tables.{Counts, counts, Outcome, outcome, lengthsFit, tableCheck, TablesRoom}
+use Rattle.automaton.proofs.Room.{tables-short, room-fine, fine-room, filled-room}
 use Rattle.answer.specs.Bytes.{zeros, filled}
 use Rattle.translation.specs.Translate.{stored, translated}
-use Rattle.image.specs.Memory.{Long}
 use Rattle.image.specs.Image.{imageBytes, largestImage}
-use Rattle.image.specs.Calls.{Buffer, buffer, writes}
-use Rattle.image.proofs.Outcomes.{fine-long, filled-long}
+use Rattle.image.specs.Calls.{Buffer, buffer, bufferCheck, writes}
 use Rattle.judge.specs.Judge.{workBytes, Verdict, verdict, judgement, judged}
 use Rattle.lasso.specs.Lasso.{lassoCheck}
 use Rattle.judge.proofs.VerdictIff.{image-judged}
@@ -32,16 +29,14 @@ use Rattle.image.proofs.ImageAccepted.{counts-fit, tables-read}
 
 -- ---- buffers that are long enough, a rule and a lasso that are not refused
 
--- the test of 25
-abbrev fit : (states transitions initial image work : List ℕ) → Bool
-fit states transitions initial image work =
-    leb statesBytes (length states) && (leb transitionsBytes (length transitions) && (leb initialBytes (length initial) && (leb largestImage (length image) && leb workBytes (length work))))
+-- what 25 lets pass, and then 1 to 7, 8 and 9
+pub record Room (states transitions initial image work : List ℕ) : Type 0 where
+  pub tables : TablesRoom states transitions initial
+  pub buffer : largestImage ≤ length image
+  pub working : workBytes ≤ length work
 
--- what 25, 1 to 7, 8 and 9 let pass
 record Passed (rule stem cycle states transitions initial image work : List ℕ) : Type 0 where
-  tables-room : Long states transitions initial
-  image-room : largestImage ≤ length image
-  work-room : workBytes ≤ length work
+  room : Room states transitions initial image work
   bytes : Rule.checked rule ≡ fine
   lasso : lassoCheck stem cycle ≡ fine
 
@@ -52,15 +47,15 @@ module _ (rule stem cycle s t i image work : List ℕ) (passes : inputCheck rule
   unfolding inputCheck roomCheck
   passed =
       let (_, room, after-room) = then-accepted (roomCheck s t i image work) _ passes in
+      let (_, tables, after-tables) = then-accepted (tableCheck s t i) _ room in
+      let (_, buffer, works) = then-accepted (bufferCheck image) _ after-tables in
       let (_, bytes, lasso) = then-accepted (Rule.checked rule) _ after-room in
-      let one = and-eq-true-iff (leb statesBytes (length s)) _ .0 (require-fine (fit s t i image work) 25 0 room) in
-      let two = and-eq-true-iff (leb transitionsBytes (length t)) _ .0 (one .1) in
-      let three = and-eq-true-iff (leb initialBytes (length i)) _ .0 (two .1) in
-      let four = and-eq-true-iff (leb largestImage (length image)) _ .0 (three .1) in
       record {
-        tables-room = record { states = leb-true statesBytes (length s) (one .0); transitions = leb-true transitionsBytes (length t) (two .0); initial = leb-true initialBytes (length i) (three .0) };
-        image-room = leb-true largestImage (length image) (four .0);
-        work-room = leb-true workBytes (length work) (four .1);
+        room = record {
+          tables = room-fine s t i tables;
+          buffer = leb-true largestImage (length image) (require-fine _ 25 0 buffer);
+          working = leb-true workBytes (length work) (require-fine _ 25 0 works);
+        };
         bytes = bytes;
         lasso = lasso;
       }
@@ -68,7 +63,7 @@ module _ (rule stem cycle s t i image work : List ℕ) (passes : inputCheck rule
   -- translate stores what the translation comes to
   translated-stored : translated rule s t i ≡ stored (translation rule) s t i
   unfolding translated
-  translated-stored = rw (fine-long s t i (passed .tables-room), passed .bytes)
+  translated-stored = rw (fine-room s t i (passed .room .tables), passed .bytes)
 
   -- the tables that it fills pass the writer's checks, and the image stands at the buffer's start
   image-written : (a : Automaton) → translation rule ≡ accepted a
@@ -76,10 +71,10 @@ module _ (rule stem cycle s t i image work : List ℕ) (passes : inputCheck rule
   unfolding writes
   image-written a e =
       let formed = translation-well-formed rule a e in
-      let long =
-      fine-long _ _ _
-      (filled-long s t i (stateRecords a) (transitionRecords a) (initialRecords a) (passed .tables-room)) in
-      rw (long, le-leb largestImage (length image) (passed .image-room), counts-fit a formed, tables-read a formed)
+      let room =
+      fine-room _ _ _
+      (filled-room s t i (stateRecords a) (transitionRecords a) (initialRecords a) (passed .room .tables)) in
+      rw (room, le-leb largestImage (length image) (passed .room .buffer), counts-fit a formed, tables-read a formed)
 
   module _ (s' t' i' : List ℕ) {told : Result Counts} (translates : outcome told s' t' i' ≡ translated rule s t i) where
     is-stored : outcome told s' t' i' ≡ stored (translation rule) s t i
@@ -155,35 +150,54 @@ module _ (rule stem cycle s t i image work : List ℕ) (passes : inputCheck rule
         unfolding stored
         lasso-judged {answer} {work'} judges =
             let known : judgement answer work' ≡ judgement (accepted (verdict a stem cycle)) (zeros work) =
-            judges ∙ ap (λ (bytes : List ℕ). judged bytes stem cycle work) image-is ∙ image-judged a (translation-well-formed rule a (has-stored .translated-to)) stem cycle work (passed .lasso) (passed .work-room) in
+            judges ∙ ap (λ (bytes : List ℕ). judged bytes stem cycle work) image-is ∙ image-judged a (translation-well-formed rule a (has-stored .translated-to)) stem cycle work (passed .lasso) (passed .room .working) in
             let tables = has-stored .tables in
             rw (has-stored .translated-to) (λ k. decision (known k .answer) (tables k .states) (tables k .transitions) (tables k .initial) (has-stored .stored-in k) (known k .work))
 
 -- ---- the checks before them
 
-module _ (rule stem cycle s t i image work : List ℕ) {r : Bool} (tested : r ≡ fit s t i image work) where
-  pub short-refused : not r ≡ true → decision (refused 25 0) s t i image work ≡ decided rule stem cycle s t i image work
-  unfolding decided inputCheck roomCheck
-  short-refused f = rw (← tested, not-true r f)
+module _ (rule stem cycle s t i image work : List ℕ) where
+  -- the input is refused, and every byte is as it was
+  abbrev Refuses : (number place : ℕ) → Type 0
+  Refuses number place =
+      decision (refused number place) s t i image work ≡ decided rule stem cycle s t i image work
 
-  module _ (long : not r ≡ false) where
-    pub bytes-refused : {number place : ℕ} → refused number place ≡ Rule.checked rule
-        → decision (refused number place) s t i image work ≡ decided rule stem cycle s t i image work
+  pub tables-refused : {r : Bool} → r ≡ lengthsFit (length s) (length t) (length i) → not r ≡ true → Refuses 25 0
+  unfolding decided inputCheck roomCheck
+  tables-refused fit f = rw (tables-short s t i fit f)
+
+  module _ (tables : TablesRoom s t i) where
+    pub buffer-refused : length image < largestImage → Refuses 25 0
     unfolding decided inputCheck roomCheck
-    bytes-refused e = rw (← tested, not-false r long, ← e)
+    buffer-refused lt = rw (fine-room s t i tables, lt-leb largestImage (length image) lt)
+
+    pub work-refused : largestImage ≤ length image → length work < workBytes → Refuses 25 0
+    unfolding decided inputCheck roomCheck
+    work-refused le lt =
+        rw (fine-room s t i tables, le-leb largestImage (length image) le, lt-leb workBytes (length work) lt)
+
+  module _ (room : Room s t i image work) where
+    room-fits : roomCheck s t i image work ≡ fine
+    unfolding roomCheck
+    room-fits =
+        let buffer = le-leb largestImage (length image) (room .buffer) in
+        rw (fine-room s t i (room .tables), buffer, le-leb workBytes (length work) (room .working))
+
+    pub bytes-refused : {number place : ℕ} → refused number place ≡ Rule.checked rule → Refuses number place
+    unfolding decided inputCheck
+    bytes-refused e = rw (room-fits, ← e)
 
     module _ (bytes : fine ≡ Rule.checked rule) where
-      pub lasso-refused : {number place : ℕ} → refused number place ≡ lassoCheck stem cycle
-          → decision (refused number place) s t i image work ≡ decided rule stem cycle s t i image work
-      unfolding decided inputCheck roomCheck
-      lasso-refused e = rw (← tested, not-false r long, ← bytes, ← e)
+      pub lasso-refused : {number place : ℕ} → refused number place ≡ lassoCheck stem cycle → Refuses number place
+      unfolding decided inputCheck
+      lasso-refused e = rw (room-fits, ← bytes, ← e)
 
       module _ (lasso : fine ≡ lassoCheck stem cycle) where
         pub input-fine : inputCheck rule stem cycle s t i image work ≡ fine
-        unfolding inputCheck roomCheck
-        input-fine = rw (← tested, not-false r long, ← bytes, ← lasso)
+        unfolding inputCheck
+        input-fine = rw (room-fits, ← bytes, ← lasso)
 
         pub concludes : {d : Decision} → d ≡ concluded (translation rule) stem cycle s t i image work
             → d ≡ decided rule stem cycle s t i image work
         unfolding decided
-        concludes e = rw (input-fine) e
+        concludes e = rw input-fine e

@@ -3,26 +3,24 @@
 use Prim.Native.Nat.{ℕ}
 use mathlib.Core.Path.{_≡_}
 use mathlib.Core.List.{List, _++_}
-use mathlib.Core.Bool.{_&&_}
 use lib.ListN.{length, drop}
-use lib.Dec.{leb}
-use Rattle.answer.specs.Result.{Result, accepted, refused, andThen, Check, require}
+use Rattle.answer.specs.Result.{Result, accepted, refused, andThen, Check}
 use Rattle.formula.specs.Rule
 use Rattle.formula.specs.Satisfaction.{Satisfies}
 use Rattle.automaton.specs.Automaton.{Automaton}
 use Rattle.translation.specs.Degeneralized.{translation}
-use Rattle.automaton.specs.Limits.{statesBytes, transitionsBytes, initialBytes}
 use Rattle.automaton.specs.Records.{stateRecords, transitionRecords, initialRecords}
+use Rattle.automaton.specs.Tables.{tableCheck}
 use Rattle.answer.specs.Bytes.{zeros, filled}
-use Rattle.image.specs.Image.{imageBytes, largestImage}
-use Rattle.judge.specs.Judge.{Verdict, Exactly, workBytes, verdict}
+use Rattle.image.specs.Image.{imageBytes}
+use Rattle.image.specs.Calls.{bufferCheck}
+use Rattle.judge.specs.Judge.{Verdict, Exactly, workCheck, verdict}
 use Rattle.lasso.specs.Lasso.{lassoCheck}
 
 -- 25: one of the three tables, the image's buffer or the working bytes is too short for its call
 unfoldable pub roomCheck : (states transitions initial image work : List ℕ) → Check
 roomCheck states transitions initial image work =
-    require (leb statesBytes (length states) && (leb transitionsBytes (length transitions) &&
-    (leb initialBytes (length initial) && (leb largestImage (length image) && leb workBytes (length work))))) 25 0
+    andThen (tableCheck states transitions initial) (λ _. andThen (bufferCheck image) (λ _. workCheck work))
 
 -- what is refused before anything is stored: 25, the rule's 1 to 7, the lasso's 8 and 9
 unfoldable pub inputCheck : (rule stem cycle states transitions initial image work : List ℕ) → Check

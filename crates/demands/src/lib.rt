@@ -2,9 +2,7 @@
 use answer::Checked;
 use answer::TABLE_TOO_SHORT;
 use automaton::Counted;
-use automaton::INITIAL_BYTES;
-use automaton::STATES_BYTES;
-use automaton::TRANSITIONS_BYTES;
+use automaton::tables_fit;
 use image::IMAGE_BYTES;
 use image::WrittenImage;
 use image::write;
@@ -14,34 +12,10 @@ use judge::judge;
 use lasso::check_lasso;
 use translation::translate;
 ghost use mathlib.Core.Path.{_≡_};
-ghost use mathlib.Core.Bool.{_&&_};
-ghost use lib.Dec.{leb};
 ghost use Rattle.answer.specs.Result.{fine};
 ghost use Rattle.translation.specs.Degeneralized.{translation};
-ghost use Rattle.judge.specs.Judge.{judgeAnswer, workBytes};
-ghost use Rattle.automaton.specs.Limits.{statesBytes, transitionsBytes, initialBytes};
-ghost use Rattle.image.specs.Image.{largestImage};
+ghost use Rattle.judge.specs.Judge.{judgeAnswer};
 ghost use Rattle.demands.specs.Demand.{inputCheck, decision, concluded, decided};
-
-// Whether lent tables, an image's buffer and working bytes of these lengths are long enough.
-fn room_fits(states: usize, transitions: usize, initial: usize, image: usize, work: usize) -> bool
-    ensures { λ r. ⌜ r ≡ (leb statesBytes states && (leb transitionsBytes transitions
-        && (leb initialBytes initial && (leb largestImage image && leb workBytes work)))) ⌝ }
-{
-    if states < STATES_BYTES {
-        return false;
-    }
-    if transitions < TRANSITIONS_BYTES {
-        return false;
-    }
-    if initial < INITIAL_BYTES {
-        return false;
-    }
-    if image < IMAGE_BYTES {
-        return false;
-    }
-    WORK_BYTES <= work
-}
 
 // translate, write and judge in a row, where 25, 1 to 7, 8 and 9 refuse nothing.
 fn decide_checked(
@@ -89,14 +63,13 @@ pub fn decide(
         (now (states .entry)) (now (transitions .entry)) (now (initial .entry))
         (now (image .entry)) (now (work .entry)) ⌝ }
 {
-    let fits = room_fits(
-        states.len(),
-        transitions.len(),
-        initial.len(),
-        image.len(),
-        work.len(),
-    );
-    if !fits {
+    if !tables_fit(states.len(), transitions.len(), initial.len()) {
+        return Judged::Refused(TABLE_TOO_SHORT, 0);
+    }
+    if image.len() < IMAGE_BYTES {
+        return Judged::Refused(TABLE_TOO_SHORT, 0);
+    }
+    if work.len() < WORK_BYTES {
         return Judged::Refused(TABLE_TOO_SHORT, 0);
     }
     let bytes = formula::check(rule);

@@ -1,62 +1,39 @@
 -- The outcomes of write and read, by the answers of their checks and what was stored. Assumes of the bytes only that
 -- they are bytes.
 use mathlib.Core.Path.{_≡_, refl, sym, ap, _∙_}
-use mathlib.Core.Bool.{Bool, true, false, not, and-eq-true-iff}
+use mathlib.Core.Bool.{Bool, true, not}
 use mathlib.Core.List.{List, _++_}
 use Prim.Native.Nat.{ℕ, _-_, _≤_, _<_}
 use native.Mathlib.Omega.{arith}
-use lib.ListN.{length, take, drop, replicate, length-append, length-drop, length-replicate}
+use lib.ListN.{length, take, drop, length-drop}
 use lib.Seq.{take-append-seam}
-use lib.Dec.{leb}
-use borrow.Author.Tests.{leb-true, le-leb, lt-leb, not-true, not-false}
+use borrow.Author.Tests.{le-leb, lt-leb, not-true}
 use Rattle.answer.specs.Result.{Result, Check, accepted, refused, fine}
-use Rattle.answer.proofs.Results.{never-both, require-fine}
+use Rattle.answer.proofs.Results.{never-both}
 use Rattle.automaton.specs.Automaton.{Automaton}
-use Rattle.automaton.specs.Limits.{statesBytes, transitionsBytes, initialBytes}
 use Rattle.automaton.specs.Records.{stateRecords, transitionRecords, initialRecords}
-use Rattle.automaton.specs.Tables.{Counts, counts, Outcome, outcome, lengthsFit, tableCheck}
+use Rattle.automaton.specs.Tables.{Counts, counts, Outcome, outcome, lengthsFit, TablesRoom}
+use Rattle.automaton.proofs.Room.{tables-short, fine-room}
 use Rattle.answer.specs.Bytes.{filled}
 use Rattle.image.specs.Image.{transitionsAt, initialAt, imageBytes, contentsBytes, largestImage}
 use Rattle.image.specs.Image.{statesBody, transitionsBody, initialBody}
 use Rattle.image.specs.Reader.{countsAt, countsFit, recordsCheck, readTables, bodiesCheck}
 use Rattle.image.specs.Calls.{Buffer, buffer, written, writes, loaded, readInto, checks}
-use Rattle.image.specs.Memory.{joinedOver, HasRecords, Loads, Small, Long}
+use Rattle.image.specs.Memory.{joinedOver, HasRecords, Loads, Small}
 use Rattle.image.proofs.Tests.{small-fits}
 use Rattle.image.proofs.Tables.{Bytes, drop-bytes, Passed, counts-back, states-back, transitions-back, initial-back, image-back, image-length}
 use Rattle.image.proofs.Contents.{Contents, contents-fine, read-of, checks-of, checks-refused}
 
 module _ (s t i : List ℕ) where
-  abbrev sizes : Bool
-  sizes = lengthsFit (length s) (length t) (length i)
-
-  tables-short : {r : Bool} → r ≡ sizes → not r ≡ true → tableCheck s t i ≡ refused 25 0
-  unfolding tableCheck
-  tables-short {r} e f = rw (← e, not-true r f)
-
-  pub long-fine : tableCheck s t i ≡ fine → Long s t i
-  unfolding tableCheck
-  long-fine e =
-      let tests = and-eq-true-iff (leb statesBytes (length s)) _ .0 (require-fine sizes 25 0 e) in
-      let rest = and-eq-true-iff (leb transitionsBytes (length t)) _ .0 (tests .1) in
-      record { states = leb-true statesBytes (length s) (tests .0); transitions = leb-true transitionsBytes (length t) (rest .0); initial = leb-true initialBytes (length i) (rest .1) }
-
-  pub fine-long : Long s t i → tableCheck s t i ≡ fine
-  unfolding tableCheck
-  fine-long long = rw (le-leb statesBytes (length s) (long .states), le-leb transitionsBytes (length t) (long .transitions), le-leb initialBytes (length i) (long .initial))
-
-  pub tables-long : {r : Bool} → r ≡ sizes → not r ≡ false → Long s t i
-  unfolding tableCheck
-  tables-long {r} e f = long-fine (rw (← e, not-false r f))
-
   -- such tables have room for the records of counts that fit
-  pub long-passed : (c : Counts) → Small c → Long s t i → Bytes s → Bytes t → Bytes i → recordsCheck c s t i ≡ fine → Passed c s t i
-  long-passed c small long bs bt bi checked = record {
+  pub room-passed : (c : Counts) → Small c → TablesRoom s t i → Bytes s → Bytes t → Bytes i → recordsCheck c s t i ≡ fine → Passed c s t i
+  room-passed c small room bs bt bi checked = record {
     state-bytes = bs;
     transition-bytes = bt;
     initial-bytes = bi;
-    state-room = omega (arith, small .states, long .states);
-    transition-room = omega (arith, small .transitions, long .transitions);
-    initial-room = omega (arith, small .initial, long .initial);
+    state-room = omega (arith, small .states, room .states);
+    transition-room = omega (arith, small .transitions, room .transitions);
+    initial-room = omega (arith, small .initial, room .initial);
     checked = checked;
   }
 
@@ -67,33 +44,33 @@ module _ (c : Counts) (s t i image : List ℕ) where
   unfolding writes
   write-short fit f = rw (tables-short s t i fit f)
 
-  pub buffer-short : Long s t i → length image < largestImage → buffer (refused 25 0) image ≡ writes c s t i image
+  pub buffer-short : TablesRoom s t i → length image < largestImage → buffer (refused 25 0) image ≡ writes c s t i image
   unfolding writes
-  buffer-short long lt = rw (fine-long s t i long, lt-leb largestImage (length image) lt)
+  buffer-short tables lt = rw (fine-room s t i tables, lt-leb largestImage (length image) lt)
 
-  pub counts-refused : Long s t i → largestImage ≤ length image → {q : Bool} → q ≡ countsFit c → not q ≡ true
+  pub counts-refused : TablesRoom s t i → largestImage ≤ length image → {q : Bool} → q ≡ countsFit c → not q ≡ true
       → buffer (refused 10 0) image ≡ writes c s t i image
   unfolding writes
-  counts-refused long room {q} e f =
-      rw (fine-long s t i long, le-leb largestImage (length image) room, ← e, not-true q f)
+  counts-refused tables room {q} e f =
+      rw (fine-room s t i tables, le-leb largestImage (length image) room, ← e, not-true q f)
 
 -- the tables and the buffer are long enough, and the counts fit
 pub record Ready (c : Counts) (s t i image : List ℕ) : Type 0 where
   pub small : Small c
-  pub long : Long s t i
+  pub tables : TablesRoom s t i
   pub room : largestImage ≤ length image
 
 module _ {c : Counts} {s t i image : List ℕ} (ready : Ready c s t i image) where
   pub has-records : HasRecords c s t i
   has-records =
       let small = ready .small in
-      let long = ready .long in
+      let tables = ready .tables in
       (small .states, omega arith, omega arith, omega arith)
 
   decided : writes c s t i image ≡ written (readTables c s t i) image
   unfolding writes
   decided =
-      rw (fine-long s t i (ready .long), le-leb largestImage (length image) (ready .room), small-fits c (ready .small))
+      rw (fine-room s t i (ready .tables), le-leb largestImage (length image) (ready .room), small-fits c (ready .small))
 
   pub records-refused : {r : Check} {number place : ℕ} → r ≡ recordsCheck c s t i → r ≡ refused number place
       → buffer (refused number place) image ≡ writes c s t i image
@@ -105,7 +82,7 @@ module _ {c : Counts} {s t i image : List ℕ} (ready : Ready c s t i image) whe
   unfolding readTables
   write-accepted bs bt bi known told e =
       let checked = sym known ∙ told in
-      let passed = long-passed s t i c (ready .small) (ready .long) bs bt bi checked in
+      let passed = room-passed s t i c (ready .small) (ready .tables) bs bt bi checked in
       e ∙ rw (decided, checked, image-back c s t i passed, image-length c s t i passed)
 
 -- what is written when a length is answered
@@ -148,17 +125,6 @@ reads-of (accepted a) c s t i s₁ t₁ i₁ e =
     }
 reads-of (refused number place) c s t i s₁ t₁ i₁ e = never-both (ap (λ (o : Outcome). o .answer) e)
 
--- a table that was filled is no shorter
-filled-longer : (table bytes : List ℕ) → length table ≤ length (filled table bytes)
-filled-longer table bytes = rw (length-append bytes (replicate (length table - length bytes) 0), length-replicate {A = ℕ} (length table - length bytes) 0) (omega arith)
-
-pub filled-long : (s t i x y z : List ℕ) → Long s t i → Long (filled s x) (filled t y) (filled i z)
-filled-long s t i x y z long = record {
-  states = omega (arith, long .states, filled-longer s x);
-  transitions = omega (arith, long .transitions, filled-longer t y);
-  initial = omega (arith, long .initial, filled-longer i z);
-}
-
 -- the bodies of an image, as three tables
 pub body-passed : (image : List ℕ) → Contents image → Bytes image → bodiesCheck (countsAt image) image ≡ fine
     → let c = countsAt image in
@@ -182,11 +148,11 @@ module _ (image s t i : List ℕ) where
   unfolding readInto
   read-short fit f = rw (tables-short s t i fit f)
 
-  module _ (long : Long s t i) where
+  module _ (tables : TablesRoom s t i) where
     pub read-refused : {answer : Result Counts} {number place : ℕ} → answer ≡ refused number place
         → answer ≡ checks image → outcome answer s t i ≡ readInto image s t i
     unfolding readInto
-    read-refused told e = rw (fine-long s t i long, checks-refused image (sym told ∙ e), told)
+    read-refused told e = rw (fine-room s t i tables, checks-refused image (sym told ∙ e), told)
 
     pub read-accepted : {c : Counts} {s₁ t₁ i₁ : List ℕ} → Bytes image → accepted c ≡ checks image
         → Loads image c s t i s₁ t₁ i₁ → outcome (accepted c) s₁ t₁ i₁ ≡ readInto image s t i
@@ -195,6 +161,6 @@ module _ (image s t i : List ℕ) where
         let found = checks-of image c e in
         let parts = read-of image (found .automaton) (found .read) in
         let passed = body-passed image (contents-fine image (parts .contents)) bytes (parts .bodies) in
-        rw (loads .states-are, loads .transitions-are, loads .initial-are, fine-long s t i long, found .read)
+        rw (loads .states-are, loads .transitions-are, loads .initial-are, fine-room s t i tables, found .read)
         (rw (parts .automaton, counts-back _ _ _ _ (parts .bodies), states-back _ _ _ _ passed)
         (rw (transitions-back _ _ _ _ passed, initial-back _ _ _ _ passed, found .same)))

@@ -19,7 +19,8 @@ use Rattle.image.proofs.Tests.{counts-small, small-fits}
 use Rattle.image.proofs.Contents.{read-of, contents-fine}
 use Rattle.image.proofs.Tables.{Bytes, Passed, counts-back, states-back, transitions-back, initial-back, image-back}
 use Rattle.image.proofs.Agree.{longer, longer-agrees, longer-bytes, longer-room, front-agrees, tables-agree}
-use Rattle.image.proofs.Outcomes.{writes-of, written-front, reads-of, filled-long, long-fine, fine-long, long-passed, body-passed}
+use Rattle.automaton.proofs.Room.{room-fine, fine-room, filled-room}
+use Rattle.image.proofs.Outcomes.{writes-of, written-front, reads-of, room-passed, body-passed}
 use Rattle.image.proofs.Images.{joined-read, whole-image}
 
 -- Demand 2, its second half: reading an image and writing what was read gives that image again, byte by byte. So no two
@@ -66,7 +67,7 @@ reading-back c s t i before after n bs bt bi e s₁ t₁ i₁ long =
     let counted = follows (require (countsFit c) 10 0) _ a (room .answer) in
     let fit = require-fine (countsFit c) 10 0 (counted .passed) in
     let answer = passes (recordsCheck c s t i) a (automatonFrom c s t i) (sym (counted .answer)) in
-    let passed = long-passed s t i c (counts-small c fit) (long-fine s t i (tables .passed)) bs bt bi (answer .passed) in
+    let passed = room-passed s t i c (counts-small c fit) (room-fine s t i (tables .passed)) bs bt bi (answer .passed) in
     rw (written-front done, long, read-write c s t i a bs bt bi fit (counted .answer), answer .same, counts-back c s t i (answer .passed), states-back c s t i passed, transitions-back c s t i passed, initial-back c s t i passed)
 
 -- the tables that a reader filled are read and written as the image, whatever stood in them before
@@ -98,7 +99,7 @@ module _ (image s t i : List ℕ) (a : Automaton) (bytes : Bytes image) (e : rea
   unfolding writes
   filled-written before long room =
       let fits = contents-fine image (read-of image a e .contents) in
-      rw (fine-long s₁ t₁ i₁ (filled-long s t i (stateRecords a) (transitionRecords a) (initialRecords a) (long-fine s t i long)), room, small-fits c (fits .small), filled-read, write-read image a bytes e)
+      rw (fine-room s₁ t₁ i₁ (filled-room s t i (stateRecords a) (transitionRecords a) (initialRecords a) (room-fine s t i long)), room, small-fits c (fits .small), filled-read, write-read image a bytes e)
 
 -- The twin for the two calls: where read answers counts, writing the tables that it left into any buffer that is long
 -- enough answers the image's length, puts the image's own bytes first, and leaves what stood behind them.

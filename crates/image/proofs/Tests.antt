@@ -5,7 +5,7 @@ use mathlib.Core.List.{List}
 use Prim.Native.Nat.{ℕ, zero, suc, _+_, _*_, _≤_, _<_}
 use native.Mathlib.Omega.{arith}
 use lib.ListN.{length, getD}
-use lib.Dec.{leb, eqb}
+use lib.Dec.{eqb}
 use lib.Bits.{bitAnd}
 use borrow.Author.Tests.{leb-true, lt-ltb, le-ltb, le-leb, lt-leb, eq-eqb, ne-eqb, not-true, not-false}
 use Rattle.answer.specs.Result.{Result, accepted, refused, andThen, Check, fine, require, lowest}
@@ -17,17 +17,6 @@ use Rattle.image.specs.Image.{transitionsAt, initialAt, imageLength}
 use Rattle.answer.specs.Bytes.{numberAt}
 use Rattle.image.specs.Reader.{countsAt, countsFit, kindsFit, offsetsFit, contentsCheck}
 use Rattle.image.specs.Reader.{stateCheck, sumCheck, transitionRecordCheck, initialCheck, recordsCheck}
-
--- two orders and a test in a row: the first that fails, or the last
-module _ (a x b y : ℕ) (r : Bool) where
-  pub first-fails : x < a → false ≡ (leb a x && (leb b y && r))
-  first-fails lt = rw (lt-leb a x lt)
-
-  pub second-fails : a ≤ x → y < b → false ≡ (leb a x && (leb b y && r))
-  second-fails le lt = rw (le-leb a x le, lt-leb b y lt)
-
-  pub third-left : a ≤ x → b ≤ y → r ≡ (leb a x && (leb b y && r))
-  third-left le le₂ = rw (le-leb a x le, le-leb b y le₂)
 
 -- three equations in a row, of numbers that the code has read
 module _ (x a y b z d : ℕ) where

@@ -4,7 +4,7 @@ use mathlib.Core.Path.{_≡_}
 use mathlib.Core.List.{List, _++_}
 use lib.ListN.{length, take, drop}
 use Rattle.answer.specs.Result.{Result, accepted, refused}
-use Rattle.automaton.specs.Limits.{maxStates, maxTransitions, maxInitial, statesBytes, transitionsBytes, initialBytes}
+use Rattle.automaton.specs.Limits.{maxStates, maxTransitions, maxInitial}
 use Rattle.automaton.specs.Tables.{Counts}
 use Rattle.answer.specs.Bytes.{filled}
 use Rattle.image.specs.declared.StateCount.{StateCount}
@@ -36,12 +36,6 @@ pub record Small (c : Counts) : Type 0 where
 pub record Sized (c : Counts) (image : List ℕ) : Type 0 where
   pub small : Small c
   pub size : length image ≡ imageLength c
-
--- tables of the lengths that 25 asks for
-pub record Long (s t i : List ℕ) : Type 0 where
-  pub states : statesBytes ≤ length s
-  pub transitions : transitionsBytes ≤ length t
-  pub initial : initialBytes ≤ length i
 
 -- three tables before and after an image's bodies are stored in them
 pub record Loads (image : List ℕ) (c : Counts) (s t i states transitions initial : List ℕ) : Type 0 where

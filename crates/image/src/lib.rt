@@ -13,6 +13,7 @@ use automaton::MAX_STATES;
 use automaton::MAX_TRANSITIONS;
 use automaton::STATES_BYTES;
 use automaton::TRANSITIONS_BYTES;
+use automaton::tables_fit;
 ghost use mathlib.Core.Path.{_≡_};
 ghost use Prim.Native.Nat.{_+_, _*_, _<_, _≤_};
 ghost use lib.Dec.{eqb};
@@ -20,13 +21,13 @@ ghost use lib.ListN.{length, take, drop};
 ghost use lib.Seq.{sets};
 ghost use Rattle.answer.specs.Result.{accepted, andThen, require, lowest, answer};
 ghost use Rattle.automaton.specs.Limits.{maxStates};
-ghost use Rattle.automaton.specs.Tables.{told, outcome, lengthsFit};
+ghost use Rattle.automaton.specs.Tables.{told, outcome, TablesRoom};
 ghost use Rattle.answer.specs.Bytes.{filled, numberAt};
 ghost use Rattle.image.specs.Image.{entry, entryBytes, contentsBytes, largestImage};
 ghost use Rattle.image.specs.Reader.{countsAt, countsFit, entriesHave, contentsCheck, stateCheck, countSum};
 ghost use Rattle.image.specs.Reader.{transitionRecordCheck, initialCheck, recordsCheck, bodiesCheck};
 ghost use Rattle.image.specs.Calls.{writeAnswer, buffer, writes, readInto, checks};
-ghost use Rattle.image.specs.Memory.{stateAnswer, joinedOver, HasRecords, Small, Sized, Long, Loads};
+ghost use Rattle.image.specs.Memory.{stateAnswer, joinedOver, HasRecords, Small, Sized, Loads};
 
 // The numbers of document 01 by which an image or tables are refused.
 pub const BAD_CONTENTS: u8 = 10;
@@ -72,19 +73,6 @@ pub enum WrittenImage {
 enum StateCount {
     Accepted(usize),
     Refused,
-}
-
-// The lengths of three lent tables against 25.
-fn tables_fit(states: usize, transitions: usize, initial: usize) -> bool
-    ensures { λ r. ⌜ r ≡ lengthsFit states transitions initial ⌝ }
-{
-    if states < STATES_BYTES {
-        return false;
-    }
-    if transitions < TRANSITIONS_BYTES {
-        return false;
-    }
-    INITIAL_BYTES <= initial
 }
 
 // The counts against 10.
@@ -303,7 +291,7 @@ fn load_bodies(
     transitions: &mut [u8],
     initial: &mut [u8],
 )
-    requires { ⌜ Sized counts (now image) × Long (now states) (now transitions) (now initial) ⌝ }
+    requires { ⌜ Sized counts (now image) × TablesRoom (now states) (now transitions) (now initial) ⌝ }
     ensures { λ _. ⌜ Loads (now (image .entry)) counts
         (now (states .entry)) (now (transitions .entry)) (now (initial .entry))
         (now (states .exit)) (now (transitions .exit)) (now (initial .exit)) ⌝ }
@@ -359,7 +347,7 @@ fn write_image(
     counts: Counts,
     image: &mut [u8],
 ) -> usize
-    requires { ⌜ Small counts × Long (now states) (now transitions) (now initial)
+    requires { ⌜ Small counts × TablesRoom (now states) (now transitions) (now initial)
         × (largestImage ≤ length (now image)) ⌝ }
     ensures { λ r. ⌜ buffer (accepted r) (now (image .exit))
         ≡ joinedOver counts (now (states .entry)) (now (transitions .entry)) (now (initial .entry))

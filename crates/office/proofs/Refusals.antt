@@ -292,7 +292,7 @@ judged-proper image stem cycle work =
 -- 25, 1 to 9 and 20 to 24
 pub decided-proper : (rule stem cycle s t i image work : List ℕ)
     → Proper (decided rule stem cycle s t i image work .answer)
-unfolding decided inputCheck roomCheck
+unfolding decided inputCheck roomCheck tableCheck
 decided-proper rule stem cycle s t i image work =
     first (inputCheck rule stem cycle s t i image work) (concluded (translation rule) stem cycle s t i image work)
     (search (proper, rule-proper, lasso-proper) depth 7) (second (translation rule) (translation-proper rule))

@@ -2,9 +2,9 @@
 -- Assumes nothing.
 use mathlib.Core.Path.{_≡_, sym, subst, _∙_}
 use mathlib.Core.List.{List}
-use Prim.Native.Nat.{ℕ, _≤_, _<_}
+use mathlib.Core.Bool.{Bool, true, not}
+use Prim.Native.Nat.{ℕ}
 use lib.ListN.{length}
-use borrow.Author.Tests.{le-leb, lt-leb}
 use Rattle.answer.specs.Result.{Result, refused, fine, lowest}
 use Rattle.formula.specs.Rule.{nodeCount}
 use Rattle.formula.specs.Rule
@@ -12,8 +12,8 @@ use Rattle.term.specs.Size.{sizeCheck, sizesChecked}
 use Rattle.generalized.specs.declared.Walked.{Walked}
 use Rattle.generalized.specs.Generalized.{generalized}
 use Rattle.generalized.specs.Memory.{Walks}
-use Rattle.automaton.specs.Limits.{statesBytes, transitionsBytes, initialBytes}
-use Rattle.automaton.specs.Tables.{Outcome, outcome, tableCheck}
+use Rattle.automaton.specs.Tables.{Outcome, outcome, lengthsFit, TablesRoom}
+use Rattle.automaton.proofs.Room.{tables-short, fine-room}
 use Rattle.translation.specs.Degeneralized.{translation}
 use Rattle.translation.specs.Translate.{stored, translated}
 
@@ -38,23 +38,18 @@ module _ (rule s t i : List ℕ) {o : Outcome} where
 -- ---- any bytes
 
 module _ (rule s t i : List ℕ) where
-  pub states-short : length s < statesBytes → outcome (refused 25 0) s t i ≡ translated rule s t i
-  unfolding translated tableCheck
-  states-short lt = rw (lt-leb statesBytes (length s) lt)
+  pub short-refused : {r : Bool} → r ≡ lengthsFit (length s) (length t) (length i) → not r ≡ true
+      → outcome (refused 25 0) s t i ≡ translated rule s t i
+  unfolding translated
+  short-refused fit f = rw (tables-short s t i fit f)
 
-  pub transitions-short : statesBytes ≤ length s → length t < transitionsBytes → outcome (refused 25 0) s t i ≡ translated rule s t i
-  unfolding translated tableCheck
-  transitions-short a lt = rw (le-leb statesBytes (length s) a, lt-leb transitionsBytes (length t) lt)
+  module _ (room : TablesRoom s t i) where
+    pub bytes-refused : {number place : ℕ} → refused number place ≡ Rule.checked rule
+        → outcome (refused number place) s t i ≡ translated rule s t i
+    unfolding translated
+    bytes-refused e = rw (fine-room s t i room, ← e)
 
-  pub initial-short : statesBytes ≤ length s → transitionsBytes ≤ length t → length i < initialBytes → outcome (refused 25 0) s t i ≡ translated rule s t i
-  unfolding translated tableCheck
-  initial-short a b lt = rw (le-leb statesBytes (length s) a, le-leb transitionsBytes (length t) b, lt-leb initialBytes (length i) lt)
-
-  module _ (a : statesBytes ≤ length s) (b : transitionsBytes ≤ length t) (c : initialBytes ≤ length i) where
-    pub bytes-refused : {number place : ℕ} → refused number place ≡ Rule.checked rule → outcome (refused number place) s t i ≡ translated rule s t i
-    unfolding translated tableCheck
-    bytes-refused e = rw (le-leb statesBytes (length s) a, le-leb transitionsBytes (length t) b, le-leb initialBytes (length i) c, ← e)
-
-    pub built : {o : Outcome} → Rule.checked rule ≡ fine → o ≡ stored (translation rule) s t i → o ≡ translated rule s t i
-    unfolding translated tableCheck
-    built fits e = e ∙ rw (le-leb statesBytes (length s) a, le-leb transitionsBytes (length t) b, le-leb initialBytes (length i) c, fits)
+    pub built : {o : Outcome} → Rule.checked rule ≡ fine → o ≡ stored (translation rule) s t i
+        → o ≡ translated rule s t i
+    unfolding translated
+    built fits e = e ∙ rw (fine-room s t i room, fits)

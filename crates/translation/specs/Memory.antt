@@ -23,7 +23,7 @@ use Rattle.translation.specs.declared.Paired.the-variants.{Count, Stop}
 use Rattle.translation.specs.declared.Extent.{Extent}
 use Rattle.automaton.specs.declared.Counted.{Counted}
 use Rattle.automaton.specs.Automaton.{Automaton}
-use Rattle.automaton.specs.Limits.{maxStates, maxOfState, statesBytes, transitionsBytes, initialBytes}
+use Rattle.automaton.specs.Limits.{maxStates, maxOfState}
 use Rattle.automaton.specs.Records.{records, stateBytes, transitionBytes}
 use Rattle.automaton.specs.Tables.{told, outcome}
 use Rattle.translation.specs.Degeneralized.{Pair, pair, translation}
@@ -203,12 +203,6 @@ abbrev pub WalksPairs : (ends transitions : List ℕ) (r n : ℕ) (pairs table :
 WalksPairs ends transitions r n pairs table met pairs′ index′ table′ =
     AddsRows (walked (codeWalk ends transitions r) (take n pairs))
     (λ done codes. records (rowN ends transitions r codes) done) table 0 met pairs′ index′ table′
-
--- the three tables are large enough
-pub record TablesRoom (states transitions initial : List ℕ) : Type 0 where
-  pub for-states : statesBytes ≤ length states
-  pub for-transitions : transitionsBytes ≤ length transitions
-  pub for-initial : initialBytes ≤ length initial
 
 -- ---- the call's tables
 

@@ -6,10 +6,8 @@ use answer::put_number;
 use answer::zero;
 use automaton::Counted;
 use automaton::Counts;
-use automaton::INITIAL_BYTES;
 use automaton::MAX_STATES;
-use automaton::STATES_BYTES;
-use automaton::TRANSITIONS_BYTES;
+use automaton::tables_fit;
 use generalized::GeneralizedNumber;
 use generalized::Walked;
 ghost use mathlib.Core.Path.{_≡_};
@@ -29,11 +27,11 @@ ghost use Rattle.generalized.specs.Limits.{maxGeneralizedStates};
 ghost use Rattle.generalized.specs.Memory.{keptTarget, keptMust, keptMustNot};
 ghost use Rattle.automaton.specs.Limits.{maxStates, transitionsBytes, initialBytes};
 ghost use Rattle.automaton.specs.Records.{records, numberedRecords, stateBytes, transitionBytes};
-ghost use Rattle.automaton.specs.Tables.{told, outcome};
+ghost use Rattle.automaton.specs.Tables.{told, outcome, TablesRoom};
 ghost use Rattle.translation.specs.Degeneralized.{numbers};
 ghost use Rattle.translation.specs.Memory.{FirstWalk, rowStart, levelPlaces, codeOf, codePlaces, climbN};
 ghost use Rattle.translation.specs.Memory.{nextLevelN, targetN, numberN, pairBytes, InRows, PairRows};
-ghost use Rattle.translation.specs.Memory.{PairsNumbered, Leads, MeetsPair, MeetsRow, WalksPairs, TablesRoom};
+ghost use Rattle.translation.specs.Memory.{PairsNumbered, Leads, MeetsPair, MeetsRow, WalksPairs};
 ghost use Rattle.translation.specs.Memory.{Leaves, Builds};
 ghost use Rattle.translation.specs.Translate.{translated};
 
@@ -476,13 +474,7 @@ pub fn translate(
     ensures { λ r. ⌜ outcome (told r) (now (states .exit)) (now (transitions .exit)) (now (initial .exit))
         ≡ translated (now (rule .entry)) (now (states .entry)) (now (transitions .entry)) (now (initial .entry)) ⌝ }
 {
-    if states.len() < STATES_BYTES {
-        return Counted::Refused(TABLE_TOO_SHORT, 0);
-    }
-    if transitions.len() < TRANSITIONS_BYTES {
-        return Counted::Refused(TABLE_TOO_SHORT, 0);
-    }
-    if initial.len() < INITIAL_BYTES {
+    if !tables_fit(states.len(), transitions.len(), initial.len()) {
         return Counted::Refused(TABLE_TOO_SHORT, 0);
     }
     let bytes = formula::check(rule);

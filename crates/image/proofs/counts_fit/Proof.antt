@@ -3,7 +3,7 @@
 use native.Mathlib.Omega.{arith}
 use Rattle.automaton.specs.Limits.{maxStates, maxTransitions}
 use Rattle.image.specs.Reader.{countsFit}
-use Rattle.image.proofs.Tests.{first-fails, second-fails, third-left}
+use Rattle.automaton.proofs.Room.{first-fails, second-fails, third-left}
 use Rattle.image.proofs.counts_fit.Statement.{statement}
 use Rattle.image.proofs.counts_fit.Tie as tie
 

@@ -5,9 +5,10 @@ use native.Mathlib.Omega.{arith}
 use mathlib.Core.Path.{sym, ap, _∙_}
 use borrow.Author.Tests.{not-false}
 use Rattle.answer.specs.Result.{answer}
-use Rattle.image.specs.Memory.{Long}
 use Rattle.image.proofs.Tests.{counts-small}
-use Rattle.image.proofs.Outcomes.{tables-long, Ready, has-records}
+use Rattle.automaton.specs.Tables.{TablesRoom}
+use Rattle.automaton.proofs.Room.{tables-room}
+use Rattle.image.proofs.Outcomes.{Ready, has-records}
 use Rattle.image.proofs.Outcomes.{write-short, buffer-short, counts-refused, records-refused, write-accepted}
 use Rattle.image.proofs.write.Statement.{statement}
 use Rattle.image.proofs.write.Tie as tie
@@ -17,16 +18,16 @@ abbrev start : tie.Else1 → tie.Start
 start c = c .before .before .before .before .before .before
 
 -- what is known of it once the tables, and once the counts, fit
-long : (c : tie.Else1)
-    → Long (start c .args .states .now) (start c .args .transitions .now) (start c .args .initial .now)
-long c = tables-long _ _ _ (c .before .tables-fit .ensures) (c .if1 .left)
+tables : (c : tie.Else1)
+    → TablesRoom (start c .args .states .now) (start c .args .transitions .now) (start c .args .initial .now)
+tables c = tables-room _ _ _ (c .before .tables-fit .ensures) (c .if1 .left)
 
 ready : (c : tie.Else3)
     → let a = start (c .before .before .before) .args in
     Ready (a .counts) (a .states .now) (a .transitions .now) (a .initial .now) (a .image .now)
 ready c = record {
   small = counts-small _ (sym (c .before .counts-fit .ensures) ∙ not-false _ (c .if3 .left));
-  long = long (c .before .before .before);
+  tables = tables (c .before .before .before);
   room = omega arith;
 }
 
@@ -34,11 +35,11 @@ returns : tie.Need-returns
 returns c = write-short _ _ _ _ _ (c .before .tables-fit .ensures) (c .if1 .taken)
 
 returns-2 : tie.Need-returns-2
-returns-2 c = buffer-short _ _ _ _ _ (long (c .before)) (omega arith)
+returns-2 c = buffer-short _ _ _ _ _ (tables (c .before)) (omega arith)
 
 returns-3 : tie.Need-returns-3
 returns-3 c =
-    counts-refused _ _ _ _ _ (long (c .before .before .before)) (omega arith) (c .before .counts-fit .ensures)
+    counts-refused _ _ _ _ _ (tables (c .before .before .before)) (omega arith) (c .before .counts-fit .ensures)
     (c .if3 .taken)
 
 check-records-requires : tie.Need-check-records-requires
@@ -52,7 +53,7 @@ returns-4 c =
 write-image-requires : tie.Need-write-image-requires
 write-image-requires c κs =
     let given = ready (c .before .before .before .before) in
-    (given .small, given .long, given .room)
+    (given .small, given .tables, given .room)
 
 returns-5 : tie.Need-returns-5
 returns-5 c =

@@ -33,7 +33,7 @@ explore-pairs-requires : tie.Need-explore-pairs-requires
 explore-pairs-requires c κs =
     let node = c .before .before .before .before .before in
     let s = node .before .before .before .before .before .before .before .before .before .before in
-    (first-rows (begun (node)), begun (node) .numbered, s .pre .2 .for-transitions)
+    (first-rows (begun (node)), begun (node) .numbered, s .pre .2 .transitions)
 
 array-share-prefix-pairs : tie.Need-array-share-prefix-pairs
 array-share-prefix-pairs c =
@@ -64,7 +64,7 @@ write-states-requires c κs =
           (explore-pairs .explore-pairs .last .1 .1 .1 .1 .1 .0) (explore-pairs .explore-pairs .ensures)
           (walked2 .walked2 .given .1) .listed,
       omega
-          (arith, codes-few (begun (node)) _ (explore-pairs .explore-pairs .result) (explore-pairs .explore-pairs .last .1 .1 .1 .0) (explore-pairs .explore-pairs .last .1 .1 .1 .1 .0) (explore-pairs .explore-pairs .last .1 .1 .1 .1 .1 .0) (explore-pairs .explore-pairs .ensures) (walked2 .walked2 .given .1), s .pre .2 .for-states),
+          (arith, codes-few (begun (node)) _ (explore-pairs .explore-pairs .result) (explore-pairs .explore-pairs .last .1 .1 .1 .0) (explore-pairs .explore-pairs .last .1 .1 .1 .1 .0) (explore-pairs .explore-pairs .last .1 .1 .1 .1 .1 .0) (explore-pairs .explore-pairs .ensures) (walked2 .walked2 .given .1), s .pre .2 .states),
     )
 
 mul-zero-behind : tie.Need-mul-zero-behind
@@ -91,7 +91,7 @@ write-initial-requires c κs =
     let far = c .before .before .before .before .before .before .before .before .before .before .before in
     let far2 = far .before .before .before .before .before .before .before .before .before .before .before in
     let s = far2 .before .before .before .before .before .before .before .before .before .before .before in
-    (omega (arith, initial-few _ (s .pre .0), s .pre .1 .begun), s .pre .2 .for-initial)
+    (omega (arith, initial-few _ (s .pre .0), s .pre .1 .begun), s .pre .2 .initial)
 
 returns : tie.Need-returns
 returns c =

@@ -1,10 +1,10 @@
--- `image::tables_fit` meets its contract: each way through the code settles the three tests in a row.
+-- `automaton::tables_fit` meets its contract: each way through the code settles the three tests in a row.
 -- Assumes nothing.
 use native.Mathlib.Omega.{arith}
 use Rattle.automaton.specs.Limits.{statesBytes, transitionsBytes}
-use Rattle.image.proofs.Tests.{first-fails, second-fails, third-left}
-use Rattle.image.proofs.tables_fit.Statement.{statement}
-use Rattle.image.proofs.tables_fit.Tie as tie
+use Rattle.automaton.proofs.Room.{first-fails, second-fails, third-left}
+use Rattle.automaton.proofs.tables_fit.Statement.{statement}
+use Rattle.automaton.proofs.tables_fit.Tie as tie
 
 returns : tie.Need-returns
 returns c =
