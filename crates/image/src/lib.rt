@@ -49,9 +49,9 @@ const INITIAL_ENTRY: usize = 2 * ENTRY_BYTES;
 pub const CONTENTS_BYTES: usize = 3 * ENTRY_BYTES;
 
 // Where the count of each entry stands.
-pub const STATE_COUNT_AT: usize = 2;
+const STATE_COUNT_AT: usize = 2;
 
-pub const TRANSITION_COUNT_AT: usize = TRANSITIONS_ENTRY + 2;
+const TRANSITION_COUNT_AT: usize = TRANSITIONS_ENTRY + 2;
 
 pub const INITIAL_COUNT_AT: usize = INITIAL_ENTRY + 2;
 

@@ -6,7 +6,6 @@ use answer::zero;
 use automaton::Counted;
 use image::CONTENTS_BYTES;
 use image::INITIAL_COUNT_AT;
-use image::STATE_COUNT_AT;
 use image::check;
 use lasso::check_lasso;
 ghost use mathlib.Core.Path.{_≡_};
@@ -411,9 +410,8 @@ pub fn judge(image: &[u8], stem: &[u8], cycle: &[u8], work: &mut [u8]) -> Judged
     if work.len() < WORK_BYTES {
         return Judged::Refused(TABLE_TOO_SHORT, 0);
     }
-    let loaded = check(image);
-    if let Counted::Refused(number, place) = loaded {
-        return Judged::Refused(number, place);
+    match check(image) {
+        Counted::Refused(number, place) => Judged::Refused(number, place),
+        Counted::Accepted(counts) => judge_lasso(image, counts.states, stem, cycle, work),
     }
-    judge_lasso(image, number_at(image, STATE_COUNT_AT), stem, cycle, work)
 }

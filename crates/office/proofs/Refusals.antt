@@ -17,20 +17,19 @@ use Rattle.answer.proofs.Results.{never-both, require-fine, required}
 use Rattle.term.specs.Size.{sizeCheck, sizesChecked}
 use Rattle.generalized.specs.Explore.{find, meet, Numbering, meetAll, Walk, explore}
 use Rattle.generalized.specs.Generalized.{productCheck, generalized}
-use Rattle.automaton.specs.Automaton.{Automaton}
 use Rattle.translation.specs.Degeneralized.{degeneralized, translation}
 use Rattle.automaton.specs.Limits.{maxTransitions}
-use Rattle.automaton.specs.Tables.{Counts, Outcome, tableCheck}
+use Rattle.automaton.specs.Tables.{Counts, tableCheck}
 use Rattle.translation.specs.Translate.{stored, unless, translated}
 use Rattle.image.specs.Memory.{Small}
 use Rattle.image.specs.Reader.{countsAt, countsFit, contentsCheck, stateCheck, transitionRecordCheck, initialCheck}
 use Rattle.image.specs.Reader.{recordsCheck, readTables, readImage}
-use Rattle.image.specs.Calls.{bufferCheck, written, writes, loaded, readInto}
+use Rattle.image.specs.Calls.{bufferCheck, written, readCounted, writes, loaded, readInto}
 use Rattle.image.proofs.Tests.{counts-small}
 use Rattle.image.proofs.Contents.{contents-fine}
 use Rattle.lasso.specs.Lasso.{lassoCheck}
 use Rattle.judge.specs.Judge.{judgeable, judgedBy, judged}
-use Rattle.demands.specs.Demand.{roomCheck, inputCheck, Decision, concluded, decidedBy, decided}
+use Rattle.demands.specs.Demand.{roomCheck, inputCheck, concluded, decidedBy, decided}
 
 -- a number that a byte holds, and not 0, ZIMBORALO_ACCEPTED; a place at most the number of an automaton's transitions
 pub record Refusal (number place : ℕ) : Type 0 where
@@ -72,6 +71,14 @@ then-proper (refused number place) next p q = refuses (p .refusal number place r
 require-proper : (test : Bool) (number place : ℕ) → Refusal number place → Proper (require test number place)
 require-proper true number place h = accepts
 require-proper false number place h = refuses h
+
+-- an answer by cases on another, whose refusal it keeps
+cases-proper : {A B : Type 0} (answer : Result A → Result B) (r : Result A) → Proper r
+    → ((a : A) → Proper (answer (accepted a)))
+    → ((number place : ℕ) → answer (refused number place) ≡ refused number place) → Proper (answer r)
+cases-proper answer (accepted a) p q keeps = q a
+cases-proper answer (refused number place) p q keeps =
+    rw (keeps number place) (refuses (p .refusal number place refl))
 
 either-proper : {A : Type 0} (test : Bool) (r s : Result A) → Proper r → Proper s
     → Proper {A = A} (elim test [ true ↦ r | false ↦ s ])
@@ -200,17 +207,11 @@ tables-proper s t i = search proper
 pub translated-proper : (rule s t i : List ℕ) → Proper (translated rule s t i .answer)
 unfolding translated stored
 translated-proper rule s t i =
-    first (andThen (tableCheck s t i) (λ _. Rule.checked rule)) (stored (translation rule) s t i)
-    (search (proper, tables-proper, rule-proper)) (second (translation rule) (translation-proper rule))
-  where
-    first : (check : Check) (rest : Outcome) → Proper check → Proper (rest .answer)
-        → Proper (unless check rest s t i .answer)
-    first (accepted u) rest p q = q
-    first (refused number place) rest p q = refuses (p .refusal number place refl)
-
-    second : (r : Result Automaton) → Proper r → Proper (stored r s t i .answer)
-    second (accepted a) p = accepts
-    second (refused number place) p = refuses (p .refusal number place refl)
+    let rest = cases-proper (λ r. stored r s t i .answer) (translation rule) (translation-proper rule)
+    (λ a. accepts) (λ number place. refl) in
+    cases-proper (λ check. unless check (stored (translation rule) s t i) s t i .answer)
+    (andThen (tableCheck s t i) (λ _. Rule.checked rule)) (search (proper, tables-proper, rule-proper))
+    (λ u. rest) (λ number place. refl)
 
 -- 11
 state-proper : (s : List ℕ) (k : ℕ) → k ≤ maxTransitions → Proper (stateCheck s k)
@@ -252,14 +253,11 @@ image-proper image =
 pub reads-proper : (image s t i : List ℕ) → Proper (readInto image s t i .answer)
 unfolding readInto
 reads-proper image s t i =
-    go (andThen (tableCheck s t i) (λ _. readImage image)) (search (proper, tables-proper, image-proper))
-  where
-    go : (r : Result Automaton) → Proper r → Proper (loaded r s t i .answer)
-    go (accepted a) p = accepts
-    go (refused number place) p = refuses (p .refusal number place refl)
+    cases-proper (λ r. loaded r s t i .answer) (andThen (tableCheck s t i) (λ _. readImage image))
+    (search (proper, tables-proper, image-proper)) (λ a. accepts) (λ number place. refl)
 
 -- 10 of counts alone, and 11 to 13
-counted-proper : (c : Counts) (s t i : List ℕ) → Proper (andThen (require (countsFit c) 10 0) (λ _. readTables c s t i))
+counted-proper : (c : Counts) (s t i : List ℕ) → Proper (readCounted c s t i)
 counted-proper c s t i =
     then-proper (require (countsFit c) 10 0) _ (search proper)
     (λ u e. records-proper c s t i (counts-small c (require-fine (countsFit c) 10 0 e)))
@@ -268,11 +266,9 @@ counted-proper c s t i =
 pub writes-proper : (c : Counts) (s t i image : List ℕ) → Proper (writes c s t i image .answer)
 unfolding writes
 writes-proper c s t i image =
-    go (andThen (tableCheck s t i) (λ _. andThen (bufferCheck image) (λ _. andThen (require (countsFit c) 10 0) (λ _. readTables c s t i)))) (search (proper, tables-proper, counted-proper) depth 7)
-  where
-    go : (r : Result Automaton) → Proper r → Proper (written r image .answer)
-    go (accepted a) p = accepts
-    go (refused number place) p = refuses (p .refusal number place refl)
+    cases-proper (λ r. written r image .answer)
+    (andThen (tableCheck s t i) (λ _. andThen (bufferCheck image) (λ _. readCounted c s t i)))
+    (search (proper, tables-proper, counted-proper) depth 7) (λ a. accepts) (λ number place. refl)
 
 -- 8 and 9
 lasso-proper : (stem cycle : List ℕ) → Proper (lassoCheck stem cycle)
@@ -283,25 +279,17 @@ lasso-proper stem cycle = search proper
 pub judged-proper : (image stem cycle work : List ℕ) → Proper (judged image stem cycle work .answer)
 unfolding judged judgeable
 judged-proper image stem cycle work =
-    go (judgeable image stem cycle work) (search (proper, image-proper, lasso-proper) depth 7)
-  where
-    go : (r : Result Automaton) → Proper r → Proper (judgedBy r stem cycle work .answer)
-    go (accepted a) p = accepts
-    go (refused number place) p = refuses (p .refusal number place refl)
+    cases-proper (λ r. judgedBy r stem cycle work .answer) (judgeable image stem cycle work)
+    (search (proper, image-proper, lasso-proper) depth 7) (λ a. accepts) (λ number place. refl)
 
 -- 25, 1 to 9 and 20 to 24
 pub decided-proper : (rule stem cycle s t i image work : List ℕ)
     → Proper (decided rule stem cycle s t i image work .answer)
 unfolding decided inputCheck roomCheck tableCheck
 decided-proper rule stem cycle s t i image work =
-    first (inputCheck rule stem cycle s t i image work) (concluded (translation rule) stem cycle s t i image work)
-    (search (proper, rule-proper, lasso-proper) depth 7) (second (translation rule) (translation-proper rule))
-  where
-    second : (r : Result Automaton) → Proper r → Proper (concluded r stem cycle s t i image work .answer)
-    second (accepted a) p = accepts
-    second (refused number place) p = refuses (p .refusal number place refl)
-
-    first : (check : Check) (rest : Decision) → Proper check → Proper (rest .answer)
-        → Proper (decidedBy check rest s t i image work .answer)
-    first (accepted u) rest p q = q
-    first (refused number place) rest p q = refuses (p .refusal number place refl)
+    let made = concluded (translation rule) stem cycle s t i image work in
+    let rest = cases-proper (λ r. concluded r stem cycle s t i image work .answer) (translation rule)
+    (translation-proper rule) (λ a. accepts) (λ number place. refl) in
+    cases-proper (λ check. decidedBy check made s t i image work .answer)
+    (inputCheck rule stem cycle s t i image work) (search (proper, rule-proper, lasso-proper) depth 7)
+    (λ u. rest) (λ number place. refl)

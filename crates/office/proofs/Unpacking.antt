@@ -10,19 +10,18 @@ use Rattle.formula.specs.Rule
 use Rattle.answer.proofs.Results.{never-both, require-fine}
 use Rattle.automaton.specs.Automaton.{Automaton}
 use Rattle.translation.specs.Degeneralized.{translation}
-use Rattle.automaton.specs.Limits.{maxStates, maxTransitions, maxInitial}
-use Rattle.automaton.specs.Tables.{Counts, counts, tableCheck}
+use Rattle.automaton.specs.Tables.{Counts, counts, outcome, tableCheck}
 use Rattle.translation.specs.Translate.{stored, unless, translated}
 use Rattle.image.specs.Memory.{Small}
 use Rattle.image.specs.Image.{imageLength, largestImage}
-use Rattle.image.specs.Reader.{countsFit, recordsCheck, automatonFrom, readTables, readImage}
-use Rattle.image.specs.Calls.{buffer, bufferCheck, writes, loaded, readInto, checks}
+use Rattle.image.specs.Reader.{countsFit, recordsCheck, automatonFrom, readTables}
+use Rattle.image.specs.Calls.{buffer, bufferCheck, writes, readInto, checks}
 use Rattle.image.proofs.Before.{follows, passes}
 use Rattle.image.proofs.Tests.{counts-small}
 use Rattle.image.proofs.Contents.{checks-sized}
 use Rattle.image.proofs.Sizes.{image-size}
 use Rattle.image.proofs.Tables.{counts-back}
-use Rattle.image.proofs.Outcomes.{writes-of}
+use Rattle.image.proofs.Outcomes.{writes-of, reads-of}
 use Rattle.judge.specs.Judge.{Verdict, kept, broken, judged}
 use Rattle.demands.specs.Demand.{decided}
 use Rattle.automaton.proofs.WellFormed.{few-together}
@@ -73,7 +72,9 @@ translated-small rule s t i c e =
     second (accepted a) known e =
         let formed = translation-well-formed rule a known in
         let same : counts a ≡ c = cc in
-        subst Small same (record { states = formed .states; transitions = omega (arith, formed .states, few-together (length (a .states)) (a .states) (formed .each)); initial = formed .initial })
+        let together = few-together (length (a .states)) (a .states) (formed .each) in
+        subst Small same
+        (record { states = formed .states; transitions = omega (arith, formed .states); initial = formed .initial })
     second (refused number place) known e = never-both e
 
     first : (check : Check) → unless check (stored (translation rule) s t i) s t i .answer ≡ accepted c → Small c
@@ -83,27 +84,19 @@ translated-small rule s t i c e =
 -- of an accepted read
 pub reads-small : (image s t i : List ℕ) (c : Counts) → readInto image s t i .answer ≡ accepted c → Small c
 unfolding readInto checks
-reads-small image s t i c e = first (tableCheck s t i) e
-  where
-    second : (r : Result Automaton) → loaded r s t i .answer ≡ accepted c
-        → accepted c ≡ andThen r (λ a. accepted (counts a))
-    second (accepted a) e = sym e
-    second (refused number place) e = never-both e
-
-    first : (check : Check) → loaded (andThen check (λ _. readImage image)) s t i .answer ≡ accepted c → Small c
-    first (accepted u) e = checks-sized image c (second (readImage image) e) .small
-    first (refused number place) e = never-both e
+reads-small image s t i c e =
+    let o = readInto image s t i in
+    let done = reads-of _ c s t i (o .states) (o .transitions) (o .initial)
+    (ap (λ (r : Result Counts). outcome r (o .states) (o .transitions) (o .initial)) e) in
+    let read = follows (tableCheck s t i) _ (done .automaton) (done .answer) in
+    checks-sized image c (rw (read .answer) (ap accepted (done .counted))) .small
 
 -- of an accepted write, ZIMBORALO_IMAGE_BYTES
 pub writes-small : (c : Counts) (s t i image : List ℕ) (n : ℕ) → writes c s t i image .answer ≡ accepted n
     → n ≤ largestImage
 unfolding writes readTables
 writes-small c s t i image n e =
-    let whole =
-    andThen (tableCheck s t i)
-    (λ _. andThen (bufferCheck image) (λ _. andThen (require (countsFit c) 10 0) (λ _. readTables c s t i))) in
-    let done =
-    writes-of whole n image (writes c s t i image .image)
+    let done = writes-of _ n image (writes c s t i image .image)
     (ap (λ (r : Result ℕ). buffer r (writes c s t i image .image)) e) in
     let a = done .automaton in
     let tables = follows (tableCheck s t i) _ a (done .answer) in
@@ -189,11 +182,10 @@ three-read c small =
     let s : c .states % 256 ≡ c .states = omega (arith, small .states) in
     let t : c .transitions % 65536 ≡ c .transitions = omega (arith, small .transitions) in
     let i : c .initial % 256 ≡ c .initial = omega (arith, small .initial) in
-    rw (s, t, i) (three (c .states) (c .transitions) (c .initial) (small .states) (small .transitions) (small .initial))
+    rw (s, t, i) whole
   where
-    three : (s t i : ℕ) → s ≤ maxStates → t ≤ maxTransitions → i ≤ maxInitial
-        → CountsRead (256 * s + 65536 * t + 2 ^ 32 * i) (record { states = s; transitions = t; initial = i })
-    three s t i a b d = record { states = omega arith; transitions = omega arith; initial = omega arith }
+    whole : CountsRead (256 * c .states + 65536 * c .transitions + 2 ^ 32 * c .initial) c
+    whole = record { states = omega arith; transitions = omega arith; initial = omega arith }
 
 counts-unpack : (r : Result Counts) → Proper r → ((c : Counts) → r ≡ accepted c → Small c)
     → Unpacks CountsRead (packCounts r) r

@@ -41,21 +41,11 @@ fn pack_size(length: usize) -> u64
     256 * ((length % 4294967296) as u64)
 }
 
-// The answer of translate: the counts, or the refusal.
-fn pack_translated(made: Counted) -> u64
-    ensures { λ r. ⌜ r ≡ packCounts (told made) ⌝ }
+// The answer of translate or read: the counts, or the refusal.
+fn pack_counted(counted: Counted) -> u64
+    ensures { λ r. ⌜ r ≡ packCounts (told counted) ⌝ }
 {
-    match made {
-        Counted::Accepted(counts) => pack_three(counts),
-        Counted::Refused(number, place) => pack_refusal(number, place),
-    }
-}
-
-// The answer of read: the counts, or the refusal.
-fn pack_loaded(loaded: Counted) -> u64
-    ensures { λ r. ⌜ r ≡ packCounts (told loaded) ⌝ }
-{
-    match loaded {
+    match counted {
         Counted::Accepted(counts) => pack_three(counts),
         Counted::Refused(number, place) => pack_refusal(number, place),
     }
@@ -94,7 +84,7 @@ pub extern "C" fn zimboralo_translate(
         ≡ packOutcome (translated (now (rule .entry))
         (now (states .entry)) (now (transitions .entry)) (now (initial .entry))) ⌝ }
 {
-    pack_translated(translate(rule, states, transitions, initial))
+    pack_counted(translate(rule, states, transitions, initial))
 }
 
 // Tables with their counts as an image at the buffer's start. The image's length, or a refusal.
@@ -132,7 +122,7 @@ pub extern "C" fn zimboralo_read(
         ≡ packOutcome (readInto (now (image .entry))
         (now (states .entry)) (now (transitions .entry)) (now (initial .entry))) ⌝ }
 {
-    pack_loaded(read(image, states, transitions, initial))
+    pack_counted(read(image, states, transitions, initial))
 }
 
 // A lasso, stem and cycle, against an image. The verdict, or a refusal.

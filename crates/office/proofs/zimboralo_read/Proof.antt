@@ -7,10 +7,11 @@ use Rattle.office.proofs.zimboralo_read.Tie as tie
 
 returns : tie.Need-returns
 returns c =
-    packed-tables _ _ _ _ _ _ (c .pack-loaded .ensures)
+    packed-tables _ _ _ _ _ _ (c .pack-counted .ensures)
     (c .before .before .before .before .before .before .before .read .ensures)
 
 pub zimboralo-read-spec : {M : Type 1} → statement M
 zimboralo-read-spec =
     tie.close
-    (tie.spec (λ c κs. search needs) (λ c κs. search needs) (λ c. search needs) (λ c. search needs) (λ c. search needs) returns)
+    (tie.spec (λ c κs. search needs) (λ c κs. search needs) (λ c. search needs) (λ c. search needs)
+    (λ c. search needs) returns)

@@ -7,7 +7,7 @@ use Rattle.office.proofs.zimboralo_translate.Tie as tie
 
 returns : tie.Need-returns
 returns c =
-    packed-tables _ _ _ _ _ _ (c .pack-translated .ensures)
+    packed-tables _ _ _ _ _ _ (c .pack-counted .ensures)
     (c .before .before .before .before .before .before .before .translate .ensures)
 
 pub zimboralo-translate-spec : {M : Type 1} → statement M
