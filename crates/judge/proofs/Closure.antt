@@ -5,31 +5,26 @@ use mathlib.Core.List.{List}
 use mathlib.Core.Logic.{_⊎_, inl, inr, ⊎-elim, ⊎-map}
 use native.Mathlib.Omega.{arith}
 use native.Mathlib.Decide.{ℕ-discrete}
-use lib.ListN.{replicate}
 use Rattle.judge.specs.Memory.{Token, Lifted, Is, Gains, Through, Via, Joined, both, met, round, Covered, Linked, one, join, joinMet}
 use Rattle.judge.specs.Limits.{metBit}
 use Rattle.automaton.specs.Limits.{maxStates}
-use Rattle.judge.proofs.Gathers.{Gathering, adds-as, adds-none, adds-both, is-initial}
-
--- what is lifted in one row, in another
-lift-as : {P Q : (q k : ℕ) → Type 0} {p q k : ℕ} (l : Lifted P p k) → Q q (l .low) → Lifted Q q k
-lift-as l h = record { low = l .low; half = l .half; high = l .high; held = h }
+use Rattle.judge.proofs.Gathers.{Gathering, adds-as, adds-none, adds-both, lift-as, row-was, row-is}
 
 -- ---- the row by which runs go on
 
-module _ {rows u : List ℕ} (m : ℕ) (first : Gains (replicate 4 0) u (λ p k. (p ≡ 0) × Token rows m k)) where
+module _ {rows u : List ℕ} (m : ℕ) (first : Is u (λ p k. (p ≡ 0) × Token rows m k)) where
   pub through-once : (Token rows m (metBit + m) → ⊥) → Through rows u m
   through-once none = record {
-    only = λ k h. inl (is-initial 4 first .only 0 k h .1);
-    row = λ k h. first .all 0 k (inr (refl, h));
+    only = λ k h. inl (first .only 0 k h .1);
+    row = λ k h. first .all 0 k (refl, h);
     again = λ k h l. absurd (none h);
   }
 
   pub through-round : {via : List ℕ} → Gains u via (λ p k. (p ≡ 0) × Lifted (Token rows) m k)
       → Token rows m (metBit + m) → Through rows via m
   through-round second back = record {
-    only = λ k h. ⊎-map (λ h. is-initial 4 first .only 0 k h .1) (λ l. (back, l .1)) (second .only 0 k h);
-    row = λ k h. second .all 0 k (inl (first .all 0 k (inr (refl, h))));
+    only = λ k h. ⊎-map (λ h. first .only 0 k h .1) (λ l. (back, l .1)) (second .only 0 k h);
+    row = λ k h. second .all 0 k (inl (first .all 0 k (refl, h)));
     again = λ k h l. second .all 0 k (inr (refl, l));
   }
 
@@ -61,13 +56,13 @@ module _ {x via : List ℕ} (q m : ℕ) where
 -- ---- all rows
 
 module _ {x via : List ℕ} (m n : ℕ) where
-  -- a turn of the loop over the rows: row i is still as it was
+  -- a turn of the loop over the rows
   module _ {y : List ℕ} (i : ℕ) (inv : Gathering x (λ p r k. (r ≡ p) × Via x via m p k) n y i) where
     was : {k : ℕ} → Token y i k → Token x i k
-    was {k} h = ⊎-elim (λ t. t) (λ v. absurd (omega (arith, v .1, v .2 .0))) (inv .gathered .only i k h)
+    was = row-was i inv
 
     is : {k : ℕ} → Token x i k → Token y i k
-    is {k} h = inv .gathered .all i k (inl h)
+    is = row-is i inv
 
     pub turn-covered : m < metBit → Covered x → Token y i (metBit + m) → Token y i m
     turn-covered lt covered h = is (covered i m lt (was h))

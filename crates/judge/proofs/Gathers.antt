@@ -1,12 +1,12 @@
 -- A loop that adds bits turn by turn: what it has added is what each turn adds. Assumes nothing.
 use Prim.Native.Nat.{ℕ, _+_, _<_, _≤_}
-use mathlib.Core.Path.{_≡_}
+use mathlib.Core.Path.{_≡_, refl}
 use mathlib.Core.List.{List}
 use mathlib.Core.Logic.{_⊎_, inl, inr, ⊎-elim, ⊎-map}
 use native.Mathlib.Omega.{arith}
 use native.Mathlib.Decide.{ℕ-discrete}
 use lib.ListN.{replicate}
-use Rattle.judge.specs.Memory.{Token, Is, Gains}
+use Rattle.judge.specs.Memory.{Token, Lifted, Is, Gains}
 use Rattle.judge.proofs.RunBits.{none-set}
 
 -- what is added, said otherwise
@@ -41,6 +41,16 @@ adds-if p adds = adds-as adds (λ q k h. (p, h)) (λ q k h. h .1)
 
 pub adds-not : {x : List ℕ} {New : (q k : ℕ) → Type 0} {P : Type 0} → (P → ⊥) → Gains x x (λ q k. P × New q k)
 adds-not np = adds-none (λ q k h. np (h .0))
+
+-- what is lifted in one row, in another
+pub lift-as : {P Q : (q k : ℕ) → Type 0} {p q k : ℕ} (l : Lifted P p k) → Q q (l .low) → Lifted Q q k
+lift-as l h = record { low = l .low; half = l .half; high = l .high; held = h }
+
+-- the bits of a row by itself, said of the row where it stands
+pub adds-row : {x y rows row : List ℕ} {P : ℕ → Type 0} {q : ℕ} → Is row (λ p k. (p ≡ 0) × Token rows q k)
+    → Gains x y (λ t k. P t × Token row 0 k) → Gains x y (λ t k. P t × Token rows q k)
+adds-row is adds =
+    adds-as adds (λ t k h. (h .0, is .only 0 k (h .1) .1)) (λ t k h. (h .0, is .all 0 k (refl, h .1)))
 
 -- to rows that have no bit
 pub is-initial : {rows : List ℕ} {New : (q k : ℕ) → Type 0} (m : ℕ) → Gains (replicate m 0) rows New → Is rows New
@@ -86,3 +96,12 @@ module _ (x : List ℕ) (New : (i q k : ℕ) → Type 0) (n : ℕ) where
   gather-ends y i le inv =
       let e : i ≡ n = omega (arith, inv .within) in
       rw e at (inv .gathered)
+
+-- a loop of which each turn changes a row of its own: row i is still as it was
+module _ {x y : List ℕ} {New : (p k : ℕ) → Type 0} {n : ℕ} (i : ℕ)
+    (inv : Gathering x (λ p r k. (r ≡ p) × New p k) n y i) where
+  pub row-was : {k : ℕ} → Token y i k → Token x i k
+  row-was {k} h = ⊎-elim (λ t. t) (λ v. absurd (omega (arith, v .1, v .2 .0))) (inv .gathered .only i k h)
+
+  pub row-is : {k : ℕ} → Token x i k → Token y i k
+  row-is {k} h = inv .gathered .all i k (inl h)

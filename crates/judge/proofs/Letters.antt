@@ -3,14 +3,15 @@
 use Prim.Native.Nat.{ℕ, zero, suc, _+_, _<_, _≤_}
 use mathlib.Core.Path.{_≡_, refl}
 use mathlib.Core.List.{List}
-use mathlib.Core.Bool.{true, false}
+use mathlib.Core.Bool.{Bool, true, false}
 use mathlib.Core.Logic.{inl, inr, ⊎-elim}
 use native.Mathlib.Omega.{arith}
 use native.Mathlib.Numerals.{add-one}
 use native.Mathlib.Decide.{le-ind}
 use lib.ListN.{length, getD, replicate}
 use Rattle.automaton.specs.Automaton.{Automaton, Step, Accepts}
-use Rattle.judge.specs.Memory.{Token, Lifted, Is, Gains, Confined, Moved, moved, lifted, After, Ran}
+use Rattle.judge.specs.Memory.{Token, Lifted, Is, Gains, Confined, Tells, Moved, moved, lifted, After, Ran}
+use Rattle.judge.specs.Memory.{SomeStarted}
 use Rattle.judge.specs.Limits.{startBit, metBit, rowsWords}
 use Rattle.judge.proofs.RunBits.{none-set}
 use Rattle.judge.proofs.Decisions.{true-false, false-true}
@@ -22,10 +23,10 @@ module _ (a : Automaton) (x : ℕ) where
     taken : (q k : ℕ) → Token next q k → (p : ℕ) × (p < n) × (Step a p x q × Token rows p k)
     taken q k h = ⊎-elim (λ e. absurd (none q k e)) (λ t. t) (step .only q k h)
 
-    pub stepped : {copied after : List ℕ} → ((p q : ℕ) → Step a p x q → p < n) → Is copied (Token next)
-        → Gains copied after (λ q k. Accepts a q × Lifted (Token next) q k) → Is after (Moved a x (Token rows))
-    stepped {copied} {after} inside copy lift = record {
-      only = λ q k h. ⊎-elim (λ t. move q k (copy .only q k t))
+    pub stepped : {after : List ℕ} → ((p q : ℕ) → Step a p x q → p < n)
+        → Gains next after (λ q k. Accepts a q × Lifted (Token next) q k) → Is after (Moved a x (Token rows))
+    stepped {after} inside lift = record {
+      only = λ q k h. ⊎-elim (move q k)
           (λ (l : Accepts a q × Lifted (Token next) q k). raise q k (l .0) (l .1)) (lift .only q k h);
       all = λ q k h. all h;
     }
@@ -42,17 +43,33 @@ module _ (a : Automaton) (x : ℕ) where
         new {p} {q} {k} h s = step .all q k (inr (p, inside p q s, (s, h)))
 
         all : {q k : ℕ} → Moved a x (Token rows) q k → Token after q k
-        all (moved p q k h s) = lift .all q k (inl (copy .all q k (new h s)))
+        all (moved p q k h s) = lift .all q k (inl (new h s))
         all (lifted p q j lt h s acc) =
             lift .all q (metBit + j) (inr (acc, record { low = j; half = lt; high = refl; held = new h s }))
-
-    -- no run stands behind the n states
-    pub taken-confined : ((p q : ℕ) → Step a p x q → q < n) → Confined n next
-    taken-confined target q k h = let (p, lt, (s, t)) = taken q k h in target p q s
 
   moved-inside : {n : ℕ} {Held : (q k : ℕ) → Type 0} → ((p q : ℕ) → Step a p x q → q < n) → {q k : ℕ} → Moved a x Held q k → q < n
   moved-inside target (moved p q k h s) = target p q s
   moved-inside target (lifted p q j lt h s acc) = target p q s
+
+  -- a run from an initial state stands in one of the n states, if one is left
+  pub advanced : {n : ℕ} {r : Bool} {rows next : List ℕ} → ((p q : ℕ) → Step a p x q → q < n)
+      → Is next (Moved a x (Token rows)) → Tells r (SomeStarted false n next) → Ran r next (Moved a x (Token rows))
+  advanced target is some = record {
+    on = λ e. is;
+    lost = λ e q h. some .no e (q, moved-inside target h, is .all q startBit h);
+  }
+
+  -- and in rows to which they are copied
+  pub advanced-copied : {n : ℕ} {r : Bool} {rows next after : List ℕ} → ((p q : ℕ) → Step a p x q → q < n)
+      → Ran r next (Moved a x (Token rows)) → (Confined n next → Is after (Token next))
+      → Ran r after (Moved a x (Token rows))
+  advanced-copied target ran copy = record {
+    on = λ e.
+        let is = ran .on e in
+        let same = copy (λ q k h. moved-inside target (is .only q k h)) in
+        record { only = λ q k h. is .only q k (same .only q k h); all = λ q k h. same .all q k (is .all q k h) };
+    lost = ran .lost;
+  }
 
   moved-low : {Held : (q k : ℕ) → Type 0} {q k : ℕ} → k < metBit → Moved a x Held q k → (p : ℕ) × Held p k
   moved-low lt (moved p q k h s) = (p, h)
@@ -88,11 +105,12 @@ lost-later a w Held i lost = le-ind (λ d. (q : ℕ) → After a w Held d q star
     let m : (p : ℕ) × After a w Held d p startBit = moved-low a (w d) (omega arith) h in
     before (m .0) (m .1))
 
--- a loop that has taken the first i letters of a word; `next` is what the last one left there
-pub record Running (a : Automaton) (n : ℕ) (word before after next : List ℕ) (i : ℕ) : Type 0 where
+-- a loop that has taken the first i letters of a word, with the runs in one of two lists of rows; what stands in the
+-- other does not count
+pub record Running (a : Automaton) (n : ℕ) (word before rows other : List ℕ) (i : ℕ) : Type 0 where
   pub within : i ≤ length word
-  pub bits : Is after (After a (λ j. getD word j 0) (Token before) i)
-  pub confined : Confined n next
+  pub bits : Is rows (After a (λ j. getD word j 0) (Token before) i)
+  pub confined : Confined n other
 
 module _ (a : Automaton) (n : ℕ) (word before : List ℕ) where
   pub run-begins : Running a n word before before (replicate rowsWords 0) 0
@@ -102,36 +120,40 @@ module _ (a : Automaton) (n : ℕ) (word before : List ℕ) where
     confined = λ q k h. absurd (none-set rowsWords q k h);
   }
 
-  pub run-steps : (y z : List ℕ) {next after : List ℕ} (i : ℕ) → i < length word → Running a n word before y next i
-      → Is z (Moved a (getD word i 0) (Token y)) → Confined n after → Running a n word before z after (i + 1)
-  run-steps y z i lt inv is confined = record {
-    within = omega arith;
-    confined = confined;
-    bits = rw add-one (record {
-      only = λ q k h. moved-map a (getD word i 0) (inv .bits .only) (is .only q k h);
-      all = λ q k h. is .all q k (moved-map a (getD word i 0) (inv .bits .all) h);
-    });
-  }
-
-  pub run-ends : (y : List ℕ) {next : List ℕ} (i : ℕ) → length word ≤ i → Running a n word before y next i
-      → Ran true y (After a (λ j. getD word j 0) (Token before) (length word))
-  run-ends y i le inv =
-      let e : i ≡ length word = omega (arith, inv .within) in
-      record { on = λ t. rw e at (inv .bits); lost = λ t. true-false t }
+  pub run-ends : {x y : List ℕ} (i : ℕ) → i ≡ length word → Running a n word before x y i
+      → Ran true x (After a (λ j. getD word j 0) (Token before) (length word))
+  run-ends i e inv = record { on = λ t. rw e at (inv .bits); lost = λ t. true-false t }
 
   -- runs stay within the n states
-  module _ (target : (p x q : ℕ) → Step a p x q → q < n) (held : Confined n before) {y next : List ℕ} (i : ℕ)
-      (inv : Running a n word before y next i) where
-    pub run-confined : Confined n y
+  module _ (target : (p x q : ℕ) → Step a p x q → q < n) (held : Confined n before) {x y : List ℕ} (i : ℕ)
+      (inv : Running a n word before x y i) where
+    pub run-confined : Confined n x
     run-confined q k h = after-inside a (λ j. getD word j 0) target held i q k (inv .bits .only q k h)
 
-    pub run-stops : ((q : ℕ) × (q < n) × Token y q startBit → ⊥)
-        → Ran false y (After a (λ j. getD word j 0) (Token before) (length word))
-    run-stops none = record {
-      on = λ t. false-true t;
-      lost = λ t. lost-later a (λ j. getD word j 0) (Token before) i (λ q h. left q (inv .bits .all q startBit h))
-          (length word) (inv .within);
-    }
-      where
-        left : (q : ℕ) → Token y q startBit → ⊥
-        left q h = none (q, run-confined q startBit h, h)
+    -- a letter, with the runs after it in the other list; or none from an initial state is left
+    module _ (lt : i < length word) {r : Bool} {z : List ℕ} (ran : Ran r z (Moved a (getD word i 0) (Token x))) where
+      pub run-steps : r ≡ true → Running a n word before z x (i + 1)
+      run-steps e =
+          let is = ran .on e in
+          record {
+            within = omega arith;
+            confined = run-confined;
+            bits = rw add-one (record {
+              only = λ q k h. moved-map a (getD word i 0) (inv .bits .only) (is .only q k h);
+              all = λ q k h. is .all q k (moved-map a (getD word i 0) (inv .bits .all) h);
+            });
+          }
+
+      pub run-stops : {rows : List ℕ} → r ≡ false
+          → Ran false rows (After a (λ j. getD word j 0) (Token before) (length word))
+      run-stops e = record {
+        on = λ t. false-true t;
+        lost = λ t. lost-later a (λ j. getD word j 0) (Token before) (suc i)
+            (λ q h. ran .lost e q (moved-map a (getD word i 0) (inv .bits .all) h)) (length word) (omega arith);
+      }
+
+      pub run-last : i + 1 ≡ length word → Ran r z (After a (λ j. getD word j 0) (Token before) (length word))
+      run-last l = record {
+        on = λ e. run-ends (i + 1) l (run-steps e) .on refl;
+        lost = λ e. run-stops {rows = z} e .lost refl;
+      }

@@ -21,6 +21,10 @@ use Rattle.judge.specs.Limits.{metBit, rowBits}
 
 -- ---- words joined
 
+-- a list with word w joined to the one at i
+abbrev joinAt : List ℕ → (i w : ℕ) → List ℕ
+joinAt x i w = set x i (bitOr (getD x i 0) w)
+
 -- a loop that has joined the first i of n words
 pub record Oring (before : List ℕ) (a : ℕ) (from : List ℕ) (b n : ℕ) (after : List ℕ) (i : ℕ) : Type 0 where
   pub within : i ≤ n
@@ -36,7 +40,7 @@ module _ (x : List ℕ) (a : ℕ) (from : List ℕ) (b n : ℕ) where
   }
 
   pub or-steps : (y : List ℕ) (i : ℕ) → i < n → a + n ≤ length x → Oring x a from b n y i
-      → Oring x a from b n (set y (a + i) (bitOr (getD y (a + i) 0) (getD from (b + i) 0))) (i + 1)
+      → Oring x a from b n (joinAt y (a + i) (getD from (b + i) 0)) (i + 1)
   or-steps y i lt le inv =
       record {
         within = omega arith;
@@ -44,12 +48,15 @@ module _ (x : List ℕ) (a : ℕ) (from : List ℕ) (b n : ℕ) where
         ored = record { inside = λ j l. pick j l (ℕ-discrete j i); outside = λ j out. other j out };
       }
     where
-      pick : (j : ℕ) → j < i + 1 → Dec (j ≡ i) → getD (set y (a + i) (bitOr (getD y (a + i) 0) (getD from (b + i) 0))) (a + j) 0 ≡ bitOr (getD x (a + j) 0) (getD from (b + j) 0)
+      new : List ℕ
+      new = joinAt y (a + i) (getD from (b + i) 0)
+
+      pick : (j : ℕ) → j < i + 1 → Dec (j ≡ i) → getD new (a + j) 0 ≡ bitOr (getD x (a + j) 0) (getD from (b + j) 0)
       pick j l (yes e) =
           rw e (getD-set-same y (a + i) _ 0 (omega (arith, inv .size)) ∙ ap (λ (w : ℕ). bitOr w (getD from (b + i) 0)) (inv .ored .outside (a + i) (inr (omega arith))))
       pick j l (no e) = getD-set-other y (a + i) (a + j) _ 0 (λ q. e (omega arith)) ∙ inv .ored .inside j (omega arith)
 
-      other : (j : ℕ) → (j < a) ⊎ (a + (i + 1) ≤ j) → getD (set y (a + i) (bitOr (getD y (a + i) 0) (getD from (b + i) 0))) j 0 ≡ getD x j 0
+      other : (j : ℕ) → (j < a) ⊎ (a + (i + 1) ≤ j) → getD new j 0 ≡ getD x j 0
       other j (inl l) = getD-set-other y (a + i) j _ 0 (λ q. omega arith) ∙ inv .ored .outside j (inl l)
       other j (inr l) = getD-set-other y (a + i) j _ 0 (λ q. omega arith) ∙ inv .ored .outside j (inr (omega arith))
 
@@ -57,6 +64,14 @@ module _ (x : List ℕ) (a : ℕ) (from : List ℕ) (b n : ℕ) where
   or-ends y i le inv =
       let e : i ≡ n = omega (arith, inv .within) in
       rw e at (inv .ored)
+
+-- two words joined to the two behind them
+pub ored-own : (x : List ℕ) (a : ℕ) → a + 4 ≤ length x
+    → Ored x (a + 2) x a 2 (joinAt (joinAt x (a + 2) (getD x a 0)) (a + 3) (getD x (a + 1) 0))
+ored-own x a le =
+    let one = or-steps x (a + 2) x a 2 x 0 (omega arith) (omega arith) (or-begins x (a + 2) x a 2) in
+    let e : a + 3 ≡ a + 2 + 1 = omega arith in
+    rw e (simp add-zero at (or-steps x (a + 2) x a 2 _ 1 (omega arith) (omega arith) one .ored))
 
 -- a bit of a word that is the same in both lists
 same-token : {x y : List ℕ} {q k : ℕ} → getD x (4 * q + k / 64) 0 ≡ getD y (4 * q + k / 64) 0 → Token x q k
@@ -191,21 +206,23 @@ tests-joined a b c = go (ℕ-discrete a b) (ℕ-discrete c 0)
 pub none-set : (n q k : ℕ) → Token (replicate n 0) q k → ⊥
 none-set n q k h = zero-has (rw (zeros-at n (4 * q + k / 64)) at (h .bit))
 
-four : (rows : List ℕ) (at j : ℕ) → j < 4 → getD rows at 0 ≡ 0 → getD rows (at + 1) 0 ≡ 0 → getD rows (at + 2) 0 ≡ 0 → getD rows (at + 3) 0 ≡ 0 → getD rows (at + j) 0 ≡ 0
-four rows at zero lt a b c d = rw add-zero a
-four rows at (suc zero) lt a b c d = b
-four rows at (suc (suc zero)) lt a b c d = c
-four rows at (suc (suc (suc zero))) lt a b c d = d
-four rows at (suc (suc (suc (suc j)))) lt a b c d = absurd (omega arith)
+four : (row : List ℕ) (j : ℕ) → j < 4 → getD row 0 0 ≡ 0 → getD row 1 0 ≡ 0 → getD row 2 0 ≡ 0 → getD row 3 0 ≡ 0
+    → getD row j 0 ≡ 0
+four row zero lt a b c d = a
+four row (suc zero) lt a b c d = b
+four row (suc (suc zero)) lt a b c d = c
+four row (suc (suc (suc zero))) lt a b c d = d
+four row (suc (suc (suc (suc j)))) lt a b c d = absurd (omega arith)
 
 -- the four words of a row joined are 0, as the code looks at them
-pub row-none : (rows : List ℕ) (q : ℕ) → bitOr (bitOr (bitOr (getD rows (4 * q) 0) (getD rows (4 * q + 1) 0)) (getD rows (4 * q + 2) 0)) (getD rows (4 * q + 3) 0) ≡ 0
-    → (k : ℕ) → Token rows q k → ⊥
-row-none rows q e k h =
-    let f = or-none _ (getD rows (4 * q + 3) 0) e in
-    let g = or-none _ (getD rows (4 * q + 2) 0) (f .0) in
-    let w = or-none (getD rows (4 * q) 0) (getD rows (4 * q + 1) 0) (g .0) in
-    zero-has (rw (four rows (4 * q) (k / 64) (omega (arith, h .within)) (w .0) (w .1) (g .1) (f .1)) at (h .bit))
+pub row-none : (row : List ℕ)
+    → bitOr (bitOr (bitOr (getD row 0 0) (getD row 1 0)) (getD row 2 0)) (getD row 3 0) ≡ 0
+    → (k : ℕ) → Token row 0 k → ⊥
+row-none row e k h =
+    let f = or-none _ (getD row 3 0) e in
+    let g = or-none _ (getD row 2 0) (f .0) in
+    let w = or-none (getD row 0 0) (getD row 1 0) (g .0) in
+    zero-has (rw (four row (4 * 0 + k / 64) (omega (arith, h .within)) (w .0) (w .1) (g .1) (f .1)) at (h .bit))
 
 -- ---- the first rows stored
 

@@ -18,7 +18,7 @@ use Rattle.image.specs.Lookup.{imageAutomaton, recordsAt, Readable, AcceptingBy
 use Rattle.automaton.specs.Limits.{maxStates}
 use Rattle.judge.specs.Limits.{startBit}
 use Rattle.judge.proofs.Decisions.{false-true}
-use Rattle.judge.proofs.Gathers.{adds-as, Gathering}
+use Rattle.judge.proofs.Gathers.{adds-as, lift-as, Gathering, row-was, row-is}
 use Rattle.image.proofs.Lookup.{step-taken, taken-step, accepts-inside, accepts-byte, byte-accepts, initial-number, number-initial, number-drop, records-end, target-inside, initial-inside}
 
 -- ---- whether a record reads the letter
@@ -31,8 +31,8 @@ reads-so {r} e f = sym e ∙ not-false r f
 
 -- ---- all records of a state
 
-abbrev pub ByRecords : (image rows : List ℕ) (q x at i t k : ℕ) → Type 0
-ByRecords image rows q x at i t k = ByRecord image (at + 4 * i) x (Token rows) q t k
+abbrev pub ByRecords : (image row : List ℕ) (x at i t k : ℕ) → Type 0
+ByRecords image row x at i t k = ByRecord image (at + 4 * i) x row t k
 
 module _ (image : List ℕ) (q : ℕ) {at n : ℕ} (ea : at ≡ recordsAt image q) (en : n ≡ transitionCountOf image q) where
   pub records-next : at + 4 * n ≡ recordsAt image (q + 1)
@@ -42,13 +42,13 @@ module _ (image : List ℕ) (q : ℕ) {at n : ℕ} (ea : at ≡ recordsAt image 
       rw (add-one q) (omega arith)
 
   module _ (lq : q < countsAt image .states) where
-    pub all-records : {rows before after : List ℕ} (x : ℕ)
-        → Gains before after (λ t k. (i : ℕ) × (i < n) × ByRecords image rows q x at i t k)
-        → Gains before after (λ t k. Step (imageAutomaton image) q x t × Token rows q k)
-    all-records {rows} x adds = adds-as adds to from
+    pub all-records : {row before after : List ℕ} (x : ℕ)
+        → Gains before after (λ t k. (i : ℕ) × (i < n) × ByRecords image row x at i t k)
+        → Gains before after (λ t k. Step (imageAutomaton image) q x t × Token row 0 k)
+    all-records {row} x adds = adds-as adds to from
       where
-        to : (t k : ℕ) → (i : ℕ) × (i < n) × ByRecords image rows q x at i t k
-            → Step (imageAutomaton image) q x t × Token rows q k
+        to : (t k : ℕ) → (i : ℕ) × (i < n) × ByRecords image row x at i t k
+            → Step (imageAutomaton image) q x t × Token row 0 k
         to t k (i, lt, (r, (e, h))) = (
           taken-step image q x t lq (record {
             index = i;
@@ -59,8 +59,8 @@ module _ (image : List ℕ) (q : ℕ) {at n : ℕ} (ea : at ≡ recordsAt image 
           h,
         )
 
-        from : (t k : ℕ) → Step (imageAutomaton image) q x t × Token rows q k
-            → (i : ℕ) × (i < n) × ByRecords image rows q x at i t k
+        from : (t k : ℕ) → Step (imageAutomaton image) q x t × Token row 0 k
+            → (i : ℕ) × (i < n) × ByRecords image row x at i t k
         from t k (s, h) =
             let d = step-taken image q x t s in
             (d .index, rw en (d .below), (rw ea (d .takes), (rw ea (d .reaches), h)))
@@ -84,15 +84,26 @@ pub records-begin : (image : List ℕ) (n : ℕ) → n ≡ countsAt image .state
 unfolding countSum
 records-begin image n e = omega arith
 
-pub all-lifted : (image : List ℕ) {before after held : List ℕ} (n : ℕ) → n ≡ countsAt image .states
-    → Gains before after (λ q k. (p : ℕ) × (p < n) × ((AcceptingByte image p) × ((q ≡ p) × Lifted (Token held) p k)))
-    → Gains before after (λ q k. Accepts (imageAutomaton image) q × Lifted (Token held) q k)
-all-lifted image {before} {after} {held} n en adds =
-    adds-as adds to (λ q k h. (q, rw en (accepts-inside image q (h .0)), (accepts-byte image q (h .0), (refl, h .1))))
+-- what a turn of lifting adds to row p, if state p accepts
+abbrev pub Lifts : (image rows : List ℕ) (p k : ℕ) → Type 0
+Lifts image rows p k = AcceptingByte image p × Lifted (Token rows) p k
+
+pub turn-lifts : (image : List ℕ) {x y z : List ℕ} {n : ℕ} (i : ℕ)
+    → Gathering x (λ p r k. (r ≡ p) × Lifts image x p k) n y i
+    → Gains y z (λ r k. (r ≡ i) × Lifts image y i k) → Gains y z (λ r k. (r ≡ i) × Lifts image x i k)
+turn-lifts image i inv adds =
+    adds-as adds (λ r k h. (h .0, (h .1 .0, lift-as (h .1 .1) (row-was i inv (h .1 .1 .held)))))
+    (λ r k h. (h .0, (h .1 .0, lift-as (h .1 .1) (row-is i inv (h .1 .1 .held)))))
+
+pub all-lifted : (image : List ℕ) {before after : List ℕ} (n : ℕ) → n ≡ countsAt image .states
+    → Gains before after (λ q k. (p : ℕ) × (p < n) × ((q ≡ p) × Lifts image before p k))
+    → Gains before after (λ q k. Accepts (imageAutomaton image) q × Lifted (Token before) q k)
+all-lifted image {before} n en adds =
+    adds-as adds to (λ q k h. (q, rw en (accepts-inside image q (h .0)), (refl, (accepts-byte image q (h .0), h .1))))
   where
-    to : (q k : ℕ) → ((p : ℕ) × (p < n) × ((AcceptingByte image p) × ((q ≡ p) × Lifted (Token held) p k)))
-        → Accepts (imageAutomaton image) q × Lifted (Token held) q k
-    to q k (p, lt, (b, (e, l))) = rw e (byte-accepts image p (rw en at lt) b, l)
+    to : (q k : ℕ) → ((p : ℕ) × (p < n) × ((q ≡ p) × Lifts image before p k))
+        → Accepts (imageAutomaton image) q × Lifted (Token before) q k
+    to q k (p, lt, (e, (b, l))) = rw e (byte-accepts image p (rw en at lt) b, l)
 
 -- the initial numbers are the image's last
 module _ (image : List ℕ) (fine : Readable image) (n : ℕ) (en : n ≡ countsAt image .initial) where

@@ -59,9 +59,9 @@ pub record Tells (r : Bool) (P : Type 0) : Type 0 where
 abbrev pub Onward : (a : Automaton) (x : ℕ) (Held : (q k : ℕ) → Type 0) (p q k : ℕ) → Type 0
 Onward a x Held p q k = Step a p x q × Held p k
 
--- the same by the record at a byte of the image
-abbrev pub ByRecord : (image : List ℕ) (at x : ℕ) (Held : (q k : ℕ) → Type 0) (p q k : ℕ) → Type 0
-ByRecord image at x Held p q k = (reads (recordAt image at) x ≡ true) × ((q ≡ numberAt image (at + 2)) × Held p k)
+-- the runs of a row by itself in row q, by the transition record at a byte of the image
+abbrev pub ByRecord : (image : List ℕ) (at x : ℕ) (row : List ℕ) (q k : ℕ) → Type 0
+ByRecord image at x row q k = (reads (recordAt image at) x ≡ true) × ((q ≡ numberAt image (at + 2)) × Token row 0 k)
 
 -- after letter x: the runs that take a transition, and again those of them that now stand in an accepting state
 pub data Moved (a : Automaton) (x : ℕ) (Held : (q k : ℕ) → Type 0) : (q k : ℕ) → Type 0 where

@@ -15,7 +15,7 @@ ghost use mathlib.Core.List.{_++_};
 ghost use lib.ListN.{length, replicate, drop};
 ghost use lib.Dec.{eqb};
 ghost use lib.Bits.{bitOr, bitAnd};
-ghost use Rattle.automaton.specs.Automaton.{AcceptingPass, Accepts};
+ghost use Rattle.automaton.specs.Automaton.{AcceptingPass, Accepts, Step};
 ghost use Rattle.automaton.specs.Limits.{maxStates};
 ghost use Rattle.sets.specs.Sets.{In};
 ghost use Rattle.answer.specs.Bytes.{numberAt};
@@ -34,6 +34,8 @@ pub const WORK_BYTES: usize = automaton::MAX_STATES * lasso::MAX_LETTERS;
 const ROWS_WORDS: usize = 4 * automaton::MAX_STATES;
 
 type Rows = [u64; ROWS_WORDS];
+
+type Row = [u64; 4];
 
 // The bit of the runs from an initial state at letter 0, and how far above a bit the one lies that says the same of
 // runs that have met an accepting state.
@@ -79,13 +81,21 @@ fn has_bit(rows: &Rows, q: usize, k: usize) -> bool
     (rows[4 * q + k / 64] >> (k % 64)) & 1 == 1
 }
 
-// Whether row q has no bit. Callers rest on a yes alone.
-fn row_empty(rows: &Rows, q: usize) -> bool
+// Row q by itself.
+fn row_of(rows: &Rows, q: usize) -> Row
     requires { ⌜ q < maxStates ⌝ }
-    ensures { λ r. ⌜ (r ≡ true → (k : ℕ) → Token (now (rows .entry)) q k → ⊥) ⌝ }
+    ensures { λ r. ⌜ Is r (λ p k. (p ≡ 0) × Token (now (rows .entry)) q k) ⌝ }
 {
-    let at = 4 * q;
-    rows[at] | rows[at + 1] | rows[at + 2] | rows[at + 3] == 0
+    let mut row = [0u64; 4];
+    or_words(&mut row, 0, rows, 4 * q, 4);
+    row
+}
+
+// Whether a row has no bit. Callers rest on a yes alone.
+fn row_empty(row: &Row) -> bool
+    ensures { λ r. ⌜ (r ≡ true → (k : ℕ) → Token (now (row .entry)) 0 k → ⊥) ⌝ }
+{
+    row[0] | row[1] | row[2] | row[3] == 0
 }
 
 // Bit k of row q set.
@@ -96,41 +106,41 @@ fn set_bit(rows: &mut [u64], q: usize, k: usize)
     rows[4 * q + k / 64] |= 1 << (k % 64);
 }
 
-// The runs of row q in the target's row, if the transition record at byte `at` reads the letter.
-fn take_transition(image: &[u8], at: usize, letter: u8, rows: &Rows, q: usize, next: &mut Rows)
-    requires { ⌜ (at + 3 < length (now image)) × (q < maxStates) × (numberAt (now image) (at + 2) < maxStates) ⌝ }
+// The runs of a row in the target's row, if the transition record at byte `at` reads the letter.
+fn take_transition(image: &[u8], at: usize, letter: u8, row: &Row, next: &mut Rows)
+    requires { ⌜ (at + 3 < length (now image)) × (numberAt (now image) (at + 2) < maxStates) ⌝ }
     ensures { λ _. ⌜ Gains (now (next .entry)) (now (next .exit))
-        (ByRecord (now (image .entry)) at letter (Token (now (rows .entry))) q) ⌝ }
+        (ByRecord (now (image .entry)) at letter (now (row .entry))) ⌝ }
 {
     if !reads_letter(image[at], image[at + 1], letter) {
         return;
     }
-    or_words(next, 4 * number_at(image, at + 2), rows, 4 * q, 4);
+    or_words(next, 4 * number_at(image, at + 2), row, 0, 4);
 }
 
-// The runs of row q after the letter, by the transitions of state q, whose `count` records begin at byte `at`.
+// The runs of a row after the letter, by the transitions of state q, whose `count` records begin at byte `at`.
 fn take_transitions(
     image: &[u8],
     q: usize,
     at: usize,
     count: usize,
     letter: u8,
-    rows: &Rows,
+    row: &Row,
     next: &mut Rows,
 )
     requires { ⌜ Readable (now image) × (q < countsAt (now image) .states) × (at ≡ recordsAt (now image) q)
         × (count ≡ transitionCountOf (now image) q) ⌝ }
     ensures { λ _. ⌜ Gains (now (next .entry)) (now (next .exit))
-        (Onward (imageAutomaton (now (image .entry))) letter (Token (now (rows .entry))) q) ⌝ }
+        (λ t k. Step (imageAutomaton (now (image .entry))) q letter t × Token (now (row .entry)) 0 k) ⌝ }
 {
     let mut i = 0;
     while i < count {
-        take_transition(image, at + 4 * i, letter, rows, q, next);
+        take_transition(image, at + 4 * i, letter, row, next);
         i += 1;
     }
 }
 
-// The same, with the transitions passed over if row q is empty; where the records of the next state begin.
+// The same of row q, with the transitions passed over if it is empty; where the records of the next state begin.
 fn step_state(image: &[u8], q: usize, at: usize, letter: u8, rows: &Rows, next: &mut Rows) -> usize
     requires { ⌜ Readable (now image) × (q < countsAt (now image) .states) × (at ≡ recordsAt (now image) q) ⌝ }
     ensures { λ r. ⌜ (r ≡ recordsAt (now (image .entry)) (q + 1))
@@ -139,10 +149,11 @@ fn step_state(image: &[u8], q: usize, at: usize, letter: u8, rows: &Rows, next: 
 {
     let count = number_at(image, CONTENTS_BYTES + 4 * q);
     let end = at + 4 * count;
-    if row_empty(rows, q) {
+    let row = row_of(rows, q);
+    if row_empty(&row) {
         return end;
     }
-    take_transitions(image, q, at, count, letter, rows, next);
+    take_transitions(image, q, at, count, letter, &row, next);
     end
 }
 
@@ -160,27 +171,31 @@ fn step_states(image: &[u8], n: usize, letter: u8, rows: &Rows, next: &mut Rows)
     }
 }
 
-// The runs of row q of `from` have met an accepting state, if q is one.
-fn lift_state(image: &[u8], q: usize, rows: &mut Rows, from: &Rows)
-    requires { ⌜ (acceptingAt + 4 * q < length (now image)) × (q < maxStates) ⌝ }
-    ensures { λ _. ⌜ Gains (now (rows .entry)) (now (rows .exit)) (λ r k. (AcceptingByte (now (image .entry)) q)
-        × ((r ≡ q) × Lifted (Token (now (from .entry))) q k)) ⌝ }
+// The runs of row q have met an accepting state, if q is one: the row's lower half joined to its upper half.
+fn lift_state(image: &[u8], q: usize, rows: &mut [u64])
+    requires { ⌜ (acceptingAt + 4 * q < length (now image)) × (4 * q + 4 ≤ length (now rows)) ⌝ }
+    ensures { λ _. ⌜ Gains (now (rows .entry)) (now (rows .exit)) (λ r k. (r ≡ q)
+        × (AcceptingByte (now (image .entry)) q × Lifted (Token (now (rows .entry))) q k)) ⌝ }
 {
     if image[ACCEPTING_AT + 4 * q] != 1 {
         return;
     }
-    or_words(rows, 4 * q + 2, from, 4 * q, 2);
+    let at = 4 * q;
+    let first = rows[at];
+    let second = rows[at + 1];
+    rows[at + 2] |= first;
+    rows[at + 3] |= second;
 }
 
 // The runs that stand in an accepting state have met one.
-fn lift(image: &[u8], n: usize, rows: &mut Rows, from: &Rows)
+fn lift(image: &[u8], n: usize, rows: &mut Rows)
     requires { ⌜ Readable (now image) × (n ≡ countsAt (now image) .states) ⌝ }
     ensures { λ _. ⌜ Gains (now (rows .entry)) (now (rows .exit))
-        (λ q k. Accepts (imageAutomaton (now (image .entry))) q × Lifted (Token (now (from .entry))) q k) ⌝ }
+        (λ q k. Accepts (imageAutomaton (now (image .entry))) q × Lifted (Token (now (rows .entry))) q k) ⌝ }
 {
     let mut q = 0;
     while q < n {
-        lift_state(image, q, rows, from);
+        lift_state(image, q, rows);
         q += 1;
     }
 }
@@ -197,18 +212,15 @@ fn clear_words(rows: &mut [u64], n: usize)
     }
 }
 
-// The runs after one letter. In `next` are those that have taken a transition; what it held does not count.
-fn step(image: &[u8], n: usize, letter: u8, rows: &mut Rows, next: &mut Rows)
-    requires { ⌜ Readable (now image) × (n ≡ countsAt (now image) .states)
-        × Confined n (now rows) × Confined n (now next) ⌝ }
-    ensures { λ _. ⌜ Is (now (rows .exit))
-        (Moved (imageAutomaton (now (image .entry))) letter (Token (now (rows .entry))))
-        × Confined n (now (next .exit)) ⌝ }
+// The runs after one letter, in `next`; what it held does not count.
+fn step(image: &[u8], n: usize, letter: u8, rows: &Rows, next: &mut Rows)
+    requires { ⌜ Readable (now image) × (n ≡ countsAt (now image) .states) × Confined n (now next) ⌝ }
+    ensures { λ _. ⌜ Is (now (next .exit))
+        (Moved (imageAutomaton (now (image .entry))) letter (Token (now (rows .entry)))) ⌝ }
 {
     clear_words(next, 4 * n);
     step_states(image, n, letter, rows, next);
-    answer::copy_words(rows, next, 4 * n);
-    lift(image, n, rows, next);
+    lift(image, n, next);
 }
 
 // Whether a run from an initial state at letter 0 stands in state q; with `back`, whether q also comes back to itself
@@ -241,8 +253,30 @@ fn some_started(rows: &Rows, n: usize, back: bool) -> bool
     false
 }
 
+// The same; false if none from an initial state is left.
+fn advance(image: &[u8], n: usize, letter: u8, rows: &Rows, next: &mut Rows) -> bool
+    requires { ⌜ Readable (now image) × (n ≡ countsAt (now image) .states) × Confined n (now next) ⌝ }
+    ensures { λ r. ⌜ Ran r (now (next .exit))
+        (Moved (imageAutomaton (now (image .entry))) letter (Token (now (rows .entry)))) ⌝ }
+{
+    step(image, n, letter, rows, next);
+    some_started(next, n, false)
+}
+
+// The same, in the rows that the runs stood in before. In `next` they are made.
+fn advance_here(image: &[u8], n: usize, letter: u8, rows: &mut Rows, next: &mut Rows) -> bool
+    requires { ⌜ Readable (now image) × (n ≡ countsAt (now image) .states)
+        × Confined n (now rows) × Confined n (now next) ⌝ }
+    ensures { λ r. ⌜ Ran r (now (rows .exit))
+        (Moved (imageAutomaton (now (image .entry))) letter (Token (now (rows .entry)))) ⌝ }
+{
+    let left = advance(image, n, letter, rows, next);
+    answer::copy_words(rows, next, 4 * n);
+    left
+}
+
 // The runs after all letters of a word. False at the first letter after which none from an initial state is left: then
-// none will be.
+// none will be. Two letters lead from `rows` to `next` and back; what the last of an odd word leads to is copied.
 fn run(image: &[u8], n: usize, word: &[u8], rows: &mut Rows) -> bool
     requires { ⌜ Readable (now image) × (n ≡ countsAt (now image) .states) × Confined n (now rows) ⌝ }
     ensures { λ r. ⌜ Ran r (now (rows .exit))
@@ -250,14 +284,19 @@ fn run(image: &[u8], n: usize, word: &[u8], rows: &mut Rows) -> bool
 {
     let mut next = [0u64; ROWS_WORDS];
     let mut i = 0;
-    while i < word.len() {
-        step(image, n, word[i], rows, &mut next);
-        if !some_started(rows, n, false) {
+    while 1 < word.len() - i {
+        if !advance(image, n, word[i], rows, &mut next) {
             return false;
         }
-        i += 1;
+        if !advance(image, n, word[i + 1], &next, rows) {
+            return false;
+        }
+        i += 2;
     }
-    true
+    if i == word.len() {
+        return true;
+    }
+    advance_here(image, n, word[i], rows, &mut next)
 }
 
 // A run begins in each initial state. Their numbers are the image's last.
@@ -289,12 +328,11 @@ fn begin_passes(n: usize, rows: &mut Rows)
 
 // The row by which runs go on through m: the runs to m; if one of them goes from m to m and meets an accepting state,
 // all that go round with it meet one too.
-fn runs_to(rows: &Rows, m: usize) -> [u64; 4]
+fn runs_to(rows: &Rows, m: usize) -> Row
     requires { ⌜ m < maxStates ⌝ }
     ensures { λ r. ⌜ Through (now (rows .entry)) r m ⌝ }
 {
-    let mut via = [0u64; 4];
-    or_words(&mut via, 0, rows, 4 * m, 4);
+    let mut via = row_of(rows, m);
     if !has_bit(rows, m, MET + m) {
         return via;
     }
@@ -304,7 +342,7 @@ fn runs_to(rows: &Rows, m: usize) -> [u64; 4]
 
 // The runs to m in `via` go on to q. If those from m to q meet an accepting state, they have met one. Runs that meet
 // one are runs: without bit m in row q there is nothing to join.
-fn join_state(rows: &mut Rows, q: usize, m: usize, via: &[u64; 4])
+fn join_state(rows: &mut Rows, q: usize, m: usize, via: &Row)
     requires { ⌜ (q < maxStates) × (m < maxStates) × (Token (now rows) q (metBit + m) → Token (now rows) q m) ⌝ }
     ensures { λ _. ⌜ Gains (now (rows .entry)) (now (rows .exit))
         (λ p k. (p ≡ q) × Via (now (rows .entry)) (now (via .entry)) m q k) ⌝ }

@@ -4,19 +4,16 @@ use borrow.Author.Needs.{needs}
 use native.Mathlib.Omega.{arith}
 use Prim.Native.Nat.{_-_}
 use mathlib.Core.Path.{_≡_}
-use Rattle.judge.specs.Memory.{Token, Lifted}
-use Rattle.image.specs.Lookup.{AcceptingByte}
 use Rattle.judge.proofs.Gathers.{Gathering, gather-begins, gather-steps, gather-ends}
-use Rattle.judge.proofs.Turns.{all-lifted}
+use Rattle.judge.proofs.Turns.{Lifts, turn-lifts, all-lifted}
 use Rattle.judge.proofs.lift.Statement.{statement}
 use Rattle.judge.proofs.lift.Tie as tie
 
 abbrev Inv-loop : tie.InvT-loop
-Inv-loop image n rows₀ from q₀ rows q =
-    Gathering rows₀ (λ p r k. (AcceptingByte image p) × ((r ≡ p) × Lifted (Token from) p k)) n rows q
+Inv-loop image n rows₀ q₀ rows q = Gathering rows₀ (λ p r k. (r ≡ p) × Lifts image rows₀ p k) n rows q
 
 abbrev μ-loop : tie.MeasureT-loop
-μ-loop image n rows₀ from q₀ rows q = n - q
+μ-loop image n rows₀ q₀ rows q = n - q
 
 loop-holds : tie.Need-loop-holds Inv-loop μ-loop
 loop-holds c = gather-begins _ _ _
@@ -24,7 +21,8 @@ loop-holds c = gather-begins _ _ _
 loop-again : tie.Need-loop-again Inv-loop μ-loop
 loop-again c =
     let at = c .before .before .before in
-    gather-steps _ _ _ _ _ (at .loop .q) (omega arith) (at .loop .inv) (c .lift-state .ensures)
+    gather-steps _ _ _ _ _ (at .loop .q) (omega arith) (at .loop .inv)
+    (turn-lifts (at .before .before .args .image .now) (at .loop .q) (at .loop .inv) (c .lift-state .ensures))
 
 returns : tie.Need-returns Inv-loop μ-loop
 returns c =

@@ -7,11 +7,9 @@ use Rattle.judge.proofs.row_empty.Statement.{statement}
 use Rattle.judge.proofs.row_empty.Tie as tie
 
 returns : tie.Need-returns
-returns c e = row-none _ _ (eqb-true _ 0 e)
+returns c e = row-none _ (eqb-true _ 0 e)
 
 pub row-empty-spec : {M : Type 1} → statement M
 row-empty-spec =
     tie.close
-    (tie.spec (λ c. search needs) (λ c. search needs) (λ c. search needs) (λ c. search needs) (λ c. search needs)
-    (λ c. search needs) (λ c. search needs) (λ c. search needs) (λ c. search needs) (λ c. search needs)
-    (λ c. search needs) (λ c. search needs) returns)
+    (tie.spec (λ c. search needs) (λ c. search needs) (λ c. search needs) (λ c. search needs) returns)

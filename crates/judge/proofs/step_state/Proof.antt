@@ -3,10 +3,10 @@
 use borrow.Author.Needs.{needs}
 use native.Mathlib.Omega.{arith}
 use Prim.Native.Nat.{_+_, _*_, _≤_}
-use mathlib.Core.Path.{_≡_}
+use mathlib.Core.Path.{_≡_, refl}
 use lib.ListN.{length}
 use Rattle.image.specs.Lookup.{recordsAt}
-use Rattle.judge.proofs.Gathers.{adds-none}
+use Rattle.judge.proofs.Gathers.{adds-none, adds-row}
 use Rattle.judge.proofs.Turns.{records-next, records-fit}
 use Rattle.judge.proofs.step_state.Statement.{statement}
 use Rattle.judge.proofs.step_state.Tie as tie
@@ -30,13 +30,17 @@ add-end c = omega (arith, records-inside c)
 
 returns : tie.Need-returns
 returns c =
-    (next (c .before .before), adds-none (λ t k h. c .before .row-empty .ensures (c .if1 .taken) k (h .1)))
+    let row = c .before .before .before in
+    let none = c .before .row-empty .ensures (c .if1 .taken) in
+    (next (row .before), adds-none (λ t k h. none k (row .row-of .ensures .all 0 k (refl, h .1))))
 
 returns-2 : tie.Need-returns-2
-returns-2 c = (next (c .before .before .before .before), c .take-transitions .ensures)
+returns-2 c =
+    let row = c .before .before .before .before .before .before in
+    (next (row .before), adds-row (row .row-of .ensures) (c .take-transitions .ensures))
 
 pub step-state-spec : {M : Type 1} → statement M
 step-state-spec =
     tie.close
     (tie.spec (λ c. search needs) (λ c. search needs) (λ c κs. search needs) mul-end add-end (λ c κs. search needs)
-    returns (λ c κs. search needs) returns-2)
+    (λ c κs. search needs) returns (λ c κs. search needs) returns-2)

@@ -14,11 +14,10 @@ returns-2 : tie.Need-returns-2
 returns-2 c =
     let test = c .before .before .before .before in
     adds-if (reads-so (test .before .reads-letter .ensures) (test .if1 .left))
-    (ored-row _ _ _ _ _ (rw (c .before .before .number-at .ensures) at (c .or-words .ensures)))
+    (ored-row _ _ _ _ 0 (rw (c .before .before .number-at .ensures) at (c .or-words .ensures)))
 
 pub take-transition-spec : {M : Type 1} → statement M
 take-transition-spec =
     tie.close
     (tie.spec (λ c. search needs) (λ c. search needs) (λ c. search needs) (λ c κs. search needs) returns
-    (λ c. search needs) (λ c κs. search needs) (λ c. search needs) (λ c. search needs) (λ c κs. search needs)
-    returns-2)
+    (λ c. search needs) (λ c κs. search needs) (λ c. search needs) (λ c κs. search needs) returns-2)

@@ -10,11 +10,10 @@ use Rattle.judge.proofs.take_transitions.Statement.{statement}
 use Rattle.judge.proofs.take_transitions.Tie as tie
 
 abbrev Inv-loop : tie.InvT-loop
-Inv-loop image q at count letter rows next₀ i₀ next i =
-    Gathering next₀ (ByRecords image rows q letter at) count next i
+Inv-loop image q at count letter row next₀ i₀ next i = Gathering next₀ (ByRecords image row letter at) count next i
 
 abbrev μ-loop : tie.MeasureT-loop
-μ-loop image q at count letter rows next₀ i₀ next i = count - i
+μ-loop image q at count letter row next₀ i₀ next i = count - i
 
 -- the records of the state lie within the image
 records-inside : (c : tie.Start Inv-loop μ-loop) → c .args .at + 4 * c .args .count ≤ length (c .args .image .now)
@@ -35,7 +34,7 @@ take-transition-requires c κs =
     let s = at .before .before in
     let inside = records-inside s in
     let fits = target-fits _ (s .args .q) (s .pre .2) (s .pre .3) (s .pre .1) (s .pre .0) (at .loop .i) (omega arith) in
-    (omega arith, omega arith, fits)
+    (omega arith, fits)
 
 loop-again : tie.Need-loop-again Inv-loop μ-loop
 loop-again c =
