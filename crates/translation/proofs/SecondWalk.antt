@@ -33,7 +33,7 @@ use Rattle.translation.specs.Degeneralized.{Pair, pair, samePair, number
 use Rattle.translation.specs.Translate.{stored}
 use Rattle.generalized.specs.Memory.{kept, keptTarget}
 use Rattle.generalized.proofs.Kept.{Parts}
-use Rattle.translation.specs.Memory.{row, levelPlaces, codeOf, pairOf, targetN, targetsN, codeNumbering, codeWalk, pairBytes, transitionN, rowN, FirstWalk, Within, PairRows, PairsNumbered, AddsRecords, AddedRows, AddsRows}
+use Rattle.translation.specs.Memory.{row, levelPlaces, codeOf, pairOf, targetN, targetsN, codeNumbering, codeWalk, pairBytes, transitionN, rowN, FirstWalk, Within, PairRows, PairsNumbered, AddsRecords, AddedRows, AddsRows, WalksPairs}
 use Rattle.translation.proofs.Levels.{target-state, target-level, next-level-is}
 use Rattle.generalized.proofs.Explored.{Explored, walk-explored}
 use Rattle.generalized.proofs.Passed.{initial-few}
@@ -176,99 +176,107 @@ module _ {rule : List ℕ} {initial : ℕ} {kepts ends : List ℕ} {r : ℕ} {pa
 
   -- ---- what the walk over the pairs comes to
 
+  -- the records of the pairs' transitions
+  abbrev rowsOf : (done codes : List ℕ) → List ℕ
+  rowsOf done codes = records (rowN ends kepts r codes) done
+
+  -- the walk is done: count pairs are numbered, and the records of written transitions are in the table that was t
+  abbrev pub Done : (t : List ℕ) (count written : ℕ) (pairs index table : List ℕ) → Type 0
+  Done t count written pairs index table =
+      AddedRows (walked (codeWalk ends kepts r) (starts initial)) rowsOf t 0 count written pairs index table
+
   module _ (t : List ℕ) (met : Paired) (pairs index table : List ℕ)
-      (met-is : AddsRows (walked (codeWalk ends kepts r) (take initial pairs₀)) (λ done codes. records (rowN ends kepts r codes) done) t 0 met pairs index table) where
-    explored-is : AddsRows (walked (codeWalk ends kepts r) (starts initial)) (λ done codes. records (rowN ends kepts r codes) done) t 0 met pairs index table
-    explored-is = rw (← b .start) met-is
+      (comes : WalksPairs ends kepts r initial pairs₀ t met pairs index table) where
+    from-starts : AddsRows (walked (codeWalk ends kepts r) (starts initial)) rowsOf t 0 met pairs index table
+    from-starts = rw (← b .start) comes
 
-    pub stopped-is : {at : StateNumber} → met ≡ Stop at → length table ≡ length t → {o : Outcome} (s i : List ℕ) → o ≡ stored (refused 24 (at .0)) s table i → o ≡ stored (translation rule) s t i
+    pub walk-done : {count written : ℕ} → met ≡ Count count written → Done t count written pairs index table
+    walk-done e = rw e at from-starts
+
+    pub walk-stopped : {at : StateNumber} → met ≡ Stop at → length table ≡ length t → {o : Outcome} (s i : List ℕ)
+        → o ≡ stored (refused 24 (at .0)) s table i → o ≡ stored (translation rule) s t i
     unfolding stored translation
-    stopped-is {at} e same s i done =
-        let full : walked (codeWalk ends kepts r) (starts initial) ≡ refused 24 (at .0) = rw e at explored-is in
-        done ∙ rw (same, b .passed, b .walked-first .found, walk-is, full)
+    walk-stopped {at} e same s i is =
+        let full : walked (codeWalk ends kepts r) (starts initial) ≡ refused 24 (at .0) = rw e at from-starts in
+        is ∙ rw (same, b .passed, b .walked-first .found, walk-is, full)
 
-    module _ {count written : ℕ} (e : met ≡ Count count written) where
-      counted : AddedRows (walked (codeWalk ends kepts r) (starts initial)) (λ done codes. records (rowN ends kepts r codes) done) t 0 count written pairs index table
-      counted = rw e at explored-is
+  module _ {t : List ℕ} {count written : ℕ} {pairs index table : List ℕ}
+      (done : Done t count written pairs index table) where
+    abbrev codes : List ℕ
+    codes = take count pairs
 
-      abbrev codes : List ℕ
-      codes = take count pairs
+    pub count-inside : count ≤ length pairs
+    count-inside = omega (arith, done .numbered .room, done .numbered .few)
 
-      pub count-inside : count ≤ length pairs
-      count-inside = omega (arith, counted .numbered .room, counted .numbered .few)
+    pub codes-count : length codes ≡ count
+    codes-count = length-take-le count pairs count-inside
 
-      pub codes-count : length codes ≡ count
-      codes-count = length-take-le count pairs count-inside
+    pub codes-few : length codes ≤ maxStates
+    codes-few = omega (arith, codes-count, done .numbered .few)
 
-      pub codes-few : length codes ≤ maxStates
-      codes-few = omega (arith, codes-count, counted .numbered .few)
+    whole : Explored (codeWalk ends kepts r) 0 (starts initial) codes
+    whole = walk-explored (codeWalk ends kepts r) eqb-true (λ x. eq-eqb x x refl) first-few (done .are)
 
-      pub written-inside : written * 4 ≤ length table
-      written-inside = counted .inside
+    codes-within : Within n codes
+    codes-within = whole .every (λ code. code / levelPlaces < n) keeps-within first-within
 
-      whole : Explored (codeWalk ends kepts r) 0 (starts initial) codes
-      whole = walk-explored (codeWalk ends kepts r) eqb-true (λ x. eq-eqb x x refl) first-few (counted .are)
+    pub all-rows : PairRows ends kepts r codes
+    all-rows = rows-over codes codes-within
 
-      codes-within : Within n codes
-      codes-within = whole .every (λ code. code / levelPlaces < n) keeps-within first-within
+    row-bytes : (code : ℕ) → In code codes → rowN ends kepts r codes code ≡ records transitionRecord (stateOf rule states (map pairOf codes) (pairOf code) .transitions)
+    unfolding stateOf pairTransitions transitionRecord
+    row-bytes code m =
+        ap (records (transitionN codes r (code % levelPlaces))) (own-row code inside)
+        ∙ sym (records-same (λ u. transitionN codes r (code % levelPlaces) (kept rule states u)) (transitionN codes r (code % levelPlaces)) (kept rule states) (own code inside) (λ u _. refl))
+        ∙ records-same (λ u. transitionN codes r (code % levelPlaces) (kept rule states u)) transitionRecord (transitionOf rule states (map pairOf codes) (pairOf code)) (own code inside) each
+      where
+        inside : code / levelPlaces < n
+        inside = codes-within code m
 
-      pub all-rows : PairRows ends kepts r codes
-      all-rows = rows-over codes codes-within
+        each : (u : Term) → In u (own code inside) → transitionN codes r (code % levelPlaces) (kept rule states u) ≡ transitionRecord (transitionOf rule states (map pairOf codes) (pairOf code) u)
+        each u h =
+            let number : find eqb (targetN r (code % levelPlaces) (kept rule states u)) codes ≡ find samePair (target rule states (pairOf code) u) (map pairOf codes) =
+            sym (find-map codeNumbering samePair pairOf same-codes (targetN r (code % levelPlaces) (kept rule states u)) codes)
+            ∙ rw (target-is code inside u h) in
+            rw (parts code inside u h .must, parts code inside u h .mustNot, number)
 
-      row-bytes : (code : ℕ) → In code codes → rowN ends kepts r codes code ≡ records transitionRecord (stateOf rule states (map pairOf codes) (pairOf code) .transitions)
-      unfolding stateOf pairTransitions transitionRecord
-      row-bytes code m =
-          ap (records (transitionN codes r (code % levelPlaces))) (own-row code inside)
-          ∙ sym (records-same (λ u. transitionN codes r (code % levelPlaces) (kept rule states u)) (transitionN codes r (code % levelPlaces)) (kept rule states) (own code inside) (λ u _. refl))
-          ∙ records-same (λ u. transitionN codes r (code % levelPlaces) (kept rule states u)) transitionRecord (transitionOf rule states (map pairOf codes) (pairOf code)) (own code inside) each
-        where
-          inside : code / levelPlaces < n
-          inside = codes-within code m
+    abbrev automaton : Automaton
+    automaton = record { states = map (stateOf rule states (map pairOf codes)) (map pairOf codes); initial = initialNumbers rule }
 
-          each : (u : Term) → In u (own code inside) → transitionN codes r (code % levelPlaces) (kept rule states u) ≡ transitionRecord (transitionOf rule states (map pairOf codes) (pairOf code) u)
-          each u h =
-              let number : find eqb (targetN r (code % levelPlaces) (kept rule states u)) codes ≡ find samePair (target rule states (pairOf code) u) (map pairOf codes) =
-              sym (find-map codeNumbering samePair pairOf same-codes (targetN r (code % levelPlaces) (kept rule states u)) codes)
-              ∙ rw (target-is code inside u h) in
-              rw (parts code inside u h .must, parts code inside u h .mustNot, number)
+    walk-accepted : translation rule ≡ accepted automaton
+    unfolding translation
+    walk-accepted = rw (b .passed, b .walked-first .found, walk-is, done .are)
 
-      abbrev automaton : Automaton
-      automaton = record { states = map (stateOf rule states (map pairOf codes)) (map pairOf codes); initial = initialNumbers rule }
+    states-are : numberedRecords (pairBytes ends r) 0 codes ≡ stateRecords automaton
+    unfolding stateRecords
+    states-are =
+        rw (map-map (stateOf rule states (map pairOf codes)) pairOf codes)
+        (numbered-same (pairBytes ends r) stateRecord (λ code. stateOf rule states (map pairOf codes) (pairOf code)) 0 0 codes (λ i l. state-is _ (codes-within _ (at-in 0 codes i l)) _ (map pairOf codes)))
 
-      walk-accepted : translation rule ≡ accepted automaton
-      unfolding translation
-      walk-accepted = rw (b .passed, b .walked-first .found, walk-is, counted .are)
+    transitions-are : records (rowN ends kepts r codes) codes ≡ transitionRecords automaton
+    unfolding transitionRecords
+    transitions-are =
+        rw (map-map (stateOf rule states (map pairOf codes)) pairOf codes)
+        (records-same (rowN ends kepts r codes) (λ s. records transitionRecord (s .transitions)) (λ code. stateOf rule states (map pairOf codes) (pairOf code)) codes row-bytes)
 
-      states-are : numberedRecords (pairBytes ends r) 0 codes ≡ stateRecords automaton
-      unfolding stateRecords
-      states-are =
-          rw (map-map (stateOf rule states (map pairOf codes)) pairOf codes)
-          (numbered-same (pairBytes ends r) stateRecord (λ code. stateOf rule states (map pairOf codes) (pairOf code)) 0 0 codes (λ i l. state-is _ (codes-within _ (at-in 0 codes i l)) _ (map pairOf codes)))
+    initial-is : records twoBytes (numbers initial) ≡ initialRecords automaton
+    unfolding initialRecords initialNumbers
+    initial-is = rw (b .walked-first .begun)
 
-      transitions-are : records (rowN ends kepts r codes) codes ≡ transitionRecords automaton
-      unfolding transitionRecords
-      transitions-are =
-          rw (map-map (stateOf rule states (map pairOf codes)) pairOf codes)
-          (records-same (rowN ends kepts r codes) (λ s. records transitionRecord (s .transitions)) (λ code. stateOf rule states (map pairOf codes) (pairOf code)) codes row-bytes)
+    transitions-total : length (transitionRecords automaton) ≡ transitionCount (automaton .states) * 4
+    unfolding transitionRecords
+    transitions-total = transitions-count (automaton .states)
 
-      initial-is : records twoBytes (numbers initial) ≡ initialRecords automaton
-      unfolding initialRecords initialNumbers
-      initial-is = rw (b .walked-first .begun)
+    rows-written : AddsRecords t 0 (transitionRecords automaton) table written
+    rows-written = rw (← transitions-are) (rw append-nil at (done .written []))
 
-      transitions-total : length (transitionRecords automaton) ≡ transitionCount (automaton .states) * 4
-      unfolding transitionRecords
-      transitions-total = transitions-count (automaton .states)
-
-      rows-written : AddsRecords t 0 (transitionRecords automaton) table written
-      rows-written = rw (← transitions-are) (rw append-nil at (counted .written []))
-
-      -- tables filled with these records have the automaton
-      pub written-is : length table ≡ length t → (s i s′ t′ i′ : List ℕ) → s′ ≡ filled s (numberedRecords (pairBytes ends r) 0 codes) → t′ ≡ filled table (take (written * 4) table)
-          → i′ ≡ filled i (records twoBytes (numbers initial)) → outcome (accepted (record { states = count; transitions = written; initial = initial })) s′ t′ i′ ≡ stored (translation rule) s t i
-      unfolding stored initialNumbers
-      written-is same s i s′ t′ i′ es et ei =
-          let many : written ≡ transitionCount (automaton .states) = omega (arith, rows-written .count, transitions-total) in
-          let states-many : count ≡ length (automaton .states) = sym (length-map (map pairOf codes) (stateOf rule states (map pairOf codes)) ∙ length-map codes pairOf ∙ codes-count) in
-          let initial-many : initial ≡ length (automaton .initial) = sym (rw (← b .walked-first .begun) (numbers-length initial)) in
-          rw walk-accepted
-          (same-outcome (same-counts states-many many initial-many) (es ∙ ap (filled s) states-are) (filled-as t table t′ (transitionRecords automaton) (written * 4) (rows-written .front) same et) (ei ∙ ap (filled i) initial-is))
+    -- tables filled with these records have the automaton
+    pub written-is : length table ≡ length t → (s i s′ t′ i′ : List ℕ) → s′ ≡ filled s (numberedRecords (pairBytes ends r) 0 codes) → t′ ≡ filled table (take (written * 4) table)
+        → i′ ≡ filled i (records twoBytes (numbers initial)) → outcome (accepted (record { states = count; transitions = written; initial = initial })) s′ t′ i′ ≡ stored (translation rule) s t i
+    unfolding stored initialNumbers
+    written-is same s i s′ t′ i′ es et ei =
+        let many : written ≡ transitionCount (automaton .states) = omega (arith, rows-written .count, transitions-total) in
+        let states-many : count ≡ length (automaton .states) = sym (length-map (map pairOf codes) (stateOf rule states (map pairOf codes)) ∙ length-map codes pairOf ∙ codes-count) in
+        let initial-many : initial ≡ length (automaton .initial) = sym (rw (← b .walked-first .begun) (numbers-length initial)) in
+        rw walk-accepted
+        (same-outcome (same-counts states-many many initial-many) (es ∙ ap (filled s) states-are) (filled-as t table t′ (transitionRecords automaton) (written * 4) (rows-written .front) same et) (ei ∙ ap (filled i) initial-is))
