@@ -11,7 +11,7 @@ use lib.ListN.{length, getD, take, length-map}
 use lib.Seq.{length-take-le}
 use lib.Dec.{eqb}
 use borrow.Author.Tests.{eqb-true, eq-eqb, ne-eqb}
-use Rattle.answer.specs.Result.{Result, accepted, refused, fine}
+use Rattle.answer.specs.Result.{accepted, refused, fine}
 use Rattle.answer.specs.Bytes.{twoBytes, filled}
 use Rattle.sets.specs.Sets.{In}
 use Rattle.sets.proofs.Members.{at-in}
@@ -24,10 +24,10 @@ use Rattle.acceptance.specs.Acceptance.{untilCount}
 use Rattle.translation.specs.declared.StateNumber.{StateNumber}
 use Rattle.translation.specs.declared.Paired.{Paired}
 use Rattle.translation.specs.declared.Paired.the-variants.{Count, Stop}
-use Rattle.automaton.specs.Automaton.{Automaton}
+use Rattle.automaton.specs.Automaton.{Transition, State, Automaton}
 use Rattle.automaton.specs.Limits.{maxStates}
 use Rattle.automaton.specs.Records.{records, numbered, numberedRecords, stateBytes, stateRecord, transitionRecord, stateRecords, transitionRecords, initialRecords}
-use Rattle.automaton.specs.Tables.{Counts, transitionCount, outcome, Outcome}
+use Rattle.automaton.specs.Tables.{transitionCount, counts, outcome, Outcome}
 use Rattle.automaton.proofs.Records.{transitions-count}
 use Rattle.translation.specs.Degeneralized.{Pair, pair, samePair, numbers, initialNumbers, nextLevel, pairTransitions, target, pairWalk, degeneralized, transitionOf, stateOf, translation}
 use Rattle.translation.specs.Translate.{stored}
@@ -45,33 +45,45 @@ use Rattle.translation.proofs.Pairing.{targets-within}
 use Rattle.translation.proofs.Codes.{numbers-length, starts, starts-within}
 use Rattle.translation.proofs.Filling.{filled-as}
 
+-- the state and the level of a code
+abbrev stateN : ℕ → ℕ
+stateN code = code / levelPlaces
+
+abbrev levelN : ℕ → ℕ
+levelN code = code % levelPlaces
+
 -- two codes are the same where their pairs are
 same-codes : (x y : ℕ) → samePair (pairOf x) (pairOf y) ≡ eqb x y
 same-codes x y = pick (ℕ-discrete x y)
   where
-    pick : Dec (x ≡ y) → eqb (x / levelPlaces) (y / levelPlaces) && eqb (x % levelPlaces) (y % levelPlaces) ≡ eqb x y
-    pick (yes e) = rw (e, eq-eqb (y / levelPlaces) (y / levelPlaces) refl, eq-eqb (y % levelPlaces) (y % levelPlaces) refl, eq-eqb y y refl)
-    pick (no n) = rw (ne-eqb x y n) (states (ℕ-discrete (x / levelPlaces) (y / levelPlaces)))
+    pick : Dec (x ≡ y) → eqb (stateN x) (stateN y) && eqb (levelN x) (levelN y) ≡ eqb x y
+    pick (yes e) = rw (e, eq-eqb (stateN y) (stateN y) refl, eq-eqb (levelN y) (levelN y) refl, eq-eqb y y refl)
+    pick (no n) = rw (ne-eqb x y n) (states (ℕ-discrete (stateN x) (stateN y)))
       where
-        states : Dec (x / levelPlaces ≡ y / levelPlaces) → eqb (x / levelPlaces) (y / levelPlaces) && eqb (x % levelPlaces) (y % levelPlaces) ≡ false
-        states (yes e) = rw (eq-eqb (x / levelPlaces) (y / levelPlaces) e) (ne-eqb (x % levelPlaces) (y % levelPlaces) (λ f. n (omega arith)))
-        states (no m) = rw (ne-eqb (x / levelPlaces) (y / levelPlaces) m)
+        states : Dec (stateN x ≡ stateN y) → eqb (stateN x) (stateN y) && eqb (levelN x) (levelN y) ≡ false
+        states (yes e) =
+            rw (eq-eqb (stateN x) (stateN y) e) (ne-eqb (levelN x) (levelN y) (λ f. n (omega arith)))
+        states (no m) = rw (ne-eqb (stateN x) (stateN y) m)
 
 -- records of the same bytes
-records-same : {A B : Type 0} (f : A → List ℕ) (g : B → List ℕ) (h : A → B) (ys : List A) → ((x : A) → In x ys → f x ≡ g (h x)) → records f ys ≡ records g (map h ys)
+records-same : {A B : Type 0} (f : A → List ℕ) (g : B → List ℕ) (h : A → B) (ys : List A)
+    → ((x : A) → In x ys → f x ≡ g (h x)) → records f ys ≡ records g (map h ys)
 unfolding records
 records-same f g h [] same = refl
 records-same f g h (x ∷ ys) same = rw (same x (inl refl), records-same f g h ys (λ y m. same y (inr m)))
 
 -- and where each knows its number
-numbered-same : {A B : Type 0} (f : ℕ → A → List ℕ) (g : ℕ → B → List ℕ) (h : A → B) (none : A) (from : ℕ) (ys : List A) → ((i : ℕ) → i < length ys → f (from + i) (getD ys i none) ≡ g (from + i) (h (getD ys i none)))
+numbered-same : {A B : Type 0} (f : ℕ → A → List ℕ) (g : ℕ → B → List ℕ) (h : A → B) (none : A) (from : ℕ)
+    (ys : List A)
+    → ((i : ℕ) → i < length ys → f (from + i) (getD ys i none) ≡ g (from + i) (h (getD ys i none)))
     → numberedRecords f from ys ≡ numberedRecords g from (map h ys)
 unfolding records numbered
 numbered-same f g h none from [] same = refl
 numbered-same f g h none from (x ∷ ys) same =
     let first : from + 0 ≡ from = omega arith in
     let next : (i : ℕ) → from + suc i ≡ suc from + i = λ i. omega arith in
-    rw (rw first at (same 0 (omega arith)), numbered-same f g h none (suc from) ys (λ i l. rw (← next i) (same (suc i) (omega arith))))
+    let later = numbered-same f g h none (suc from) ys (λ i l. rw (← next i) (same (suc i) (omega arith))) in
+    rw (rw first at (same 0 (omega arith)), later)
 
 map-same : {A B : Type 0} (f g : A → B) (ys : List A) → ((x : A) → In x ys → f x ≡ g x) → map f ys ≡ map g ys
 map-same f g [] same = refl
@@ -80,15 +92,9 @@ map-same f g (x ∷ ys) same = rw (same x (inl refl), map-same f g ys (λ y m. s
 starts-are : (ns : List ℕ) → map (λ i. pair i 0) ns ≡ map pairOf (map (λ i. codeOf i 0) ns)
 starts-are [] = refl
 starts-are (i ∷ ns) =
-    let s : codeOf i 0 / levelPlaces ≡ i = omega arith in
-    let l : codeOf i 0 % levelPlaces ≡ 0 = omega arith in
+    let s : stateN (codeOf i 0) ≡ i = omega arith in
+    let l : levelN (codeOf i 0) ≡ 0 = omega arith in
     rw (s, l, starts-are ns)
-
-same-counts : {a b c x y z : ℕ} → a ≡ x → b ≡ y → c ≡ z → _≡_ {A = Result Counts} (accepted (record { states = a; transitions = b; initial = c })) (accepted (record { states = x; transitions = y; initial = z }))
-same-counts e f g = cc
-
-pub same-outcome : {a b : Result Counts} {s t i x y z : List ℕ} → a ≡ b → s ≡ x → t ≡ y → i ≡ z → outcome a s t i ≡ outcome b x y z
-same-outcome e f g h = cc
 
 -- ---- the first walk's tables, and what the code has found when the walk over the pairs begins
 
@@ -99,7 +105,8 @@ pub record Begun (rule : List ℕ) (initial : ℕ) (kepts ends : List ℕ) (r : 
   pub numbered : PairsNumbered pairs index initial
   pub start : take initial pairs ≡ starts initial
 
-module _ {rule : List ℕ} {initial : ℕ} {kepts ends : List ℕ} {r : ℕ} {pairs₀ index₀ : List ℕ} (b : Begun rule initial kepts ends r pairs₀ index₀) where
+module _ {rule : List ℕ} {initial : ℕ} {kepts ends : List ℕ} {r : ℕ} {pairs₀ index₀ : List ℕ}
+    (b : Begun rule initial kepts ends r pairs₀ index₀) where
   abbrev states : List ℕ
   states = b .walked-first .states
 
@@ -120,49 +127,58 @@ module _ {rule : List ℕ} {initial : ℕ} {kepts ends : List ℕ} {r : ℕ} {pa
     closed = closed-are;
   }
 
-  module _ (code : ℕ) (lt : code / levelPlaces < n) where
+  module _ (code : ℕ) (lt : stateN code < n) where
     abbrev own : List Term
-    own = transitions rule (getD states (code / levelPlaces) 0)
+    own = transitions rule (getD states (stateN code) 0)
 
-    own-row : row ends kepts (code / levelPlaces) ≡ map (kept rule states) own
-    own-row = row-is rule (b .passed) (b .walked-first) (code / levelPlaces) lt
+    own-row : row ends kepts (stateN code) ≡ map (kept rule states) own
+    own-row = row-is rule (b .passed) (b .walked-first) (stateN code) lt
+
+    -- the code of the pair that the transition t leads to
+    abbrev targetOf : Term → ℕ
+    targetOf t = targetN r (levelN code) (kept rule states t)
 
     module _ (t : Term) (h : In t own) where
       parts : Parts rule states t
-      parts = parts-of rule (b .passed) (b .walked-first) (code / levelPlaces) lt t h
+      parts = parts-of rule (b .passed) (b .walked-first) (stateN code) lt t h
 
-      -- a transition leads to the pair that its code says
-      target-is : pairOf (targetN r (code % levelPlaces) (kept rule states t)) ≡ target rule states (pairOf code) t
+      target-is : pairOf (targetOf t) ≡ target rule states (pairOf code) t
       unfolding target
       target-is =
-          let s : targetN r (code % levelPlaces) (kept rule states t) / levelPlaces ≡ find eqb (t .obligations) states =
-          target-state r (code % levelPlaces) (kept rule states t) few-untils ∙ parts .target in
-          let l : targetN r (code % levelPlaces) (kept rule states t) % levelPlaces ≡ nextLevel rule (code % levelPlaces) t =
-          target-level r (code % levelPlaces) (kept rule states t) few-untils ∙ rw (parts .untils, b .levels) (next-level-is rule t (code % levelPlaces)) in
+          let s : stateN (targetOf t) ≡ find eqb (t .obligations) states =
+          target-state r (levelN code) (kept rule states t) few-untils ∙ parts .target in
+          let l : levelN (targetOf t) ≡ nextLevel rule (levelN code) t =
+          target-level r (levelN code) (kept rule states t) few-untils
+          ∙ rw (parts .untils, b .levels) (next-level-is rule t (levelN code)) in
           rw (s, l)
 
-    targets-are : map (target rule states (pairOf code)) (pairTransitions rule states (pairOf code)) ≡ map pairOf (targetsN ends kepts r code)
+    targets-are : pairWalk rule states .targets (pairOf code) ≡ map pairOf (targetsN ends kepts r code)
     unfolding pairTransitions
     targets-are =
-        sym (map-same (λ t. pairOf (targetN r (code % levelPlaces) (kept rule states t))) (target rule states (pairOf code)) own target-is)
-        ∙ sym (map-map (λ x. pairOf (targetN r (code % levelPlaces) x)) (kept rule states) own)
-        ∙ ap (map (λ x. pairOf (targetN r (code % levelPlaces) x))) (sym own-row)
-        ∙ sym (map-map pairOf (targetN r (code % levelPlaces)) (row ends kepts (code / levelPlaces)))
+        sym (map-same (λ t. pairOf (targetOf t)) (target rule states (pairOf code)) own target-is)
+        ∙ sym (map-map (λ x. pairOf (targetN r (levelN code) x)) (kept rule states) own)
+        ∙ ap (map (λ x. pairOf (targetN r (levelN code) x))) (sym own-row)
+        ∙ sym (map-map pairOf (targetN r (levelN code)) (row ends kepts (stateN code)))
 
-    state-is : (number : ℕ) (pairs : List Pair) → pairBytes ends r number code ≡ stateRecord number (stateOf rule states pairs (pairOf code))
+    state-is : (number : ℕ) (pairs : List Pair)
+        → pairBytes ends r number code ≡ stateRecord number (stateOf rule states pairs (pairOf code))
     unfolding stateRecord stateOf pairTransitions
     state-is number pairs =
-        rw (count-is rule (b .passed) (b .walked-first) (code / levelPlaces) lt, length-map)
-        (ap (λ (q : ℕ). stateBytes (length (transitions rule (getD states (code / levelPlaces) 0))) (eqb (code % levelPlaces) q)) (b .levels))
+        rw (count-is rule (b .passed) (b .walked-first) (stateN code) lt, length-map)
+        (ap (λ (q : ℕ). stateBytes (length own) (eqb (levelN code) q)) (b .levels))
 
     keeps-within : Within n (targetsN ends kepts r code)
     keeps-within = targets-within ends kepts r n few-untils closed-are code lt
 
   first-within : Within n (starts initial)
-  first-within = starts-within initial n (omega (arith, b .walked-first .begun, initial-states rule (b .passed) (b .walked-first)))
+  first-within =
+      let least = initial-states rule (b .passed) (b .walked-first) in
+      starts-within initial n (omega (arith, b .walked-first .begun, least))
 
   first-few : length (starts initial) ≤ maxStates
-  first-few = omega (arith, length-map (numbers initial) (λ i. codeOf i 0), numbers-length initial, b .walked-first .begun, initial-few rule (b .passed))
+  first-few =
+      let size = length-map (numbers initial) (λ i. codeOf i 0) ∙ numbers-length initial in
+      omega (arith, size, b .walked-first .begun, initial-few rule (b .passed))
 
   pub first-rows : PairRows ends kepts r (take initial pairs₀)
   first-rows = rw (b .start) (rows-over (starts initial) first-within)
@@ -171,7 +187,7 @@ module _ {rule : List ℕ} {initial : ℕ} {kepts ends : List ℕ} {r : ℕ} {pa
   unfolding degeneralized initialNumbers
   walk-is =
       rw (← b .walked-first .begun, starts-are (numbers initial))
-      (explore-map codeNumbering samePair pairOf same-codes 0 (λ code. code / levelPlaces < n) (targetsN ends kepts r)
+      (explore-map codeNumbering samePair pairOf same-codes 0 (λ code. stateN code < n) (targetsN ends kepts r)
       (pairWalk rule states .targets) targets-are keeps-within maxStates 0 0 (starts initial) first-within)
 
   -- ---- what the walk over the pairs comes to
@@ -218,30 +234,48 @@ module _ {rule : List ℕ} {initial : ℕ} {kepts ends : List ℕ} {r : ℕ} {pa
     whole = walk-explored (codeWalk ends kepts r) eqb-true (λ x. eq-eqb x x refl) first-few (done .are)
 
     codes-within : Within n codes
-    codes-within = whole .every (λ code. code / levelPlaces < n) keeps-within first-within
+    codes-within = whole .every (λ code. stateN code < n) keeps-within first-within
 
     pub all-rows : PairRows ends kepts r codes
     all-rows = rows-over codes codes-within
 
-    row-bytes : (code : ℕ) → In code codes → rowN ends kepts r codes code ≡ records transitionRecord (stateOf rule states (map pairOf codes) (pairOf code) .transitions)
+    -- the pairs by number, and each of them as a state of the automaton
+    abbrev pairs-are : List Pair
+    pairs-are = map pairOf codes
+
+    abbrev made : ℕ → State
+    made code = stateOf rule states pairs-are (pairOf code)
+
+    -- a transition of the pair that has a code: its record, by what the first walk kept of it, and as the automaton's
+    abbrev bytes : (code : ℕ) → Term → List ℕ
+    bytes code u = transitionN codes r (levelN code) (kept rule states u)
+
+    abbrev moved : (code : ℕ) → Term → Transition
+    moved code = transitionOf rule states pairs-are (pairOf code)
+
+    row-bytes : (code : ℕ) → In code codes
+        → rowN ends kepts r codes code ≡ records transitionRecord (made code .transitions)
     unfolding stateOf pairTransitions transitionRecord
     row-bytes code m =
-        ap (records (transitionN codes r (code % levelPlaces))) (own-row code inside)
-        ∙ sym (records-same (λ u. transitionN codes r (code % levelPlaces) (kept rule states u)) (transitionN codes r (code % levelPlaces)) (kept rule states) (own code inside) (λ u _. refl))
-        ∙ records-same (λ u. transitionN codes r (code % levelPlaces) (kept rule states u)) transitionRecord (transitionOf rule states (map pairOf codes) (pairOf code)) (own code inside) each
+        ap (records (transitionN codes r (levelN code))) (own-row code inside)
+        ∙ sym (records-same (bytes code) (transitionN codes r (levelN code)) (kept rule states) own-terms (λ u _. refl))
+        ∙ records-same (bytes code) transitionRecord (moved code) own-terms each
       where
-        inside : code / levelPlaces < n
+        inside : stateN code < n
         inside = codes-within code m
 
-        each : (u : Term) → In u (own code inside) → transitionN codes r (code % levelPlaces) (kept rule states u) ≡ transitionRecord (transitionOf rule states (map pairOf codes) (pairOf code) u)
+        own-terms : List Term
+        own-terms = own code inside
+
+        each : (u : Term) → In u (own code inside) → bytes code u ≡ transitionRecord (moved code u)
         each u h =
-            let number : find eqb (targetN r (code % levelPlaces) (kept rule states u)) codes ≡ find samePair (target rule states (pairOf code) u) (map pairOf codes) =
-            sym (find-map codeNumbering samePair pairOf same-codes (targetN r (code % levelPlaces) (kept rule states u)) codes)
-            ∙ rw (target-is code inside u h) in
+            let to = targetOf code inside u in
+            let number : find eqb to codes ≡ find samePair (target rule states (pairOf code) u) pairs-are =
+            sym (find-map codeNumbering samePair pairOf same-codes to codes) ∙ rw (target-is code inside u h) in
             rw (parts code inside u h .must, parts code inside u h .mustNot, number)
 
     abbrev automaton : Automaton
-    automaton = record { states = map (stateOf rule states (map pairOf codes)) (map pairOf codes); initial = initialNumbers rule }
+    automaton = record { states = map (stateOf rule states pairs-are) pairs-are; initial = initialNumbers rule }
 
     walk-accepted : translation rule ≡ accepted automaton
     unfolding translation
@@ -250,14 +284,15 @@ module _ {rule : List ℕ} {initial : ℕ} {kepts ends : List ℕ} {r : ℕ} {pa
     states-are : numberedRecords (pairBytes ends r) 0 codes ≡ stateRecords automaton
     unfolding stateRecords
     states-are =
-        rw (map-map (stateOf rule states (map pairOf codes)) pairOf codes)
-        (numbered-same (pairBytes ends r) stateRecord (λ code. stateOf rule states (map pairOf codes) (pairOf code)) 0 0 codes (λ i l. state-is _ (codes-within _ (at-in 0 codes i l)) _ (map pairOf codes)))
+        rw (map-map (stateOf rule states pairs-are) pairOf codes)
+        (numbered-same (pairBytes ends r) stateRecord made 0 0 codes
+        (λ i l. state-is _ (codes-within _ (at-in 0 codes i l)) _ pairs-are))
 
     transitions-are : records (rowN ends kepts r codes) codes ≡ transitionRecords automaton
     unfolding transitionRecords
     transitions-are =
-        rw (map-map (stateOf rule states (map pairOf codes)) pairOf codes)
-        (records-same (rowN ends kepts r codes) (λ s. records transitionRecord (s .transitions)) (λ code. stateOf rule states (map pairOf codes) (pairOf code)) codes row-bytes)
+        rw (map-map (stateOf rule states pairs-are) pairOf codes)
+        (records-same (rowN ends kepts r codes) (λ s. records transitionRecord (s .transitions)) made codes row-bytes)
 
     initial-is : records twoBytes (numbers initial) ≡ initialRecords automaton
     unfolding initialRecords initialNumbers
@@ -270,13 +305,27 @@ module _ {rule : List ℕ} {initial : ℕ} {kepts ends : List ℕ} {r : ℕ} {pa
     rows-written : AddsRecords t 0 (transitionRecords automaton) table written
     rows-written = rw (← transitions-are) (rw append-nil at (done .written []))
 
+    counted : record { states = count; transitions = written; initial = initial } ≡ counts automaton
+    unfolding initialNumbers
+    counted =
+        let states-many = length-map pairs-are (stateOf rule states pairs-are) ∙ length-map codes pairOf ∙ codes-count in
+        let many : written ≡ transitionCount (automaton .states) =
+        omega (arith, rows-written .count, transitions-total) in
+        let initial-many : initial ≡ length (automaton .initial) =
+        sym (rw (← b .walked-first .begun) (numbers-length initial)) in
+        λ k. record { states = sym states-many k; transitions = many k; initial = initial-many k }
+
     -- tables filled with these records have the automaton
-    pub written-is : length table ≡ length t → (s i s′ t′ i′ : List ℕ) → s′ ≡ filled s (numberedRecords (pairBytes ends r) 0 codes) → t′ ≡ filled table (take (written * 4) table)
-        → i′ ≡ filled i (records twoBytes (numbers initial)) → outcome (accepted (record { states = count; transitions = written; initial = initial })) s′ t′ i′ ≡ stored (translation rule) s t i
-    unfolding stored initialNumbers
+    pub written-is : length table ≡ length t → (s i s′ t′ i′ : List ℕ)
+        → s′ ≡ filled s (numberedRecords (pairBytes ends r) 0 codes) → t′ ≡ filled table (take (written * 4) table)
+        → i′ ≡ filled i (records twoBytes (numbers initial))
+        → outcome (accepted (record { states = count; transitions = written; initial = initial })) s′ t′ i′
+        ≡ stored (translation rule) s t i
+    unfolding stored
     written-is same s i s′ t′ i′ es et ei =
-        let many : written ≡ transitionCount (automaton .states) = omega (arith, rows-written .count, transitions-total) in
-        let states-many : count ≡ length (automaton .states) = sym (length-map (map pairOf codes) (stateOf rule states (map pairOf codes)) ∙ length-map codes pairOf ∙ codes-count) in
-        let initial-many : initial ≡ length (automaton .initial) = sym (rw (← b .walked-first .begun) (numbers-length initial)) in
+        let bytes = transitionRecords automaton in
+        let states-stored = es ∙ ap (filled s) states-are in
+        let transitions-stored = filled-as t table t′ bytes (written * 4) (rows-written .front) same et in
+        let initial-stored = ei ∙ ap (filled i) initial-is in
         rw walk-accepted
-        (same-outcome (same-counts states-many many initial-many) (es ∙ ap (filled s) states-are) (filled-as t table t′ (transitionRecords automaton) (written * 4) (rows-written .front) same et) (ei ∙ ap (filled i) initial-is))
+        (λ k. outcome (accepted (counted k)) (states-stored k) (transitions-stored k) (initial-stored k))

@@ -1,9 +1,7 @@
 -- `translation::refuse` meets its contract: three tables of zeros.
 -- Assumes nothing.
 use borrow.Author.Needs.{needs}
-use mathlib.Core.Path.{refl}
 use Rattle.translation.specs.Translate.{stored}
-use Rattle.translation.proofs.SecondWalk.{same-outcome}
 use Rattle.translation.proofs.refuse.Statement.{statement}
 use Rattle.translation.proofs.refuse.Tie as tie
 
@@ -13,7 +11,7 @@ returns c =
     let zero3 = c .before .before in
     let zero2 = zero3 .before .before .before .before in
     let zero = zero2 .before .before .before .before in
-    same-outcome refl (zero .zero .ensures) (zero2 .zero2 .ensures) (zero3 .zero3 .ensures)
+    rw (zero .zero .ensures, zero2 .zero2 .ensures, zero3 .zero3 .ensures)
 
 pub refuse-spec : {M : Type 1} → statement M
 refuse-spec =
