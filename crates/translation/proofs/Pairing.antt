@@ -1,5 +1,5 @@
--- A loop that takes the pairs in order, meets the targets of each and writes its row: the walk from a place on comes to what
--- the whole walk does, and the rows of the pairs before it are written. Assumes nothing.
+-- A loop that takes the pairs in order, meets the targets of each and writes its row: the walk from a place on comes to
+-- what the whole walk does, and the rows of the pairs before it are written. Assumes nothing.
 use mathlib.Core.Path.{_≡_, refl, sym, ap, _∙_}
 use mathlib.Core.List.{List, [], _∷_, _++_, map, append-assoc}
 use Prim.Native.Nat.{ℕ, suc, _+_, _-_, _*_, _/_, _%_, _≤_, _<_}
@@ -12,7 +12,7 @@ use Rattle.answer.specs.Bytes.{twoBytes}
 use Rattle.sets.specs.Sets.{In}
 use Rattle.sets.proofs.Members.{map-in}
 use Rattle.formula.specs.Limits.{maxUntils}
-use Rattle.generalized.specs.Explore.{meetAll, explore, walked}
+use Rattle.generalized.specs.Explore.{meetAll, Walk, explore, walked}
 use Rattle.generalized.specs.Memory.{keptTarget}
 use Rattle.generalized.proofs.Explored.{Grows, all-grows}
 use Rattle.generalized.proofs.Exploring.{explore-next, explore-refused, explore-ends}
@@ -22,14 +22,15 @@ use Rattle.automaton.proofs.Records.{records-last, records-length}
 use Rattle.translation.specs.declared.StateNumber.{StateNumber}
 use Rattle.translation.specs.declared.Paired.{Paired}
 use Rattle.translation.specs.declared.Paired.the-variants.{Count, Stop}
-use Rattle.translation.specs.Memory.{rowStart, rowCount, row, levelPlaces, targetN, targetsN, codeNumbering, codeWalk, transitionN, rowN, Within, Leads, PairRows, PairsNumbered, AddsRecords, AddedRows, AddsRows}
+use Rattle.translation.specs.Memory.{rowStart, rowCount, row, levelPlaces, targetN, targetsN, codeNumbering, codeWalk, transitionN, rowN, rowsN, Within, Leads, PairRows, PairsNumbered, AddsRecords, AddedRows, AddsRows}
 use Rattle.translation.proofs.Levels.{target-state}
 use Rattle.translation.proofs.Within.{state-within, row-rises, row-inside, row-few}
 use Rattle.translation.proofs.Filling.{adds-more}
 use Rattle.translation.proofs.Meeting.{among}
 
 -- a pair within the tables leads to such pairs
-pub targets-within : (ends transitions : List ℕ) (r n : ℕ) → r ≤ maxUntils → ((s : ℕ) → s < n → (x : ℕ) → In x (row ends transitions s) → keptTarget x < n)
+pub targets-within : (ends transitions : List ℕ) (r n : ℕ) → r ≤ maxUntils
+    → ((s : ℕ) → s < n → (x : ℕ) → In x (row ends transitions s) → keptTarget x < n)
     → (code : ℕ) → code / levelPlaces < n → Within n (targetsN ends transitions r code)
 targets-within ends transitions r n levels closed code lt x h =
     let (y, m, e) = map-in (targetN r (code % levelPlaces)) x (row ends transitions (code / levelPlaces)) h in
@@ -37,7 +38,8 @@ targets-within ends transitions r n levels closed code lt x h =
 
 -- the walk that stands at place, with k pairs numbered and count transitions before, comes to what it is to come to; m
 -- transitions are written
-pub record Pairing (ends transitions : List ℕ) (r : ℕ) (all : Result (List ℕ)) (before pairs index table : List ℕ) (k m place : ℕ) : Type 0 where
+pub record Pairing (ends transitions : List ℕ) (r : ℕ) (all : Result (List ℕ)) (before pairs index table : List ℕ)
+    (k m place : ℕ) : Type 0 where
   pub count : ℕ
   pub numbered : PairsNumbered pairs index k
   pub rows : PairRows ends transitions r (take k pairs)
@@ -45,7 +47,8 @@ pub record Pairing (ends transitions : List ℕ) (r : ℕ) (all : Result (List �
   pub left : explore (codeWalk ends transitions r) (maxStates - place) place count (take k pairs) ≡ all
   pub size : length table ≡ length before
   pub few : m ≤ place * maxOfState
-  pub written : (more : List ℕ) → AddsRecords before 0 (records (rowN ends transitions r (take k pairs ++ more)) (take place pairs)) table m
+  pub written : (more : List ℕ)
+      → AddsRecords before 0 (rowsN ends transitions r (take place pairs) (take k pairs ++ more)) table m
 
 -- where the row of a pair begins and ends in the table
 pub record OwnRow (ends : List ℕ) (code start end : ℕ) : Type 0 where
@@ -57,7 +60,8 @@ pub own-row : {ends : List ℕ} {code s t start end : ℕ} → s ≡ code / leve
 own-row es et b e = record { begins = rw (← es) b; ending = rw (← et) e }
 
 module _ {ends transitions : List ℕ} {r : ℕ} where
-  pub pairing-begins : {before pairs index : List ℕ} {n : ℕ} → PairRows ends transitions r (take n pairs) → PairsNumbered pairs index n
+  pub pairing-begins : {before pairs index : List ℕ} {n : ℕ} → PairRows ends transitions r (take n pairs)
+      → PairsNumbered pairs index n
       → Pairing ends transitions r (walked (codeWalk ends transitions r) (take n pairs)) before pairs index before n 0 0
   unfolding records
   pairing-begins rows numbered = record {
@@ -74,14 +78,22 @@ module _ {ends transitions : List ℕ} {r : ℕ} where
   module _ {all : Result (List ℕ)} {before pairs index table : List ℕ} {k m place : ℕ}
       (inv : Pairing ends transitions r all before pairs index table k m place)
       (room : transitionsBytes ≤ length before) where
-    size : length (take k pairs) ≡ k
+    abbrev walk : Walk ℕ
+    walk = codeWalk ends transitions r
+
+    -- the pairs that are numbered
+    abbrev codes : List ℕ
+    codes = take k pairs
+
+    size : length codes ≡ k
     size = length-take-le k pairs (omega (arith, inv .numbered .room, inv .numbered .few))
 
-    pub pairing-ends : k ≤ place → AddedRows all (λ done codes. records (rowN ends transitions r codes) done) before 0 k m pairs index table
+    pub pairing-ends : k ≤ place → AddedRows all (rowsN ends transitions r) before 0 k m pairs index table
     pairing-ends le =
         let last : place ≡ k = omega (arith, inv .reached) in
+        let end = explore-ends walk (maxStates - place) place (inv .count) codes (omega (arith, size)) in
         record {
-          are = sym (inv .left) ∙ explore-ends (codeWalk ends transitions r) (maxStates - place) place (inv .count) (take k pairs) (omega (arith, size));
+          are = sym (inv .left) ∙ end;
           numbered = inv .numbered;
           inside = omega (arith, inv .few, inv .size, inv .numbered .few);
           written = λ more. rw last at (inv .written more);
@@ -91,107 +103,150 @@ module _ {ends transitions : List ℕ} {r : ℕ} where
       abbrev code : ℕ
       code = getD pairs place 0
 
-      abbrev own : List ℕ
-      own = row ends transitions (code / levelPlaces)
+      abbrev state : ℕ
+      state = code / levelPlaces
 
-      here : In code (take k pairs)
+      abbrev own : List ℕ
+      own = row ends transitions state
+
+      here : In code codes
       here = among pairs index k place (inv .numbered) lt
 
-      state-here : code / levelPlaces < inv .rows .listed .states
-      state-here = state-within ends (take k pairs) code (inv .rows .listed) here (code / levelPlaces) refl
+      state-here : state < inv .rows .listed .states
+      state-here = state-within ends codes code (inv .rows .listed) here state refl
 
-      own-size : length own ≡ rowCount ends (code / levelPlaces)
+      rises : rowStart ends state ≤ getD ends state 0
+      rises = row-rises ends codes code (inv .rows .listed) here state refl
+
+      ends-inside : getD ends state 0 ≤ length transitions
+      ends-inside = rw (inv .rows .size) (row-inside ends codes code (inv .rows .listed) here state refl)
+
+      own-size : length own ≡ rowCount ends state
       own-size =
-          length-take-le (rowCount ends (code / levelPlaces)) (drop (rowStart ends (code / levelPlaces)) transitions)
-          (omega (arith, length-drop (rowStart ends (code / levelPlaces)) transitions, row-rises ends (take k pairs) code (inv .rows .listed) here (code / levelPlaces) refl, row-inside ends (take k pairs) code (inv .rows .listed) here (code / levelPlaces) refl, inv .rows .size))
+          length-take-le (rowCount ends state) (drop (rowStart ends state) transitions)
+          (omega (arith, length-drop (rowStart ends state) transitions, rises, ends-inside))
 
       own-few : length own ≤ maxOfState
-      own-few = omega (arith, own-size, row-few ends (take k pairs) code (inv .rows .listed) here (code / levelPlaces) refl)
+      own-few = omega (arith, own-size, row-few ends codes code (inv .rows .listed) here state refl)
 
       -- the row as the code reads it
       module _ {start end : ℕ} (at : OwnRow ends code start end) where
-        own-is : take (end - start) (drop start transitions) ≡ own
+        abbrev read : List ℕ
+        read = take (end - start) (drop start transitions)
+
+        own-is : read ≡ own
         own-is = rw (at .begins, at .ending)
 
         pub row-begins : start ≤ end
-        row-begins = rw (at .begins, at .ending) (row-rises ends (take k pairs) code (inv .rows .listed) here (code / levelPlaces) refl)
+        row-begins = rw (at .begins, at .ending) rises
 
         pub row-fits : end ≤ length transitions
-        row-fits = rw (at .ending, inv .rows .size) (row-inside ends (take k pairs) code (inv .rows .listed) here (code / levelPlaces) refl)
+        row-fits = rw (at .ending) ends-inside
 
-        pub row-leads : Leads (take (end - start) (drop start transitions))
-        row-leads = rw own-is (λ x h. omega (arith, inv .rows .closed (code / levelPlaces) state-here x h, inv .rows .listed .rows .states))
+        pub row-leads : Leads read
+        row-leads =
+            rw own-is
+            (λ x h. omega (arith, inv .rows .closed state state-here x h, inv .rows .listed .rows .states))
 
-        pub row-room : (m + length (take (end - start) (drop start transitions))) * 4 ≤ length table
+        pub row-room : (m + length read) * 4 ≤ length table
         row-room = rw own-is (omega (arith, own-few, inv .few, inv .size, inv .numbered .few))
 
         module _ {level : ℕ} (el : level ≡ code % levelPlaces) (met : Paired) (pairs′ index′ table′ : List ℕ)
-            (meets : (count : ℕ) → AddsRows (meetAll codeNumbering place (map (targetN r level) (take (end - start) (drop start transitions))) count (take k pairs)) (λ _ codes. records (transitionN codes r level) (take (end - start) (drop start transitions))) table m met pairs′ index′ table′) where
-          met-is : AddsRows (meetAll codeNumbering place (targetsN ends transitions r code) (inv .count) (take k pairs)) (λ _ codes. rowN ends transitions r codes code) table m met pairs′ index′ table′
+            (meets : (count : ℕ)
+            → AddsRows (meetAll codeNumbering place (map (targetN r level) read) count codes)
+            (λ _ codes. records (transitionN codes r level) read) table m met pairs′ index′ table′) where
+          -- the targets of the pair
+          abbrev targets : List ℕ
+          targets = targetsN ends transitions r code
+
+          abbrev met-all : Result (List ℕ)
+          met-all = meetAll codeNumbering place targets (inv .count) codes
+
+          met-is : AddsRows met-all (λ _ codes. rowN ends transitions r codes code) table m met pairs′ index′ table′
           met-is = rw (← own-is, ← el) (meets (inv .count))
 
           fuel : maxStates - place ≡ suc (maxStates - suc place)
           fuel = omega (arith, inv .numbered .few)
 
-          inside : place < length (take k pairs)
+          inside : place < length codes
           inside = omega (arith, size)
 
-          at-place : getD (take k pairs) place 0 ≡ code
+          at-place : getD codes place 0 ≡ code
           at-place = getD-take k pairs place 0 lt
 
-          pub pairing-stops : {last : StateNumber} → met ≡ Stop last → AddsRows all (λ done codes. records (rowN ends transitions r codes) done) before 0 met pairs′ index′ table′
+          pub pairing-stops : {last : StateNumber} → met ≡ Stop last
+              → AddsRows all (rowsN ends transitions r) before 0 met pairs′ index′ table′
           pairing-stops e =
-              rw (e, ← inv .left, fuel) (explore-refused (codeWalk ends transitions r) (maxStates - suc place) place (inv .count) (take k pairs) inside (rw at-place (rw e at met-is)))
+              rw (e, ← inv .left, fuel)
+              (explore-refused walk (maxStates - suc place) place (inv .count) codes inside
+              (rw at-place (rw e at met-is)))
 
           module _ {n after : ℕ} (e : met ≡ Count n after) (same : length table′ ≡ length table) where
-            counted : AddedRows (meetAll codeNumbering place (targetsN ends transitions r code) (inv .count) (take k pairs)) (λ _ codes. rowN ends transitions r codes code) table m n after pairs′ index′ table′
+            -- the pairs that are numbered then
+            abbrev codes′ : List ℕ
+            codes′ = take n pairs′
+
+            counted : AddedRows met-all (λ _ codes. rowN ends transitions r codes code) table m n after
+                pairs′ index′ table′
             counted = rw e at met-is
 
-            grown : Grows codeNumbering (targetsN ends transitions r code) (take k pairs) (take n pairs′)
-            grown = all-grows codeNumbering place (targetsN ends transitions r code) (inv .count) (take k pairs) (take n pairs′) (counted .are)
+            grown : Grows codeNumbering targets codes codes′
+            grown = all-grows codeNumbering place targets (inv .count) codes codes′ (counted .are)
 
             rest : List ℕ
             rest = grown .extends .more
 
-            grown-is : take n pairs′ ≡ take k pairs ++ rest
+            grown-is : codes′ ≡ codes ++ rest
             unfolding rest
             grown-is = grown .extends .are
 
             longer : k ≤ n
-            longer = omega (arith, ap length grown-is, length-append (take k pairs) rest, size, length-take-le n pairs′ (omega (arith, counted .numbered .room, counted .numbered .few)))
+            longer =
+                let size′ = length-take-le n pairs′ (omega (arith, counted .numbered .room, counted .numbered .few)) in
+                omega (arith, ap length grown-is, length-append codes rest, size, size′)
 
-            within : Within (inv .rows .listed .states) (take n pairs′)
+            within : Within (inv .rows .listed .states) codes′
             within =
-                grown .every (λ c. c / levelPlaces < inv .rows .listed .states)
-                (targets-within ends transitions r (inv .rows .listed .states) (inv .rows .levels) (inv .rows .closed) code state-here) (inv .rows .listed .within)
+                let states = inv .rows .listed .states in
+                let onward = targets-within ends transitions r states (inv .rows .levels) (inv .rows .closed) code in
+                grown .every (λ c. c / levelPlaces < states) (onward state-here) (inv .rows .listed .within)
 
             done-more : take (suc place) pairs′ ≡ take place pairs ++ (code ∷ [])
             done-more =
                 sym (take-take (suc place) n pairs′ (omega (arith, longer)))
                 ∙ ap (take (suc place)) grown-is
-                ∙ take-append-le (suc place) (take k pairs) rest (omega (arith, size))
+                ∙ take-append-le (suc place) codes rest (omega (arith, size))
                 ∙ take-take (suc place) k pairs (omega arith)
                 ∙ take-suc pairs place 0 (omega (arith, inv .numbered .room, inv .numbered .few))
 
-            earlier : (more : List ℕ) → AddsRecords before 0 (records (rowN ends transitions r (take n pairs′ ++ more)) (take place pairs)) table m
-            earlier more = rw (grown-is, append-assoc (take k pairs) rest more) (inv .written (rest ++ more))
+            earlier : (more : List ℕ) → AddsRecords before 0 (rowsN ends transitions r (take place pairs) (codes′ ++ more)) table m
+            earlier more = rw (grown-is, append-assoc codes rest more) (inv .written (rest ++ more))
+
+            left-now : explore walk (maxStates - suc place) (suc place) (inv .count + length targets) codes′ ≡ all
+            left-now =
+                let next = explore-next walk (maxStates - suc place) place (inv .count) codes {ys = codes′} inside
+                (rw at-place (counted .are)) in
+                rw (← at-place) (sym next ∙ rw (← fuel) (inv .left))
 
             pub pairing-steps : Pairing ends transitions r all before pairs′ index′ table′ n after (place + 1)
             unfolding twoBytes
-            pairing-steps = record {
-              count = inv .count + length (targetsN ends transitions r code);
-              numbered = counted .numbered;
-              rows = record {
-                listed = record { states = inv .rows .listed .states; rows = inv .rows .listed .rows; within = within };
-                size = inv .rows .size;
-                levels = inv .rows .levels;
-                closed = inv .rows .closed;
-              };
-              reached = omega (arith, longer);
-              left = rw (add-one, ← at-place) (sym (explore-next (codeWalk ends transitions r) (maxStates - suc place) place (inv .count) (take k pairs) inside (rw at-place (counted .are))) ∙ rw (← fuel) (inv .left));
-              size = same ∙ inv .size;
-              few = omega (arith, inv .few, counted .written [] .count, records-length (transitionN (take n pairs′ ++ []) r (code % levelPlaces)) 4 (λ x. refl) own, own-few);
-              written = λ more.
-                  rw (add-one, done-more, records-last (rowN ends transitions r (take n pairs′ ++ more)) (take place pairs) code)
-                  (adds-more before 0 _ table m _ table′ after (earlier more) (counted .written more));
-            }
+            pairing-steps =
+                let bytes-many = records-length (transitionN (codes′ ++ []) r (code % levelPlaces)) 4 (λ x. refl) own in
+                record {
+                  count = inv .count + length targets;
+                  numbered = counted .numbered;
+                  rows = record {
+                    listed = record { states = inv .rows .listed .states; rows = inv .rows .listed .rows; within = within };
+                    size = inv .rows .size;
+                    levels = inv .rows .levels;
+                    closed = inv .rows .closed;
+                  };
+                  reached = omega (arith, longer);
+                  left = rw add-one left-now;
+                  size = same ∙ inv .size;
+                  few = omega (arith, inv .few, counted .written [] .count, bytes-many, own-few);
+                  written = λ more.
+                      let rows = rowN ends transitions r (codes′ ++ more) in
+                      rw (add-one, done-more, records-last rows (take place pairs) code)
+                      (adds-more before 0 _ table m _ table′ after (earlier more) (counted .written more));
+                }

@@ -33,7 +33,7 @@ use Rattle.translation.specs.Degeneralized.{Pair, pair, samePair, number
 use Rattle.translation.specs.Translate.{stored}
 use Rattle.generalized.specs.Memory.{kept, keptTarget}
 use Rattle.generalized.proofs.Kept.{Parts}
-use Rattle.translation.specs.Memory.{row, levelPlaces, codeOf, pairOf, targetN, targetsN, codeNumbering, codeWalk, pairBytes, transitionN, rowN, FirstWalk, Within, PairRows, PairsNumbered, AddsRecords, AddedRows, AddsRows, WalksPairs}
+use Rattle.translation.specs.Memory.{row, levelPlaces, codeOf, pairOf, targetN, targetsN, codeNumbering, codeWalk, pairBytes, transitionN, rowN, rowsN, FirstWalk, Within, PairRows, PairsNumbered, AddsRecords, AddedRows, AddsRows, WalksPairs}
 use Rattle.translation.proofs.Levels.{target-state, target-level, next-level-is}
 use Rattle.generalized.proofs.Explored.{Explored, walk-explored}
 use Rattle.generalized.proofs.Passed.{initial-few}
@@ -192,18 +192,14 @@ module _ {rule : List ℕ} {initial : ℕ} {kepts ends : List ℕ} {r : ℕ} {pa
 
   -- ---- what the walk over the pairs comes to
 
-  -- the records of the pairs' transitions
-  abbrev rowsOf : (done codes : List ℕ) → List ℕ
-  rowsOf done codes = records (rowN ends kepts r codes) done
-
   -- the walk is done: count pairs are numbered, and the records of written transitions are in the table that was t
   abbrev pub Done : (t : List ℕ) (count written : ℕ) (pairs index table : List ℕ) → Type 0
   Done t count written pairs index table =
-      AddedRows (walked (codeWalk ends kepts r) (starts initial)) rowsOf t 0 count written pairs index table
+      AddedRows (walked (codeWalk ends kepts r) (starts initial)) (rowsN ends kepts r) t 0 count written pairs index table
 
   module _ (t : List ℕ) (met : Paired) (pairs index table : List ℕ)
       (comes : WalksPairs ends kepts r initial pairs₀ t met pairs index table) where
-    from-starts : AddsRows (walked (codeWalk ends kepts r) (starts initial)) rowsOf t 0 met pairs index table
+    from-starts : AddsRows (walked (codeWalk ends kepts r) (starts initial)) (rowsN ends kepts r) t 0 met pairs index table
     from-starts = rw (← b .start) comes
 
     pub walk-done : {count written : ℕ} → met ≡ Count count written → Done t count written pairs index table

@@ -112,6 +112,10 @@ module _ (ends transitions : List ℕ) (r : ℕ) where
   abbrev pub rowN : (codes : List ℕ) (code : ℕ) → List ℕ
   rowN codes code = records (transitionN codes r (code % levelPlaces)) (row ends transitions (code / levelPlaces))
 
+  -- and of the transitions of all pairs that are done
+  abbrev pub rowsN : (done codes : List ℕ) → List ℕ
+  rowsN done codes = records (rowN codes) done
+
 -- the states of the pairs codes are among the first n of the first walk
 abbrev pub Within : (n : ℕ) (codes : List ℕ) → Type 0
 Within n codes = (code : ℕ) → In code codes → code / levelPlaces < n
@@ -202,7 +206,7 @@ abbrev pub WalksPairs : (ends transitions : List ℕ) (r n : ℕ) (pairs table :
     → Paired → (pairs′ index′ table′ : List ℕ) → Type 0
 WalksPairs ends transitions r n pairs table met pairs′ index′ table′ =
     AddsRows (walked (codeWalk ends transitions r) (take n pairs))
-    (λ done codes. records (rowN ends transitions r codes) done) table 0 met pairs′ index′ table′
+    (rowsN ends transitions r) table 0 met pairs′ index′ table′
 
 -- ---- the call's tables
 
