@@ -67,12 +67,20 @@ state-extends rule place total xs ys e =
     let met = then-accepted (productCheck rule place (getD xs place 0)) _ e .2 in
     all-grows stateNumbering place _ total xs ys met .extends
 
--- one state more
-all-last : (rule xs : List ℕ) (x : ℕ)
-    → allTransitions rule (xs ++ (x ∷ [])) ≡ allTransitions rule xs ++ transitions rule x
-unfolding allTransitions
-all-last rule [] x = append-nil (transitions rule x)
-all-last rule (y ∷ ys) x = rw (all-last rule ys x) (sym (append-assoc (transitions rule y) _ (transitions rule x)))
+-- the transitions of a list of states
+module _ (rule : List ℕ) where
+  pub all-append : (xs ys : List ℕ) → allTransitions rule (xs ++ ys) ≡ allTransitions rule xs ++ allTransitions rule ys
+  unfolding allTransitions
+  all-append [] ys = refl
+  all-append (x ∷ xs) ys = rw (all-append xs ys) (sym (append-assoc (transitions rule x) (allTransitions rule xs) _))
+
+  all-last : (xs : List ℕ) (x : ℕ) → allTransitions rule (xs ++ (x ∷ [])) ≡ allTransitions rule xs ++ transitions rule x
+  unfolding allTransitions
+  all-last xs x = rw (all-append xs (x ∷ []), append-nil (transitions rule x))
+
+  pub all-one : (xs : List ℕ) (s : ℕ) → s < length xs
+      → allTransitions rule (take (suc s) xs) ≡ allTransitions rule (take s xs) ++ transitions rule (getD xs s 0)
+  all-one xs s lt = rw (take-suc xs s 0 lt) (all-last (take s xs) (getD xs s 0))
 
 -- the states that are numbered
 abbrev numbered : Extent → List ℕ → List ℕ
