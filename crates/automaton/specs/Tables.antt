@@ -5,10 +5,12 @@ use mathlib.Core.Bool.{Bool, _&&_}
 use lib.ListN.{length}
 use lib.Dec.{leb}
 use Rattle.answer.specs.Result.{Result, accepted, refused, Check, require}
+use Rattle.answer.specs.Bytes.{filled}
 use Rattle.automaton.specs.declared.Counts.{Counts as Struct}
 use Rattle.automaton.specs.declared.Counted.{Counted}
 use Rattle.automaton.specs.declared.Counted.the-variants.{Accepted, Refused}
 use Rattle.automaton.specs.Automaton.{State, Automaton}
+use Rattle.automaton.specs.Records.{stateRecords, transitionRecords, initialRecords}
 use Rattle.automaton.specs.Limits.{statesBytes, transitionsBytes, initialBytes}
 
 -- how many states, transitions and initial states there are, the code's own struct: the answer of an accepted translate
@@ -41,6 +43,13 @@ pub record Outcome : Type 0 where
 
 abbrev pub outcome : Result Counts → (states transitions initial : List ℕ) → Outcome
 outcome a s t i = record { answer = a; states = s; transitions = t; initial = i }
+
+-- an automaton's counts, its records in the tables, and zero in all unused bytes (01, Numbers that come from the state,
+-- last paragraph, sentences 2 and 3)
+abbrev pub tabled : Automaton → (states transitions initial : List ℕ) → Outcome
+tabled a s t i =
+    outcome (accepted (counts a))
+    (filled s (stateRecords a)) (filled t (transitionRecords a)) (filled i (initialRecords a))
 
 -- whether 25 lets the lengths of three tables pass
 abbrev pub lengthsFit : (states transitions initial : ℕ) → Bool

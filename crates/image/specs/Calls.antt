@@ -5,9 +5,7 @@ use lib.ListN.{length, drop}
 use lib.Dec.{leb}
 use Rattle.answer.specs.Result.{Result, accepted, refused, andThen, Check, require}
 use Rattle.automaton.specs.Automaton.{Automaton}
-use Rattle.automaton.specs.Records.{stateRecords, transitionRecords, initialRecords}
-use Rattle.automaton.specs.Tables.{Counts, counts, Outcome, outcome, tableCheck}
-use Rattle.answer.specs.Bytes.{filled}
+use Rattle.automaton.specs.Tables.{Counts, counts, Outcome, outcome, tabled, tableCheck}
 use Rattle.image.specs.declared.WrittenImage.{WrittenImage}
 use Rattle.image.specs.declared.WrittenImage.the-variants.{Accepted, Refused}
 use Rattle.image.specs.Image.{imageBytes, largestImage}
@@ -47,11 +45,9 @@ unfoldable pub writes : Counts → (states transitions initial image : List ℕ)
 writes c s t i image =
     written (andThen (tableCheck s t i) (λ _. andThen (bufferCheck image) (λ _. readCounted c s t i))) image
 
--- the counts, the records, and zero in all unused bytes; a refusal leaves all as it was
+-- the automaton in the tables; a refusal leaves all as it was
 abbrev pub loaded : Result Automaton → (states transitions initial : List ℕ) → Outcome
-loaded (accepted a) s t i =
-    outcome (accepted (counts a))
-    (filled s (stateRecords a)) (filled t (transitionRecords a)) (filled i (initialRecords a))
+loaded (accepted a) s t i = tabled a s t i
 loaded (refused number place) s t i = outcome (refused number place) s t i
 
 -- 25, then 10 to 13

@@ -1,19 +1,16 @@
 -- The call translate: its answer, its place and every lent byte, for every input.
 use Prim.Native.Nat.{ℕ}
 use mathlib.Core.List.{List}
-use Rattle.answer.specs.Bytes.{zeros, filled}
-use Rattle.automaton.specs.Tables.{counts, tableCheck, outcome, Outcome}
+use Rattle.answer.specs.Bytes.{zeros}
+use Rattle.automaton.specs.Tables.{tableCheck, outcome, Outcome, tabled}
 use Rattle.answer.specs.Result.{Result, accepted, refused, andThen, Check}
 use Rattle.formula.specs.Rule
 use Rattle.automaton.specs.Automaton.{Automaton}
 use Rattle.translation.specs.Degeneralized.{translation}
-use Rattle.automaton.specs.Records.{stateRecords, transitionRecords, initialRecords}
 
 -- the outcome for a rule that 25 and 1 to 7 let pass
 unfoldable pub stored : Result Automaton → (states transitions initial : List ℕ) → Outcome
-stored (accepted a) s t i =
-    outcome (accepted (counts a))
-    (filled s (stateRecords a)) (filled t (transitionRecords a)) (filled i (initialRecords a))
+stored (accepted a) s t i = tabled a s t i
 stored (refused number place) s t i = outcome (refused number place) (zeros s) (zeros t) (zeros i)
 
 -- 25 and 1 to 7 leave the tables as they were
