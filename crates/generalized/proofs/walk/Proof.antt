@@ -2,7 +2,7 @@
 -- Assumes nothing.
 use borrow.Author.Needs.{needs}
 use native.Mathlib.Omega.{arith}
-use Prim.Native.Nat.{_-_}
+use Prim.Native.Nat.{_-_, _<_}
 use mathlib.Core.Path.{refl, sym, _∙_}
 use Rattle.generalized.specs.Limits.{maxGeneralizedStates}
 use Rattle.term.proofs.Sizes.{bytes-fine}
@@ -17,6 +17,39 @@ Inv-loop rule table states₀ transitions₀ ends₀ untils initial product₀ n
 abbrev μ-loop : tie.MeasureT-loop
 μ-loop rule table states₀ transitions₀ ends₀ untils initial product₀ next₀ bytes₀ size₀ state₀ states transitions ends product next bytes size state =
     maxGeneralizedStates - state .0
+
+-- The places of a turn, each by the one after it: what the walk was given, the turn's beginning, the state that is
+-- taken, its product, the untils that are told, the targets that are met.
+abbrev start : tie.At-loop Inv-loop μ-loop → tie.Start Inv-loop μ-loop
+start c = c .before .before .before .before .before .before .before .before .before .before .before
+
+abbrev begun : tie.At-loop Inv-loop μ-loop → tie.After-start Inv-loop μ-loop
+begun c = c .before .before .before
+
+abbrev turn : tie.Then1 Inv-loop μ-loop → tie.At-loop Inv-loop μ-loop
+turn c = c .before .before .before
+
+abbrev taken : tie.After-state-terms Inv-loop μ-loop → tie.Then1 Inv-loop μ-loop
+taken c = c .before .before .before .before
+
+abbrev product : tie.Else2 Inv-loop μ-loop → tie.After-state-terms Inv-loop μ-loop
+product c = c .before .before .before
+
+abbrev small : tie.After-fulfil Inv-loop μ-loop → tie.Else2 Inv-loop μ-loop
+small c = c .before .before .before
+
+abbrev told : tie.After-meet-all Inv-loop μ-loop → tie.After-fulfil Inv-loop μ-loop
+told c = c .before .before .before .before .before .before
+
+abbrev met : tie.After-step Inv-loop μ-loop → tie.After-meet-all Inv-loop μ-loop
+met c = c .before .before .before .before .before .before
+
+abbrev stopped : tie.After-step2 Inv-loop μ-loop → tie.After-meet-all Inv-loop μ-loop
+stopped c = c .before .before .before .before .before .before
+
+-- and the turn in which targets are met
+abbrev turn-of : tie.After-meet-all Inv-loop μ-loop → tie.Then1 Inv-loop μ-loop
+turn-of c = taken (product (small (told c)))
 
 untils-of-requires : tie.Need-untils-of-requires Inv-loop μ-loop
 untils-of-requires c κs = bytes-fine _ (c .before .before .before .before .before .pre .0)
@@ -40,133 +73,111 @@ loop-holds c =
     )
 
 slice-aggregate-state-terms : tie.Need-slice-aggregate-state-terms Inv-loop μ-loop
-slice-aggregate-state-terms c = sym (c .before .before .before .before .before .loop .inv .1 .products .room)
+slice-aggregate-state-terms c = sym (turn (c .before .before) .loop .inv .1 .products .room)
 
 slice-aggregate-state-terms-2 : tie.Need-slice-aggregate-state-terms-2 Inv-loop μ-loop
-slice-aggregate-state-terms-2 c =
-    let at = c .before .before .before .before .before .before in
-    sym (at .loop .inv .1 .products .beside)
+slice-aggregate-state-terms-2 c = sym (turn (c .before .before .before) .loop .inv .1 .products .beside)
 
 state-terms-requires : tie.Need-state-terms-requires Inv-loop μ-loop
 state-terms-requires c κs =
-    let at = c .before .before .before .before .before .before in
-    let s = at .before .before .before .before .before .before .before .before .before .before .before in
-    (s .pre .0, s .pre .1, at .loop .inv .1 .products)
+    let at = turn (c .before .before .before) in
+    (start at .pre .0, start at .pre .1, at .loop .inv .1 .products)
 
 returns : tie.Need-returns Inv-loop μ-loop
 returns c =
-    let state-terms = c .before .before .before in
-    let if1 = state-terms .before .before .before .before in
-    let at = if1 .before .before .before in
-    walk-over (at .loop .inv .0) (if1 .if1 .taken) (state-terms .state-terms .ensures) (c .if2 .taken)
+    let terms = c .before .before .before in
+    walk-over (turn (taken terms) .loop .inv .0) (taken terms .if1 .taken) (terms .state-terms .ensures) (c .if2 .taken)
 
 slice-aggregate-fulfil-2 : tie.Need-slice-aggregate-fulfil-2 Inv-loop μ-loop
-slice-aggregate-fulfil-2 c =
-    let far = c .before .before .before .before .before .before .before .before .before .before .before in
-    let at = far .before in
-    sym (at .loop .inv .1 .bytes-room)
+slice-aggregate-fulfil-2 c = sym (turn (taken (product (c .before .before))) .loop .inv .1 .bytes-room)
 
 fulfil-requires : tie.Need-fulfil-requires Inv-loop μ-loop
 fulfil-requires c κs =
-    let if2 = c .before .before in
-    let state-terms = if2 .before .before .before in
-    let at = state-terms .before .before .before .before .before .before .before in
-    let untils-of = at .before .before .before .before .before in
-    let s = untils-of .before .before .before .before .before .before in (
-      omega (arith, if2 .if2 .left, state-terms .state-terms .kept .1 .1 .1 .0, at .loop .inv .1 .products .room),
-      omega (arith, if2 .if2 .left, at .loop .inv .1 .bytes-room),
-      record { accepted = bytes-fine _ (s .pre .0); terms = s .pre .1; untils = untils-of .untils-of .ensures },
+    let few = c .before .before in
+    let terms = product few in
+    let at = turn (taken terms) in
+    let untils = begun at .before .before .untils-of in (
+      omega (arith, few .if2 .left, terms .state-terms .kept .1 .1 .1 .0, at .loop .inv .1 .products .room),
+      omega (arith, few .if2 .left, at .loop .inv .1 .bytes-room),
+      record { accepted = bytes-fine _ (start at .pre .0); terms = start at .pre .1; untils = untils .ensures },
     )
 
 meet-all-requires : tie.Need-meet-all-requires Inv-loop μ-loop
 meet-all-requires c κs =
-    let far = c .before .before .before .before .before .before .before .before .before .before .before in
-    let at = far .before .before .before .before .before .before .before in
+    let at = turn (taken (product (small (c .before .before .before .before .before)))) in
     (search needs, search needs, at .loop .inv .0 .room)
 
 put-end-requires : tie.Need-put-end-requires Inv-loop μ-loop
 put-end-requires c κs =
-    let far = c .before .before .before .before .before .before .before .before .before .before .before in
-    let far3 = far .before .before .before .before .before .before .before .before .before .before .before in
-    let if1 = far3 .before .before in
-    let at = if1 .before .before .before in
-    omega (arith, at .loop .inv .0 .room .few, at .loop .inv .0 .ends-room, if1 .if1 .taken)
+    let state = turn-of (met (c .before .before)) in
+    let inv = turn state .loop .inv .0 in
+    omega (arith, inv .room .few, inv .ends-room, state .if1 .taken)
+
+-- a turn takes a state that has a number
+numbered : (c : tie.After-put-end Inv-loop μ-loop)
+    → turn (turn-of (met (c .before .before .before))) .loop .state .0 < maxGeneralizedStates
+numbered c =
+    let state = turn-of (met (c .before .before .before)) in
+    omega (arith, turn state .loop .inv .0 .room .few, state .if1 .taken)
 
 add-t46 : tie.Need-add-t46 Inv-loop μ-loop
-add-t46 c =
-    let far = c .before .before .before .before .before .before .before .before .before .before .before in
-    let far3 = far .before .before .before .before .before .before .before .before .before .before .before in
-    let if1 = far3 .before .before .before .before .before .before in
-    let at = if1 .before .before .before in
-    omega (arith, at .loop .inv .0 .room .few, if1 .if1 .taken)
+add-t46 c = omega (arith, numbered (c .before .before .before))
 
 loop-less : tie.Need-loop-less Inv-loop μ-loop
-loop-less c =
-    let far = c .before .before .before .before .before .before .before .before .before .before .before in
-    let far3 = far .before .before .before .before .before .before .before .before .before .before .before in
-    let if1 = far3 .before .before .before .before .before .before in
-    let at = if1 .before .before .before in
-    omega (arith, at .loop .inv .0 .room .few, if1 .if1 .taken)
+loop-less c = omega (arith, numbered (c .before .before .before))
 
 loop-again : tie.Need-loop-again Inv-loop μ-loop
 loop-again c =
-    let put-end = c .before .before .before in
-    let step = put-end .before .before .before in
-    let meet-all = step .before .before .before .before .before .before in
-    let fulfil = meet-all .before .before .before .before .before .before in
-    let if2 = fulfil .before .before .before in
-    let state-terms = if2 .before .before .before in
-    let if1 = state-terms .before .before .before .before in
-    let at = if1 .before .before .before in
-    let s = at .before .before .before .before .before .before .before .before .before .before .before in (
-      walk-steps (at .loop .inv .0) (if1 .if1 .taken) (state-terms .state-terms .ensures) (s .pre .0)
-          (if2 .if2 .left) _ (fulfil .fulfil .ensures) (meet-all .meet-all .result)
-          (meet-all .meet-all .last .1 .1 .1 .1 .0) (meet-all .meet-all .last .1 .1 .1 .1 .1 .0)
-          (meet-all .meet-all .ensures) (step .step .given .1) (meet-all .meet-all .kept .1 .1 .1 .1 .0)
-          (meet-all .meet-all .kept .1 .1 .1 .1 .1 .0) (put-end .put-end .ensures),
-      record
-          { products = record { room = state-terms .state-terms .kept .1 .1 .1 .0 ∙ at .loop .inv .1 .products .room; beside = state-terms .state-terms .kept .1 .1 .1 .1 .0 ∙ at .loop .inv .1 .products .beside }; bytes-room = fulfil .fulfil .kept .1 .1 .1 .1 .1 .0 ∙ at .loop .inv .1 .bytes-room },
+    let end = c .before .before .before in
+    let step = end .before .before .before in
+    let meets = met step in
+    let bytes = told meets in
+    let terms = product (small bytes) in
+    let at = turn (taken terms) in
+    let space = at .loop .inv .1 in (
+      walk-steps (at .loop .inv .0) (taken terms .if1 .taken) (terms .state-terms .ensures) (start at .pre .0)
+          (small bytes .if2 .left) _ (bytes .fulfil .ensures) (meets .meet-all .result)
+          (meets .meet-all .last .1 .1 .1 .1 .0) (meets .meet-all .last .1 .1 .1 .1 .1 .0)
+          (meets .meet-all .ensures) (step .step .given .1) (meets .meet-all .kept .1 .1 .1 .1 .0)
+          (meets .meet-all .kept .1 .1 .1 .1 .1 .0) (end .put-end .ensures),
+      record {
+        products = record {
+          room = terms .state-terms .kept .1 .1 .1 .0 ∙ space .products .room;
+          beside = terms .state-terms .kept .1 .1 .1 .1 .0 ∙ space .products .beside;
+        };
+        bytes-room = bytes .fulfil .kept .1 .1 .1 .1 .1 .0 ∙ space .bytes-room;
+      },
     )
 
 same-length-4 : tie.Need-same-length-4 Inv-loop μ-loop
 same-length-4 c =
-    let meet-all = c .before .before .before .before .before .before .before in
-    let far = meet-all .before .before .before .before .before .before .before .before .before .before .before in
-    let at = far .before .before .before .before .before .before .before .before in
-    let s = at .before .before .before .before .before .before .before .before .before .before .before in
-    meet-all .meet-all .kept .1 .1 .1 .1 .0 ∙ at .loop .inv .0 .room .states-room ∙ sym (s .pre .2 .states-room)
+    let meets = stopped (c .before) in
+    let at = turn (turn-of meets) in
+    meets .meet-all .kept .1 .1 .1 .1 .0 ∙ at .loop .inv .0 .room .states-room ∙ sym (start at .pre .2 .states-room)
 
 same-length-5 : tie.Need-same-length-5 Inv-loop μ-loop
 same-length-5 c =
-    let meet-all = c .before .before .before .before .before .before .before in
-    let far = meet-all .before .before .before .before .before .before .before .before .before .before .before in
-    let at = far .before .before .before .before .before .before .before .before in
-    let s = at .before .before .before .before .before .before .before .before .before .before .before in
-    meet-all .meet-all .kept .1 .1 .1 .1 .1 .0 ∙ at .loop .inv .0 .room .transitions-room ∙ sym
-    (s .pre .2 .transitions-room)
+    let meets = stopped (c .before) in
+    let at = turn (turn-of meets) in
+    meets .meet-all .kept .1 .1 .1 .1 .1 .0
+    ∙ at .loop .inv .0 .room .transitions-room
+    ∙ sym (start at .pre .2 .transitions-room)
 
 same-length-6 : tie.Need-same-length-6 Inv-loop μ-loop
 same-length-6 c =
-    let far = c .before .before .before .before .before .before .before .before .before .before .before in
-    let far3 = far .before .before .before .before .before .before .before .before .before .before .before in
-    let at = far3 .before .before .before .before in
-    let s = at .before .before .before .before .before .before .before .before .before .before .before in
-    at .loop .inv .0 .ends-room ∙ sym (s .pre .2 .ends-room)
+    let at = turn (turn-of (stopped (c .before))) in
+    at .loop .inv .0 .ends-room ∙ sym (start at .pre .2 .ends-room)
 
 returns-2 : tie.Need-returns-2 Inv-loop μ-loop
 returns-2 c =
-    let step2 = c .before in
-    let meet-all = step2 .before .before .before .before .before .before in
-    let fulfil = meet-all .before .before .before .before .before .before in
-    let if2 = fulfil .before .before .before in
-    let state-terms = if2 .before .before .before in
-    let if1 = state-terms .before .before .before .before in
-    let at = if1 .before .before .before in
-    let s = at .before .before .before .before .before .before .before .before .before .before .before in
-    walk-refused (at .loop .inv .0) (if1 .if1 .taken) (state-terms .state-terms .ensures) (s .pre .0)
-    (if2 .if2 .left) _ (fulfil .fulfil .ensures) (meet-all .meet-all .result)
-    (meet-all .meet-all .last .1 .1 .1 .1 .0) (meet-all .meet-all .last .1 .1 .1 .1 .1 .0)
-    (meet-all .meet-all .ensures) (step2 .step2 .given .1)
+    let meets = stopped (c .before) in
+    let bytes = told meets in
+    let terms = product (small bytes) in
+    let at = turn (taken terms) in
+    walk-refused (at .loop .inv .0) (taken terms .if1 .taken) (terms .state-terms .ensures) (start at .pre .0)
+    (small bytes .if2 .left) _ (bytes .fulfil .ensures) (meets .meet-all .result)
+    (meets .meet-all .last .1 .1 .1 .1 .0) (meets .meet-all .last .1 .1 .1 .1 .1 .0)
+    (meets .meet-all .ensures) (c .before .step2 .given .1)
 
 returns-3 : tie.Need-returns-3 Inv-loop μ-loop
 returns-3 c = walk-ends (c .before .before .before .loop .inv .0) (c .if1 .left)
