@@ -1,5 +1,5 @@
--- `translation::degeneralize` meets its contract: what it has found when the walk over the pairs begins (`Begun`) says what
--- the walk comes to. Assumes nothing.
+-- `translation::degeneralize` meets its contract: what it has found when the walk over the pairs begins (`Begun`) says
+-- what the walk comes to. Assumes nothing.
 use borrow.Author.Needs.{needs}
 use native.Mathlib.Omega.{arith}
 use mathlib.Core.Path.{refl, sym}
