@@ -1,5 +1,5 @@
 -- A loop that adds bits turn by turn: what it has added is what each turn adds. Assumes nothing.
-use Prim.Native.Nat.{ℕ, _+_, _<_, _≤_}
+use Prim.Native.Nat.{ℕ, _+_, _*_, _/_, _<_, _≤_}
 use mathlib.Core.Path.{_≡_, refl}
 use mathlib.Core.List.{List}
 use mathlib.Core.Logic.{_⊎_, inl, inr, ⊎-elim, ⊎-map}
@@ -7,7 +7,8 @@ use native.Mathlib.Omega.{arith}
 use native.Mathlib.Decide.{ℕ-discrete}
 use lib.ListN.{replicate}
 use Rattle.judge.specs.Memory.{Token, Lifted, Is, Gains}
-use Rattle.judge.proofs.RunBits.{none-set}
+use Rattle.answer.proofs.Zeros.{zeros-at}
+use Rattle.sets.proofs.Bits.{zero-has}
 
 -- what is added, said otherwise
 pub adds-as : {x y : List ℕ} {New New' : (q k : ℕ) → Type 0} → Gains x y New → ((q k : ℕ) → New q k → New' q k)
@@ -53,6 +54,9 @@ adds-row is adds =
     adds-as adds (λ t k h. (h .0, is .only 0 k (h .1) .1)) (λ t k h. (h .0, is .all 0 k (refl, h .1)))
 
 -- to rows that have no bit
+pub none-set : (n q k : ℕ) → Token (replicate n 0) q k → ⊥
+none-set n q k h = zero-has (rw (zeros-at n (4 * q + k / 64)) at (h .bit))
+
 pub is-initial : {rows : List ℕ} {New : (q k : ℕ) → Type 0} (m : ℕ) → Gains (replicate m 0) rows New → Is rows New
 is-initial m adds = record {
   only = λ q k h. ⊎-elim (λ h. absurd (none-set m q k h)) (λ h. h) (adds .only q k h);

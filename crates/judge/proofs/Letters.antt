@@ -13,7 +13,7 @@ use Rattle.automaton.specs.Automaton.{Automaton, Step, Accepts}
 use Rattle.judge.specs.Memory.{Token, Lifted, Is, Gains, Confined, Tells, Moved, moved, lifted, After, Ran}
 use Rattle.judge.specs.Memory.{SomeStarted}
 use Rattle.judge.specs.Limits.{startBit, metBit, rowsWords}
-use Rattle.judge.proofs.RunBits.{none-set}
+use Rattle.judge.proofs.Gathers.{none-set}
 use Rattle.judge.proofs.Decisions.{true-false, false-true}
 
 module _ (a : Automaton) (x : ℕ) where
