@@ -58,19 +58,15 @@ module _ {x via : List ℕ} (q m : ℕ) where
 module _ {x via : List ℕ} (m n : ℕ) where
   -- a turn of the loop over the rows
   module _ {y : List ℕ} (i : ℕ) (inv : Gathering x (λ p r k. (r ≡ p) × Via x via m p k) n y i) where
-    was : {k : ℕ} → Token y i k → Token x i k
-    was = row-was i inv
-
-    is : {k : ℕ} → Token x i k → Token y i k
-    is = row-is i inv
-
     pub turn-covered : m < metBit → Covered x → Token y i (metBit + m) → Token y i m
-    turn-covered lt covered h = is (covered i m lt (was h))
+    turn-covered lt covered h = row-is i inv (covered i m lt (row-was i inv h))
 
     pub turn-through : {z : List ℕ} → Gains y z (λ p k. (p ≡ i) × Via y via m i k)
         → Gains y z (λ p k. (p ≡ i) × Via x via m i k)
-    turn-through adds = adds-as adds (λ p k h. (h .0, ⊎-map (λ v. (was (v .0), v .1)) (λ v. (was (v .0), v .1)) (h .1)))
-        (λ p k h. (h .0, ⊎-map (λ v. (is (v .0), v .1)) (λ v. (is (v .0), v .1)) (h .1)))
+    turn-through adds =
+        adds-as adds
+        (λ p k h. (h .0, ⊎-map (λ v. (row-was i inv (v .0), v .1)) (λ v. (row-was i inv (v .0), v .1)) (h .1)))
+        (λ p k h. (h .0, ⊎-map (λ v. (row-is i inv (v .0), v .1)) (λ v. (row-is i inv (v .0), v .1)) (h .1)))
 
   pub all-through : Through x via m → {y : List ℕ} → Gains x y (λ q k. (p : ℕ) × (p < n) × ((q ≡ p) × Via x via m p k))
       → Gains x y (λ q k. (q < n) × Joined (Token x) m q k)

@@ -1,6 +1,6 @@
 -- What `hasAcceptingPass` computes is right: some point that a run reaches accepts and leads back to itself exactly if
 -- there is an accepting pass. Assumes that targets and initial numbers are states, and that the cycle has a letter.
-use Prim.Native.Nat.{ℕ, zero, suc, _+_, _-_, _*_, _<_, _≤_}
+use Prim.Native.Nat.{ℕ, zero, suc, _+_, _*_, _<_, _≤_}
 use mathlib.Core.Path.{_≡_, refl, sym, _∙_, ap, subst}
 use mathlib.Core.Logic.{_↔_}
 use mathlib.Core.List.{List}

@@ -293,7 +293,7 @@ module _ (a : Automaton) (n : ℕ) (stem cycle : List ℕ) where
         at = pass .at;
         from = refl;
         to = ap (pass .at) (omega arith);
-        steps = λ i lt. subst (λ (x : ℕ). Step a (pass .at i) x (pass .at (suc i))) (letter-stem stem cycle i lt) (pass .steps i (omega arith));
+        steps = λ i lt. same-letter a (letter-stem stem cycle i lt) _ _ (pass .steps i (omega arith));
       }
 
       pass-letter : (e i : ℕ) → i < length cycle → word (passAt e + i) ≡ getD cycle i 0
@@ -309,7 +309,7 @@ module _ (a : Automaton) (n : ℕ) (stem cycle : List ℕ) where
         steps = λ i l.
             let z : suc (passAt e + i) ≡ passAt e + suc i = omega arith in
             subst (λ (t : ℕ). Step a (pass .at (passAt e + i)) (getD cycle i 0) t) (ap (pass .at) z)
-            (subst (λ (x : ℕ). Step a (pass .at (passAt e + i)) x (pass .at (suc (passAt e + i)))) (pass-letter e i l) (pass .steps (passAt e + i) (omega (arith, next e lt))));
+            (same-letter a (pass-letter e i l) _ _ (pass .steps (passAt e + i) (omega (arith, next e lt))));
       }
 
       -- runs over one pass, and from pass to pass
