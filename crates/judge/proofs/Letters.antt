@@ -11,7 +11,7 @@ use native.Mathlib.Decide.{le-ind}
 use lib.ListN.{length, getD, replicate}
 use Rattle.automaton.specs.Automaton.{Automaton, Step, Accepts}
 use Rattle.judge.specs.Memory.{Token, Lifted, Is, Gains, Confined, Tells, Moved, moved, lifted, After, Ran}
-use Rattle.judge.specs.Memory.{SomeStarted}
+use Rattle.judge.specs.Memory.{AfterAll, SomeStarted}
 use Rattle.judge.specs.Limits.{startBit, metBit, rowsWords}
 use Rattle.judge.proofs.Gathers.{none-set, is-made}
 use Rattle.judge.proofs.Decisions.{true-false, false-true}
@@ -122,7 +122,7 @@ module _ (a : Automaton) (n : ℕ) (word before : List ℕ) where
   }
 
   pub run-ends : {x y : List ℕ} (i : ℕ) → i ≡ length word → Running a n word before x y i
-      → Ran true x (After a (λ j. getD word j 0) (Token before) (length word))
+      → Ran true x (AfterAll a word (Token before))
   run-ends i e inv = record { on = λ t. rw e at (inv .bits); lost = λ t. true-false t }
 
   -- runs stay within the n states
@@ -141,14 +141,14 @@ module _ (a : Automaton) (n : ℕ) (word before : List ℕ) where
       }
 
       pub run-stops : {rows : List ℕ} → r ≡ false
-          → Ran false rows (After a (λ j. getD word j 0) (Token before) (length word))
+          → Ran false rows (AfterAll a word (Token before))
       run-stops e = record {
         on = λ t. false-true t;
         lost = λ t. lost-later a (λ j. getD word j 0) (Token before) (suc i)
             (λ q h. ran .lost e q (moved-map a (getD word i 0) _ _ (inv .bits .all) q startBit h)) (length word) (omega arith);
       }
 
-      pub run-last : i + 1 ≡ length word → Ran r z (After a (λ j. getD word j 0) (Token before) (length word))
+      pub run-last : i + 1 ≡ length word → Ran r z (AfterAll a word (Token before))
       run-last l = record {
         on = λ e. run-ends (i + 1) l (run-steps e) .on refl;
         lost = λ e. run-stops {rows = z} e .lost refl;

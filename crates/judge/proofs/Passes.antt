@@ -82,8 +82,7 @@ module _ (a : Automaton) (n : ℕ) (stem cycle : List ℕ) where
     -- ---- the bits of one pass are runs
 
     stemmed-low : (q k : ℕ) → k < maxStates → Stemmed q k → ⊥
-    stemmed-low q k lt h =
-        omega (arith, low-runs a inStem Initial (length stem) (omega arith) h .held .1)
+    stemmed-low q k lt h = omega (arith, low-runs a inStem Initial (length stem) (omega arith) h .held .1)
 
     stemmed-high : (q k p : ℕ) → p < maxStates → k ≡ metBit + p → Stemmed q k → ⊥
     stemmed-high q k p lt e h =

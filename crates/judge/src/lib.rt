@@ -331,7 +331,7 @@ fn begin_passes(n: usize, rows: &mut Rows)
 // all that go round with it meet one too.
 fn runs_to(rows: &Rows, m: usize) -> Row
     requires { ⌜ m < maxStates ⌝ }
-    ensures { λ r. ⌜ Through (now (rows .entry)) r m ⌝ }
+    ensures { λ r. ⌜ Is r (λ p k. (p ≡ 0) × Through (now (rows .entry)) m k) ⌝ }
 {
     let mut via = row_of(rows, m);
     if !has_bit(rows, m, MET + m) {
