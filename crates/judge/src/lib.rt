@@ -36,6 +36,7 @@ const ROWS_WORDS: usize = 4 * automaton::MAX_STATES;
 
 type Rows = [u64; ROWS_WORDS];
 
+// One of them by itself.
 type Row = [u64; 4];
 
 // The bit of the runs from an initial state at letter 0, and how far above a bit the one lies that says the same of
@@ -254,7 +255,7 @@ fn some_started(rows: &Rows, n: usize, back: bool) -> bool
     false
 }
 
-// The same; false if none from an initial state is left.
+// The runs after one letter, in `next`; false if none from an initial state is left.
 fn advance(image: &[u8], n: usize, letter: u8, rows: &Rows, next: &mut Rows) -> bool
     requires { ⌜ Readable (now image) × (n ≡ countsAt (now image) .states) × Confined n (now next) ⌝ }
     ensures { λ r. ⌜ Ran r (now (next .exit))
@@ -264,7 +265,7 @@ fn advance(image: &[u8], n: usize, letter: u8, rows: &Rows, next: &mut Rows) -> 
     some_started(next, n, false)
 }
 
-// The same, in the rows that the runs stood in before. In `next` they are made.
+// The same in `rows` itself, by way of `next`.
 fn advance_here(image: &[u8], n: usize, letter: u8, rows: &mut Rows, next: &mut Rows) -> bool
     requires { ⌜ Readable (now image) × (n ≡ countsAt (now image) .states)
         × Confined n (now rows) × Confined n (now next) ⌝ }
