@@ -59,18 +59,6 @@ module _ (a : Automaton) (x : ℕ) where
     lost = λ e q h. some .no e (q, moved-inside target h, is .all q startBit h);
   }
 
-  -- and in rows to which they are copied
-  pub advanced-copied : {n : ℕ} {r : Bool} {rows next after : List ℕ} → ((p q : ℕ) → Step a p x q → q < n)
-      → Ran r next (Moved a x (Token rows)) → (Confined n next → Is after (Token next))
-      → Ran r after (Moved a x (Token rows))
-  advanced-copied target ran copy = record {
-    on = λ e.
-        let is = ran .on e in
-        let same = copy (λ q k h. moved-inside target (is .only q k h)) in
-        record { only = λ q k h. is .only q k (same .only q k h); all = λ q k h. same .all q k (is .all q k h) };
-    lost = ran .lost;
-  }
-
   moved-low : {Held : (q k : ℕ) → Type 0} {q k : ℕ} → k < metBit → Moved a x Held q k → (p : ℕ) × Held p k
   moved-low lt (moved p q k h s) = (p, h)
   moved-low lt (lifted p q j lj h s acc) = absurd (omega arith)
@@ -146,10 +134,4 @@ module _ (a : Automaton) (n : ℕ) (word before : List ℕ) where
         on = λ t. false-true t;
         lost = λ t. lost-later a (λ j. getD word j 0) (Token before) (suc i)
             (λ q h. ran .lost e q (moved-map a (getD word i 0) _ _ (inv .bits .all) q startBit h)) (length word) (omega arith);
-      }
-
-      pub run-last : i + 1 ≡ length word → Ran r z (AfterAll a word (Token before))
-      run-last l = record {
-        on = λ e. run-ends (i + 1) l (run-steps e) .on refl;
-        lost = λ e. run-stops {rows = z} e .lost refl;
       }

@@ -6,14 +6,14 @@ use mathlib.Core.Bool.{_&&_}
 use mathlib.Core.Logic.{_⊎_, inl, inr, ⊎-elim, ⊎-map}
 use native.Mathlib.Omega.{arith}
 use native.Mathlib.Decide.{ℕ-discrete, decLt}
-use lib.ListN.{length, getD, set, replicate, take, drop, length-set, length-replicate, List·getD-append}
-use lib.Seq.{getD-set-same, getD-set-other, getD-append-add, getD-take, getD-drop, length-take-le}
+use lib.ListN.{length, getD, set, replicate, drop, length-set, length-replicate, List·getD-append}
+use lib.Seq.{getD-set-same, getD-set-other, getD-append-add, getD-drop}
 use lib.Bits.{bitAnd, bitOr, bitXor, and-mask, and-le-l, and-le-r, or-add-and, xor-add-and, xor-self}
 use lib.Dec.{eqb}
 use lib.Pow.{pow-lt}
 use native.Mathlib.Nat.{one-mul, mod-eq-of-lt, add-zero, sub-zero}
 use borrow.Author.Tests.{eqb-true, eqb-false, eq-eqb, ne-eqb}
-use Rattle.judge.specs.Memory.{Token, Lifted, Is, Gains, Confined, Ored, Tells}
+use Rattle.judge.specs.Memory.{Token, Lifted, Gains, Confined, Ored, Tells}
 use Rattle.sets.specs.Bits.{Has}
 use Rattle.sets.proofs.Bits.{or-has, has-or-l, has-or-r, zero-has, pow-has, has-pow}
 use Rattle.judge.specs.Limits.{metBit, rowBits}
@@ -212,52 +212,30 @@ row-none row e k h =
     let w = or-none (getD row 0 0) (getD row 1 0) (g .0) in
     zero-has (rw (four row (4 * 0 + k / 64) (omega (arith, h .within)) (w .0) (w .1) (g .1) (f .1)) at (h .bit))
 
--- ---- the first rows stored
+-- the first n rows are 0, and behind them nothing stood
+pub cleared : (n : ℕ) (old : List ℕ) → Confined n old → {rows : List ℕ}
+    → rows ≡ replicate (4 * n) 0 ++ drop (4 * n) old → (q k : ℕ) → Token rows q k → ⊥
+cleared n old confined {rows} e q k h = go (decLt q n)
+  where
+    zeros : List ℕ
+    zeros = replicate (4 * n) 0
 
--- what stands in front, and what was behind it before
-module _ (m : ℕ) (new old : List ℕ) (size : length new ≡ m) where
-  front : (i : ℕ) → i < m → getD (new ++ drop m old) i 0 ≡ getD new i 0
-  front i lt = List·getD-append new (drop m old) 0 i (omega arith)
+    at : ℕ
+    at = 4 * q + k / 64
 
-  behind : (i : ℕ) → m ≤ i → getD (new ++ drop m old) i 0 ≡ getD old i 0
-  behind i le =
-      let e : i ≡ length new + (i - m) = omega arith in
-      let f : m + (i - m) ≡ i = omega arith in
-      ap (λ (j : ℕ). getD (new ++ drop m old) j 0) e ∙ getD-append-add new (drop m old) (i - m) 0 ∙ getD-drop m old (i - m) 0 ∙ ap (λ (j : ℕ). getD old j 0) f
+    size : length zeros ≡ 4 * n
+    size = length-replicate (4 * n) 0
 
-module _ (n : ℕ) (old : List ℕ) (confined : Confined n old) where
-  -- where nothing stood behind them, the bits are those of the rows stored
-  stored : (new : List ℕ) → length new ≡ 4 * n → Is (new ++ drop (4 * n) old) (λ q k. (q < n) × Token new q k)
-  stored new size = record { only = λ q k h. only q k h (decLt q n); all = λ q k h. all q k (h .0) (h .1) }
-    where
-      word : (q k : ℕ) → q < n → k < rowBits
-          → getD (new ++ drop (4 * n) old) (4 * q + k / 64) 0 ≡ getD new (4 * q + k / 64) 0
-      word q k lt w = front (4 * n) new old size (4 * q + k / 64) (omega arith)
-
-      only : (q k : ℕ) → Token (new ++ drop (4 * n) old) q k → Dec (q < n) → (q < n) × Token new q k
-      only q k h (yes lt) = (lt, same-token (word q k lt (h .within)) h)
-      only q k h (no ge) =
-          absurd (ge (confined q k (same-token (behind (4 * n) new old size (4 * q + k / 64) (omega arith)) h)))
-
-      all : (q k : ℕ) → q < n → Token new q k → Token (new ++ drop (4 * n) old) q k
-      all q k lt h = same-token (sym (word q k lt (h .within))) h
-
-  pub cleared : {rows : List ℕ} → rows ≡ replicate (4 * n) 0 ++ drop (4 * n) old → (q k : ℕ) → Token rows q k → ⊥
-  cleared {rows} e q k h =
-      none-set (4 * n) q k (stored (replicate (4 * n) 0) (length-replicate (4 * n) 0) .only q k (rw e at h) .1)
-
-  pub copied : {rows : List ℕ} (from : List ℕ) → 4 * n ≤ length from → Confined n from
-      → rows ≡ take (4 * n) from ++ drop (4 * n) old → Is rows (Token from)
-  copied {rows} from fits within e = record {
-    only = λ q k h. let (lt, t) = is .only q k (rw e at h) in same-token (word q k lt (h .within)) t;
-    all = λ q k h. let lt = within q k h in rw e (is .all q k (lt, same-token (sym (word q k lt (h .within))) h));
-  }
-    where
-      is : Is (take (4 * n) from ++ drop (4 * n) old) (λ q k. (q < n) × Token (take (4 * n) from) q k)
-      is = stored (take (4 * n) from) (length-take-le (4 * n) from fits)
-
-      word : (q k : ℕ) → q < n → k < rowBits → getD (take (4 * n) from) (4 * q + k / 64) 0 ≡ getD from (4 * q + k / 64) 0
-      word q k lt w = getD-take (4 * n) from (4 * q + k / 64) 0 (omega arith)
+    go : Dec (q < n) → ⊥
+    go (yes lt) =
+        none-set (4 * n) q k
+        (same-token (List·getD-append zeros (drop (4 * n) old) 0 at (omega (arith, size, h .within))) (rw e at h))
+    go (no ge) =
+        let i : 4 * n + (at - 4 * n) ≡ at = omega arith in
+        let z : at ≡ length zeros + (at - 4 * n) = omega (arith, size) in
+        ge (confined q k (same-token (ap (λ (j : ℕ). getD (zeros ++ drop (4 * n) old) j 0) z
+        ∙ getD-append-add zeros (drop (4 * n) old) (at - 4 * n) 0 ∙ getD-drop (4 * n) old (at - 4 * n) 0
+        ∙ ap (λ (j : ℕ). getD old j 0) i) (rw e at h)))
 
 -- ---- one bit
 

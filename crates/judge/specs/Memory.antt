@@ -39,7 +39,7 @@ pub record Is (rows : List ℕ) (Held : (q k : ℕ) → Type 0) : Type 0 where
 abbrev pub Gains : (before after : List ℕ) (New : (q k : ℕ) → Type 0) → Type 0
 Gains before after New = Is after (λ q k. Token before q k ⊎ New q k)
 
--- no row behind the first n has a bit: with n states no others are read, cleared or copied
+-- no row behind the first n has a bit: with n states no others are read or cleared
 abbrev pub Confined : (n : ℕ) (rows : List ℕ) → Type 0
 Confined n rows = (q k : ℕ) → Token rows q k → q < n
 

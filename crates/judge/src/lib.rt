@@ -265,18 +265,6 @@ fn advance(image: &[u8], n: usize, letter: u8, rows: &Rows, next: &mut Rows) -> 
     some_started(next, n, false)
 }
 
-// The same in `rows` itself, by way of `next`.
-fn advance_here(image: &[u8], n: usize, letter: u8, rows: &mut Rows, next: &mut Rows) -> bool
-    requires { ⌜ Readable (now image) × (n ≡ countsAt (now image) .states)
-        × Confined n (now rows) × Confined n (now next) ⌝ }
-    ensures { λ r. ⌜ Ran r (now (rows .exit))
-        (Moved (imageAutomaton (now (image .entry))) letter (Token (now (rows .entry)))) ⌝ }
-{
-    let left = advance(image, n, letter, rows, next);
-    answer::copy_words(rows, next, 4 * n);
-    left
-}
-
 // The runs after all letters of a word. False at the first letter after which none from an initial state is left: then
 // none will be. Two letters lead from `rows` to `next` and back; what the last of an odd word leads to is copied.
 fn run(image: &[u8], n: usize, word: &[u8], rows: &mut Rows) -> bool
@@ -298,7 +286,11 @@ fn run(image: &[u8], n: usize, word: &[u8], rows: &mut Rows) -> bool
     if i == word.len() {
         return true;
     }
-    advance_here(image, n, word[i], rows, &mut next)
+    if !advance(image, n, word[i], rows, &mut next) {
+        return false;
+    }
+    *rows = next;
+    true
 }
 
 // A run begins in each initial state. Their numbers are the image's last.
