@@ -13,19 +13,18 @@ use Rattle.judge.proofs.Gathers.{Gathering, adds-as, adds-none, adds-bo
 -- ---- the row by which runs go on
 
 module _ {rows u : List ℕ} (m : ℕ) (first : Is u (λ p k. (p ≡ 0) × Token rows m k)) where
-  pub through-once : (Token rows m (metBit + m) → ⊥) → Through rows u m
+  pub through-once : (Token rows m (metBit + m) → ⊥) → Is u (λ p k. (p ≡ 0) × Through rows m k)
   through-once none = record {
-    only = λ k h. inl (first .only 0 k h .1);
-    row = λ k h. first .all 0 k (refl, h);
-    again = λ k h l. absurd (none h);
+    only = λ p k h. (first .only p k h .0, inl (first .only p k h .1));
+    all = λ p k h. first .all p k (h .0, ⊎-elim (λ t. t) (λ l. absurd (none (l .0))) (h .1));
   }
 
   pub through-round : {via : List ℕ} → Gains u via (λ p k. (p ≡ 0) × Lifted (Token rows) m k)
-      → Token rows m (metBit + m) → Through rows via m
+      → Token rows m (metBit + m) → Is via (λ p k. (p ≡ 0) × Through rows m k)
   through-round second back = record {
-    only = λ k h. ⊎-map (λ h. first .only 0 k h .1) (λ l. (back, l .1)) (second .only 0 k h);
-    row = λ k h. second .all 0 k (inl (first .all 0 k (refl, h)));
-    again = λ k h l. second .all 0 k (inr (refl, l));
+    only = λ p k h. ⊎-elim (λ h. (first .only p k h .0, inl (first .only p k h .1))) (λ l. (l .0, inr (back, l .1)))
+        (second .only p k h);
+    all = λ p k h. second .all p k (⊎-map (λ t. first .all p k (h .0, t)) (λ l. (h .0, l .1)) (h .1));
   }
 
 -- ---- one row joined with it
@@ -58,36 +57,33 @@ module _ {x via : List ℕ} (q m : ℕ) where
 module _ {x via : List ℕ} (m n : ℕ) where
   -- a turn of the loop over the rows
   module _ {y : List ℕ} (i : ℕ) (inv : Gathering x (λ p r k. (r ≡ p) × Via x via m p k) n y i) where
-    was : {k : ℕ} → Token y i k → Token x i k
-    was = row-was i inv
-
-    is : {k : ℕ} → Token x i k → Token y i k
-    is = row-is i inv
-
     pub turn-covered : m < metBit → Covered x → Token y i (metBit + m) → Token y i m
-    turn-covered lt covered h = is (covered i m lt (was h))
+    turn-covered lt covered h = row-is i inv (covered i m lt (row-was i inv h))
 
     pub turn-through : {z : List ℕ} → Gains y z (λ p k. (p ≡ i) × Via y via m i k)
         → Gains y z (λ p k. (p ≡ i) × Via x via m i k)
-    turn-through adds = adds-as adds (λ p k h. (h .0, ⊎-map (λ v. (was (v .0), v .1)) (λ v. (was (v .0), v .1)) (h .1)))
-        (λ p k h. (h .0, ⊎-map (λ v. (is (v .0), v .1)) (λ v. (is (v .0), v .1)) (h .1)))
+    turn-through adds =
+        adds-as adds
+        (λ p k h. (h .0, ⊎-map (λ v. (row-was i inv (v .0), v .1)) (λ v. (row-was i inv (v .0), v .1)) (h .1)))
+        (λ p k h. (h .0, ⊎-map (λ v. (row-is i inv (v .0), v .1)) (λ v. (row-is i inv (v .0), v .1)) (h .1)))
 
-  pub all-through : Through x via m → {y : List ℕ} → Gains x y (λ q k. (p : ℕ) × (p < n) × ((q ≡ p) × Via x via m p k))
+  pub all-through : Is via (λ p k. (p ≡ 0) × Through x m k) → {y : List ℕ}
+      → Gains x y (λ q k. (p : ℕ) × (p < n) × ((q ≡ p) × Via x via m p k))
       → Gains x y (λ q k. (q < n) × Joined (Token x) m q k)
   all-through t adds = adds-as adds to (λ q k h. (q, h .0, (refl, via-of q k (h .1))))
     where
       -- a bit of the lower half was not lifted
       low : {k : ℕ} (l : Lifted (Token via) 0 k) → Token x m (l .low)
-      low l = ⊎-elim (λ h. h) (λ b. absurd (omega (arith, l .half, b .1 .high))) (t .only (l .low) (l .held))
+      low l = ⊎-elim (λ h. h) (λ b. absurd (omega (arith, l .half, b .1 .high))) (t .only 0 (l .low) (l .held) .1)
 
       joined : (q k : ℕ) → Via x via m q k → Joined (Token x) m q k
-      joined q k (inl (b, h)) = ⊎-elim (λ h. both b h) (λ c. round b (c .0) (c .1)) (t .only k h)
+      joined q k (inl (b, h)) = ⊎-elim (λ h. both b h) (λ c. round b (c .0) (c .1)) (t .only 0 k h .1)
       joined q k (inr (b, l)) = met b (lift-as l (low l))
 
       via-of : (q k : ℕ) → Joined (Token x) m q k → Via x via m q k
-      via-of q k (both b h) = inl (b, t .row k h)
-      via-of q k (met b l) = inr (b, lift-as l (t .row (l .low) (l .held)))
-      via-of q k (round b c l) = inl (b, t .again k c l)
+      via-of q k (both b h) = inl (b, t .all 0 k (refl, inl h))
+      via-of q k (met b l) = inr (b, lift-as l (t .all 0 (l .low) (refl, inl (l .held))))
+      via-of q k (round b c l) = inl (b, t .all 0 k (refl, inr (c, l)))
 
       to : (q k : ℕ) → (p : ℕ) × (p < n) × ((q ≡ p) × Via x via m p k) → (q < n) × Joined (Token x) m q k
       to q k (p, lt, (e, v)) = (omega arith, rw e (joined p k v))

@@ -1,6 +1,6 @@
 -- Tests that tell whether something holds, alone, two in a row, and over the states in turn. Assumes nothing.
 use Prim.Native.Nat.{ℕ, _+_, _<_, _≤_}
-use mathlib.Core.Path.{_≡_}
+use mathlib.Core.Path.{_≡_, sym, _∙_}
 use mathlib.Core.Bool.{Bool, true, false, not}
 use native.Mathlib.Omega.{arith}
 use borrow.Author.Tests.{not-true, not-false}
@@ -19,6 +19,9 @@ module _ {r : Bool} {P : Type 0} (d : Tells r P) where
 
   pub decided-so : not r ≡ false → P
   decided-so e = d .yes (not-false r e)
+
+pub tells-same : {r t : Bool} → r ≡ t → Tells r (t ≡ true)
+tells-same e = record { yes = λ f. sym e ∙ f; no = λ f h. false-true (sym f ∙ e ∙ h) }
 
 pub holds-not : {P : Type 0} → (P → ⊥) → Tells false P
 holds-not np = record { yes = λ e. false-true e; no = λ e h. np h }

@@ -1,5 +1,5 @@
 -- A loop that adds bits turn by turn: what it has added is what each turn adds. Assumes nothing.
-use Prim.Native.Nat.{ℕ, _+_, _<_, _≤_}
+use Prim.Native.Nat.{ℕ, _+_, _*_, _/_, _<_, _≤_}
 use mathlib.Core.Path.{_≡_, refl}
 use mathlib.Core.List.{List}
 use mathlib.Core.Logic.{_⊎_, inl, inr, ⊎-elim, ⊎-map}
@@ -7,7 +7,17 @@ use native.Mathlib.Omega.{arith}
 use native.Mathlib.Decide.{ℕ-discrete}
 use lib.ListN.{replicate}
 use Rattle.judge.specs.Memory.{Token, Lifted, Is, Gains}
-use Rattle.judge.proofs.RunBits.{none-set}
+use Rattle.answer.proofs.Zeros.{zeros-at}
+use Rattle.sets.proofs.Bits.{zero-has}
+
+-- rows by what those held of which they were made
+pub is-made : {x y : List ℕ} {P : (q k : ℕ) → Type 0} (Made : ((q k : ℕ) → Type 0) → (q k : ℕ) → Type 0)
+    → ((P Q : (q k : ℕ) → Type 0) → ((q k : ℕ) → P q k → Q q k) → (q k : ℕ) → Made P q k → Made Q q k)
+    → Is x P → Is y (Made (Token x)) → Is y (Made P)
+is-made Made map p is = record {
+  only = λ q k h. map _ _ (p .only) q k (is .only q k h);
+  all = λ q k h. is .all q k (map _ _ (p .all) q k h);
+}
 
 -- what is added, said otherwise
 pub adds-as : {x y : List ℕ} {New New' : (q k : ℕ) → Type 0} → Gains x y New → ((q k : ℕ) → New q k → New' q k)
@@ -34,14 +44,6 @@ adds-both {x} {y} {z} {P} {Q} first second = record {
     all q k (inr (inl n)) = second .all q k (inl (first .all q k (inr n)))
     all q k (inr (inr n)) = second .all q k (inr n)
 
--- a turn that a test guards adds if the test holds, and else nothing
-pub adds-if : {x y : List ℕ} {New : (q k : ℕ) → Type 0} {P : Type 0} → P → Gains x y New
-    → Gains x y (λ q k. P × New q k)
-adds-if p adds = adds-as adds (λ q k h. (p, h)) (λ q k h. h .1)
-
-pub adds-not : {x : List ℕ} {New : (q k : ℕ) → Type 0} {P : Type 0} → (P → ⊥) → Gains x x (λ q k. P × New q k)
-adds-not np = adds-none (λ q k h. np (h .0))
-
 -- what is lifted in one row, in another
 pub lift-as : {P Q : (q k : ℕ) → Type 0} {p q k : ℕ} (l : Lifted P p k) → Q q (l .low) → Lifted Q q k
 lift-as l h = record { low = l .low; half = l .half; high = l .high; held = h }
@@ -53,6 +55,9 @@ adds-row is adds =
     adds-as adds (λ t k h. (h .0, is .only 0 k (h .1) .1)) (λ t k h. (h .0, is .all 0 k (refl, h .1)))
 
 -- to rows that have no bit
+pub none-set : (n q k : ℕ) → Token (replicate n 0) q k → ⊥
+none-set n q k h = zero-has (rw (zeros-at n (4 * q + k / 64)) at (h .bit))
+
 pub is-initial : {rows : List ℕ} {New : (q k : ℕ) → Type 0} (m : ℕ) → Gains (replicate m 0) rows New → Is rows New
 is-initial m adds = record {
   only = λ q k h. ⊎-elim (λ h. absurd (none-set m q k h)) (λ h. h) (adds .only q k h);

@@ -1,7 +1,7 @@
 -- What `hasAcceptingPass` computes is right: some point that a run reaches accepts and leads back to itself exactly if
 -- there is an accepting pass. Assumes that targets and initial numbers are states, and that the cycle has a letter.
-use Prim.Native.Nat.{ℕ, zero, suc, _+_, _-_, _*_, _<_, _≤_}
-use mathlib.Core.Path.{_≡_, sym, _∙_, ap, subst}
+use Prim.Native.Nat.{ℕ, zero, suc, _+_, _*_, _<_, _≤_}
+use mathlib.Core.Path.{_≡_, refl, sym, _∙_, ap, subst}
 use mathlib.Core.Logic.{_↔_}
 use mathlib.Core.List.{List}
 use mathlib.Core.Bool.{true, _&&_, and-eq-true-iff}
@@ -13,25 +13,14 @@ use Rattle.lasso.specs.Lasso.{letter}
 use Rattle.automaton.specs.Automaton.{Automaton, Step, Accepts, AcceptingPass}
 use Rattle.sets.specs.Sets.{In}
 use Rattle.sets.proofs.Members.{All, map-in, in-map, any-iff}
-use Rattle.automaton.proofs.Passes.{Endless, Pass, numbered, pass-iff, endless-pass, pass-endless}
-use Rattle.judge.proofs.Runs.{Leads, leads-as, leads-on, on-early}
-use Rattle.judge.specs.Search.{Point, point, member, onward, reachedFrom, starts, accepting, hasAcceptingPass}
+use Rattle.automaton.proofs.Passes.{AutomatonOver, Endless, Pass, numbered, pass-iff, endless-pass, pass-endless}
+use Rattle.judge.proofs.Runs.{Leads, same-letter, leads-none, leads-one, leads-on, on-early, leads-snoc}
+use Rattle.judge.specs.Search.{Point, point, member, after, onward, reachedFrom, starts}
+use Rattle.judge.specs.Search.{accepting, hasAcceptingPass}
 use Rattle.judge.proofs.Queue.{Within, few-points, member-iff}
 use Rattle.judge.proofs.Reached.{Reached, search-reaches}
-use Rattle.judge.proofs.Points.{onto, onto-more, onto-pass, letter-onto, step-onward, wordFrom, Walk, walk-none, walk-on, onward-within}
+use Rattle.judge.proofs.Points.{onto, onto-pass, letter-onto, onward-step, step-onward, onward-within}
 use Rattle.automaton.proofs.InRange.{InRange}
-
--- some run from an initial state at position 0 comes to point x
-pub record Reachable (a : Automaton) (stem cycle : List ℕ) (x : Point) : Type 0 where
-  pub start : ℕ
-  pub initial : In start (a .initial)
-  pub count : ℕ
-  pub walk : Walk a stem cycle count (point 0 start) x
-
--- some run over one or more letters leads from x to y
-pub record Beyond (a : Automaton) (stem cycle : List ℕ) (x y : Point) : Type 0 where
-  pub count : ℕ
-  pub walk : Walk a stem cycle (suc count) x y
 
 module _ (a : Automaton) (range : InRange a) (stem cycle : List ℕ) (pos : 0 < length cycle) where
   abbrev word : ℕ → ℕ
@@ -48,108 +37,115 @@ module _ (a : Automaton) (range : InRange a) (stem cycle : List ℕ) (pos : 0 < 
 
   -- ---- what the searches meet
 
-  abbrev Known : Point → Type 0
-  Known x = Within N (s + n) x × Reachable a stem cycle x
+  -- from point to point
+  abbrev Go : (i : ℕ) (x y : Point) → Type 0
+  Go i x y = In y (onward a stem cycle x)
 
-  known-on : (x : Point) → Known x → All Known (onward a stem cycle x)
-  known-on x (w, r) z h = (
-    onward-within a stem cycle range pos x z h,
-    record { start = r .start; initial = r .initial; count = suc (r .count); walk = walk-on a stem cycle (r .walk) z h },
-  )
+  -- some run from one of these points comes to x, within bounds
+  record Comes (from : List Point) (x : Point) : Type 0 where
+    within : Within N (s + n) x
+    start : Point
+    given : In start from
+    count : ℕ
+    run : Leads Go count start x
 
-  known-starts : All Known (starts a stem cycle)
-  unfolding starts
-  known-starts x h =
-      let (q, m, e) = map-in (point 0) x (a .initial) h in
-      subst Known (sym e) (
-        record { position = omega arith; state = range .initial q m },
-        record { start = q; initial = m; count = 0; walk = walk-none a stem cycle (point 0 q) },
-      )
+  -- what the search from them meets
+  abbrev Meeting : List Point → Type 0
+  Meeting from = Reached a stem cycle (Comes from) from (reachedFrom a stem cycle from)
 
-  -- a search from points of which P holds, that P goes over to what follows, and that are within bounds
-  searched : (P : Point → Type 0) → ((x : Point) → P x → All P (onward a stem cycle x)) → ((x : Point) → P x → Within N (s + n) x) → (from : List Point) → All P from
-      → Reached a stem cycle P from (reachedFrom a stem cycle from)
+  searched : (from : List Point) → All (Within N (s + n)) from → Meeting from
   unfolding reachedFrom
-  searched P on within from all =
-      search-reaches a stem cycle P on (N * (s + n)) (λ xs u h. few-points N (s + n) xs u (λ x m. within x (h x m))) from (N * (s + n)) (omega arith) all
-
-  from-starts : Reached a stem cycle Known (starts a stem cycle) (reachedFrom a stem cycle (starts a stem cycle))
-  from-starts = searched Known known-on (λ x h. h .0) (starts a stem cycle) known-starts
-
-  abbrev After : (x y : Point) → Type 0
-  After x y = Within N (s + n) y × Beyond a stem cycle x y
-
-  from-after : (x : Point) → Reached a stem cycle (After x) (onward a stem cycle x) (reachedFrom a stem cycle (onward a stem cycle x))
-  from-after x = searched (After x) on (λ y h. h .0) (onward a stem cycle x) first
+  searched from all =
+      search-reaches a stem cycle (Comes from) on (N * (s + n))
+      (λ xs u h. few-points N (s + n) xs u (λ x m. h x m .within)) from (N * (s + n)) (omega arith)
+      (λ x h. record { within = all x h; start = x; given = h; count = 0; run = leads-none x })
     where
-      on : (y : Point) → After x y → All (After x) (onward a stem cycle y)
-      on y (w, b) z h = (onward-within a stem cycle range pos y z h, record { count = suc (b .count); walk = walk-on a stem cycle (b .walk) z h })
+      on : (x : Point) → Comes from x → All (Comes from) (onward a stem cycle x)
+      on x c z h = record {
+        within = onward-within a stem cycle range pos x z h;
+        start = c .start;
+        given = c .given;
+        count = suc (c .count);
+        run = leads-snoc (c .run) h;
+      }
 
-      first : All (After x) (onward a stem cycle x)
-      first z h = (onward-within a stem cycle range pos x z h, record { count = 0; walk = walk-on a stem cycle (walk-none a stem cycle x) z h })
+  -- an initial state, at position 0
+  started : (x : Point) → In x (starts a stem cycle) → (x .position ≡ 0) × In (x .state) (a .initial)
+  unfolding starts
+  started x h =
+      let (q, m, e) = map-in (point 0) x (a .initial) h in
+      (ap (λ (y : Point). y .position) e, subst (λ (k : ℕ). In k (a .initial)) (sym (ap (λ (y : Point). y .state) e)) m)
+
+  from-starts : Meeting (starts a stem cycle)
+  from-starts = searched (starts a stem cycle)
+      (λ x h. record { position = omega (arith, started x h .0); state = range .initial (x .state) (started x h .1) })
+
+  from-after : (x : Point) → Meeting (onward a stem cycle x)
+  from-after x = searched (onward a stem cycle x) (onward-within a stem cycle range pos x)
 
   -- ---- from a point that leads back to itself to an accepting pass
 
-  -- a run whose last m letters come again and again, and lead from a state that accepts to itself
-  module _ (S m : ℕ) (some : 0 < m) {q t : ℕ} (start : In q (a .initial)) (r : Leads a word (S + m) q t) (same : r .at S ≡ r .at (S + m)) (acc : Accepts a (r .at S)) (round : (i : ℕ) → S ≤ i → word (i + m) ≡ word i) where
-    turned : Pass S m word (numbered a)
-    turned = record {
-      at = r .at;
-      first = 0;
-      second = 1;
-      later = omega arith;
-      begins = subst (λ (k : ℕ). In k (a .initial)) (sym (r .from)) start;
-      steps = λ i l. r .steps i (omega arith);
-      same =
-          let z : S + 0 * m ≡ S = omega arith in
-          let y : S + 1 * m ≡ S + m = omega arith in
-          ap (r .at) z ∙ same ∙ sym (ap (r .at) y);
-      accepts = (S, omega arith, omega arith, acc);
+  -- the points as states, with no letters
+  abbrev pointed : AutomatonOver Point
+  pointed = record {
+    Initial = λ x. In x (starts a stem cycle);
+    Step = λ x l y. In y (onward a stem cycle x);
+    Accepting = λ x. Accepts a (x .state);
+  }
+
+  -- an endless run over points is one over the word's letters
+  module _ (p : ℕ → Point) (run : Endless (λ i. 0) pointed p) where
+    position : (i : ℕ) → p i .position ≡ onto stem cycle i
+    unfolding onto
+    position zero = started (p 0) (run .begins) .0
+    position (suc i) =
+        onward-step a stem cycle (p i) (p (suc i)) (run .steps i) .0 ∙ ap (after stem cycle) (position i)
+
+    states : Endless word (numbered a) (λ i. p i .state)
+    states = record {
+      begins = started (p 0) (run .begins) .1;
+      steps = λ i. same-letter a (ap word (position i) ∙ letter-onto stem cycle pos i) (p i .state) (p (suc i) .state)
+          (onward-step a stem cycle (p i) (p (suc i)) (run .steps i) .1);
+      again = run .again;
     }
 
-    few : (p : ℕ → ℕ) → Endless word (numbered a) p → (i : ℕ) → p i < N
-    few p run zero = range .initial (p 0) (run .begins)
-    few p run (suc i) = range .targets _ _ _ (run .steps i)
+    few : (i : ℕ) → p i .state < N
+    few zero = range .initial (p 0 .state) (states .begins)
+    few (suc i) = range .targets _ _ _ (states .steps i)
 
-    pub repeated : AcceptingPass a stem cycle
-    repeated = made (pass-endless S m some word round (numbered a) turned)
-      where
-        made : (p : ℕ → ℕ) × Endless word (numbered a) p → AcceptingPass a stem cycle
-        made (p, run) =
-            pass-iff a stem cycle .1 (endless-pass s n pos word (numbered a) p run N (few p run))
+    endless-accepts : AcceptingPass a stem cycle
+    endless-accepts = pass-iff a stem cycle .1 (endless-pass s n pos word (numbered a) (λ i. p i .state) states N few)
 
-  module _ (x : Point) (r : Reachable a stem cycle x) (b : Beyond a stem cycle x x) where
-    abbrev d : ℕ
-    d = r .count
+  module _ (x : Point) (c : Comes (starts a stem cycle) x) (b : Comes (onward a stem cycle x) x) where
+    round : Leads Go (1 + b .count) x x
+    round = leads-on (λ i lt y z h. h) (leads-one (b .given)) (b .run)
 
-    abbrev e : ℕ
-    e = suc (b .count)
+    whole : Leads Go (c .count + (1 + b .count)) (c .start) x
+    whole = leads-on (λ i lt y z h. h) (c .run) round
 
-    -- positions after the run to x
-    on-from : (i : ℕ) → onto stem cycle 0 (d + i) ≡ onto stem cycle (x .position) i
-    on-from i = onto-more stem cycle 0 d i ∙ ap (λ (p : ℕ). onto stem cycle p i) (r .walk .ends)
-
-    on-round : (i : ℕ) → d ≤ i → onto stem cycle 0 (i + e) ≡ onto stem cycle 0 i
-    on-round i l =
-        let z : i + e ≡ d + (e + (i - d)) = omega arith in
-        let y : d + (i - d) ≡ i = omega arith in
-        ap (onto stem cycle 0) z ∙ on-from (e + (i - d)) ∙ onto-more stem cycle (x .position) e (i - d) ∙ ap (λ (p : ℕ). onto stem cycle p (i - d)) (b .walk .ends)
-        ∙ sym (on-from (i - d)) ∙ ap (onto stem cycle 0) y
-
-    same-letters : (i : ℕ) → i < e → wordFrom a stem cycle (x .position) i ≡ wordFrom a stem cycle 0 (d + i)
-    same-letters i l = ap word (sym (on-from i))
-
-    whole : Leads a (wordFrom a stem cycle 0) (d + e) (r .start) (x .state)
-    whole = leads-on a same-letters (r .walk .run) (b .walk .run)
-
-    whole-first : whole .at d ≡ x .state
+    whole-first : whole .at (c .count) ≡ x
     unfolding whole
-    whole-first = on-early a same-letters (r .walk .run) (b .walk .run) d (omega arith) ∙ r .walk .run .to
+    whole-first = on-early (λ i lt y z h. h) (c .run) round (c .count) (omega arith) ∙ c .run .to
 
-    pub looped : Accepts a (x .state) → AcceptingPass a stem cycle
-    looped acc = repeated d e (omega arith) (r .initial) (leads-as a (λ i l. letter-onto stem cycle pos i) whole) (whole-first ∙ sym (whole .to))
-        (subst (λ (k : ℕ). Accepts a k) (sym whole-first) acc)
-        (λ i l. sym (letter-onto stem cycle pos (i + e)) ∙ ap word (on-round i l) ∙ letter-onto stem cycle pos i)
+    looped : Accepts a (x .state) → AcceptingPass a stem cycle
+    looped acc =
+        let (p, run) = pass-endless (c .count) (1 + b .count) (omega arith) (λ i. 0) (λ i l. refl) pointed turned in
+        endless-accepts p run
+      where
+        turned : Pass (c .count) (1 + b .count) (λ i. 0) pointed
+        turned =
+            let z : c .count + 0 * (1 + b .count) ≡ c .count = omega arith in
+            let y : c .count + 1 * (1 + b .count) ≡ c .count + (1 + b .count) = omega arith in
+            record {
+              at = whole .at;
+              first = 0;
+              second = 1;
+              later = omega arith;
+              begins = rw (whole .from) (c .given);
+              steps = λ i l. whole .steps i (omega arith);
+              same = ap (whole .at) z ∙ whole-first ∙ sym (ap (whole .at) y ∙ whole .to);
+              accepts = (c .count, omega arith, omega arith, rw whole-first acc);
+            }
 
   -- ---- from an accepting pass to a point that leads back to itself
 
@@ -164,7 +160,7 @@ module _ (a : Automaton) (range : InRange a) (stem cycle : List ℕ) (pos : 0 < 
     low-high = omega (arith, mul-le-mul-right n (pass .later), suc-mul (pass .first) n)
 
     here : ℕ → Point
-    here i = point (onto stem cycle 0 i) (pass .at i)
+    here i = point (onto stem cycle i) (pass .at i)
 
     here-round : here low ≡ here high
     unfolding here
@@ -175,7 +171,7 @@ module _ (a : Automaton) (range : InRange a) (stem cycle : List ℕ) (pos : 0 < 
 
     here-on : (i : ℕ) → i < high → In (here (suc i)) (onward a stem cycle (here i))
     unfolding here onto
-    here-on i l = step-onward a stem cycle (onto stem cycle 0 i) (pass .at i) (pass .at (suc i))
+    here-on i l = step-onward a stem cycle (onto stem cycle i) (pass .at i) (pass .at (suc i))
         (subst (λ (x : ℕ). Step a (pass .at i) x (pass .at (suc i))) (sym (letter-onto stem cycle pos i)) (pass .steps i l))
 
     -- a search that meets one point of the run meets those after it
@@ -221,7 +217,7 @@ module _ (a : Automaton) (range : InRange a) (stem cycle : List ℕ) (pos : 0 < 
       let (x, m, t) = found in
       let (acc, again) = and-eq-true-iff (accepting a stem cycle x) _ .0 t in
       let after = member-iff x (reachedFrom a stem cycle (onward a stem cycle x)) .0 again in
-      looped x (from-starts .sound x m .1) (from-after x .sound x after .1) acc
+      looped x (from-starts .sound x m) (from-after x .sound x after) acc
 
   -- the search is right about accepting passes
   pub has-accepting-pass-iff : (hasAcceptingPass a stem cycle ≡ true) ↔ AcceptingPass a stem cycle

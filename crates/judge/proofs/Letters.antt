@@ -11,9 +11,9 @@ use native.Mathlib.Decide.{le-ind}
 use lib.ListN.{length, getD, replicate}
 use Rattle.automaton.specs.Automaton.{Automaton, Step, Accepts}
 use Rattle.judge.specs.Memory.{Token, Lifted, Is, Gains, Confined, Tells, Moved, moved, lifted, After, Ran}
-use Rattle.judge.specs.Memory.{SomeStarted}
+use Rattle.judge.specs.Memory.{AfterAll, SomeStarted}
 use Rattle.judge.specs.Limits.{startBit, metBit, rowsWords}
-use Rattle.judge.proofs.RunBits.{none-set}
+use Rattle.judge.proofs.Gathers.{none-set, is-made}
 use Rattle.judge.proofs.Decisions.{true-false, false-true}
 
 module _ (a : Automaton) (x : ℕ) where
@@ -59,25 +59,14 @@ module _ (a : Automaton) (x : ℕ) where
     lost = λ e q h. some .no e (q, moved-inside target h, is .all q startBit h);
   }
 
-  -- and in rows to which they are copied
-  pub advanced-copied : {n : ℕ} {r : Bool} {rows next after : List ℕ} → ((p q : ℕ) → Step a p x q → q < n)
-      → Ran r next (Moved a x (Token rows)) → (Confined n next → Is after (Token next))
-      → Ran r after (Moved a x (Token rows))
-  advanced-copied target ran copy = record {
-    on = λ e.
-        let is = ran .on e in
-        let same = copy (λ q k h. moved-inside target (is .only q k h)) in
-        record { only = λ q k h. is .only q k (same .only q k h); all = λ q k h. same .all q k (is .all q k h) };
-    lost = ran .lost;
-  }
-
   moved-low : {Held : (q k : ℕ) → Type 0} {q k : ℕ} → k < metBit → Moved a x Held q k → (p : ℕ) × Held p k
   moved-low lt (moved p q k h s) = (p, h)
   moved-low lt (lifted p q j lj h s acc) = absurd (omega arith)
 
-  pub moved-map : {P Q : (q k : ℕ) → Type 0} → ((q k : ℕ) → P q k → Q q k) → {q k : ℕ} → Moved a x P q k → Moved a x Q q k
-  moved-map f (moved p q k h s) = moved p q k (f p k h) s
-  moved-map f (lifted p q j lt h s acc) = lifted p q j lt (f p j h) s acc
+  pub moved-map : (P Q : (q k : ℕ) → Type 0) → ((q k : ℕ) → P q k → Q q k)
+      → (q k : ℕ) → Moved a x P q k → Moved a x Q q k
+  moved-map P Q f _ _ (moved p q k h s) = moved p q k (f p k h) s
+  moved-map P Q f _ _ (lifted p q j lt h s acc) = lifted p q j lt (f p j h) s acc
 
 -- runs that have met an accepting state are runs
 pub after-covered : (a : Automaton) (w : ℕ → ℕ) {Held : (q k : ℕ) → Type 0}
@@ -121,7 +110,7 @@ module _ (a : Automaton) (n : ℕ) (word before : List ℕ) where
   }
 
   pub run-ends : {x y : List ℕ} (i : ℕ) → i ≡ length word → Running a n word before x y i
-      → Ran true x (After a (λ j. getD word j 0) (Token before) (length word))
+      → Ran true x (AfterAll a word (Token before))
   run-ends i e inv = record { on = λ t. rw e at (inv .bits); lost = λ t. true-false t }
 
   -- runs stay within the n states
@@ -133,27 +122,16 @@ module _ (a : Automaton) (n : ℕ) (word before : List ℕ) where
     -- a letter, with the runs after it in the other list; or none from an initial state is left
     module _ (lt : i < length word) {r : Bool} {z : List ℕ} (ran : Ran r z (Moved a (getD word i 0) (Token x))) where
       pub run-steps : r ≡ true → Running a n word before z x (i + 1)
-      run-steps e =
-          let is = ran .on e in
-          record {
-            within = omega arith;
-            confined = run-confined;
-            bits = rw add-one (record {
-              only = λ q k h. moved-map a (getD word i 0) (inv .bits .only) (is .only q k h);
-              all = λ q k h. is .all q k (moved-map a (getD word i 0) (inv .bits .all) h);
-            });
-          }
+      run-steps e = record {
+        within = omega arith;
+        confined = run-confined;
+        bits = rw add-one (is-made (Moved a (getD word i 0)) (moved-map a (getD word i 0)) (inv .bits) (ran .on e));
+      }
 
       pub run-stops : {rows : List ℕ} → r ≡ false
-          → Ran false rows (After a (λ j. getD word j 0) (Token before) (length word))
+          → Ran false rows (AfterAll a word (Token before))
       run-stops e = record {
         on = λ t. false-true t;
         lost = λ t. lost-later a (λ j. getD word j 0) (Token before) (suc i)
-            (λ q h. ran .lost e q (moved-map a (getD word i 0) (inv .bits .all) h)) (length word) (omega arith);
-      }
-
-      pub run-last : i + 1 ≡ length word → Ran r z (After a (λ j. getD word j 0) (Token before) (length word))
-      run-last l = record {
-        on = λ e. run-ends (i + 1) l (run-steps e) .on refl;
-        lost = λ e. run-stops {rows = z} e .lost refl;
+            (λ q h. ran .lost e q (moved-map a (getD word i 0) _ _ (inv .bits .all) q startBit h)) (length word) (omega arith);
       }

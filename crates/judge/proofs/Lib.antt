@@ -1,7 +1,7 @@
 -- What the proofs of several functions cite, and why the search is right. Assumes nothing.
-pub mod RunBits
 pub mod Decisions
 pub mod Gathers
+pub mod RunBits
 pub mod Turns
 pub mod Letters
 pub mod Closure

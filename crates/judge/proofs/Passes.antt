@@ -15,7 +15,8 @@ use Rattle.sets.specs.Sets.{In}
 use Rattle.judge.specs.Memory.{After, Linked, one, join, joinMet}
 use Rattle.judge.specs.Limits.{startBit, metBit}
 use Rattle.automaton.specs.Limits.{maxStates}
-use Rattle.judge.proofs.Runs.{Leads, Meets, leads-as, meets-as, leads-on, on-early, on-late}
+use Rattle.judge.proofs.Runs.{Leads, Over, Meets, same-letter, leads-as, leads-on, on-early, on-late}
+use Rattle.judge.proofs.Runs.{meets-on, on-meets}
 use Rattle.judge.proofs.Letters.{after-covered}
 use Rattle.judge.proofs.Arrivals.{Arrived, low-runs, high-runs, run-bits, met-bits}
 
@@ -73,19 +74,15 @@ module _ (a : Automaton) (n : ℕ) (stem cycle : List ℕ) where
   abbrev turn : ℕ → ℕ
   turn = round stem cycle
 
-  -- a run from an initial state to q, over the stem and the letters behind it
-  record FromStart (d q : ℕ) : Type 0 where
-    pub start : ℕ
-    pub initial : In start (a .initial)
-    pub run : Leads a word (length stem + d) start q
+  -- a run from an initial state to q, over the stem and d letters behind it
+  abbrev FromStart : (d q : ℕ) → Type 0
+  FromStart d q = Arrived Initial (Leads (Over a word) (length stem + d)) q startBit
 
   module _ (few : n ≤ maxStates) where
     -- ---- the bits of one pass are runs
 
     stemmed-low : (q k : ℕ) → k < maxStates → Stemmed q k → ⊥
-    stemmed-low q k lt h =
-        let m : Arrived a inStem Initial (length stem) q k = low-runs a inStem Initial (length stem) (omega arith) h in
-        omega (arith, m .held .1)
+    stemmed-low q k lt h = omega (arith, low-runs a inStem Initial (length stem) (omega arith) h .held .1)
 
     stemmed-high : (q k p : ℕ) → p < maxStates → k ≡ metBit + p → Stemmed q k → ⊥
     stemmed-high q k p lt e h =
@@ -109,10 +106,10 @@ module _ (a : Automaton) (n : ℕ) (stem cycle : List ℕ) where
             inl (after-covered a inStem (λ p j lj (h, e). absurd (omega arith)) (length stem) q k lt h)
         begun q k lt (inr (l, e)) = absurd (omega arith)
 
-    passed-low : {q p : ℕ} → p < maxStates → Passed q p → Leads a inCycle (length cycle) p q
+    passed-low : {q p : ℕ} → p < maxStates → Passed q p → Leads (Over a inCycle) (length cycle) p q
     passed-low {q} {p} lt h =
-        let m : Arrived a inCycle Begun (length cycle) q p = low-runs a inCycle Begun (length cycle) (omega arith) h in
-        subst (λ (s : ℕ). Leads a inCycle (length cycle) s q) (begun-low (m .start) p lt (m .held)) (m .run)
+        let m = low-runs a inCycle Begun (length cycle) (omega arith) h in
+        subst (λ (s : ℕ). Leads (Over a inCycle) (length cycle) s q) (begun-low (m .start) p lt (m .held)) (m .run)
 
     passed-high : {q : ℕ} (p : ℕ) → p < maxStates → Passed q (metBit + p) → Meets a inCycle (length cycle) p q
     passed-high {q} p lt h =
@@ -122,89 +119,98 @@ module _ (a : Automaton) (n : ℕ) (stem cycle : List ℕ) where
     passed-start : {q : ℕ} → Passed q startBit → FromStart (length cycle) q
     passed-start {q} h = go (m .held)
       where
-        m : Arrived a inCycle Begun (length cycle) q startBit
+        m : Arrived Begun (Leads (Over a inCycle) (length cycle)) q startBit
         m = low-runs a inCycle Begun (length cycle) (omega arith) h
 
-        made : Arrived a inStem Initial (length stem) (m .start) startBit → FromStart (length cycle) q
-        made b = record {
-          start = b .start;
-          initial = b .held .0;
-          run = leads-on a (λ i lt. sym (letter-round stem cycle i ∙ round-first stem cycle i lt)) (leads-as a (λ i lt. sym (letter-stem stem cycle i lt)) (b .run)) (m .run);
-        }
-
         go : Begun (m .start) startBit → FromStart (length cycle) q
-        go (inl b) = made (low-runs a inStem Initial (length stem) (omega arith) b)
+        go (inl b) =
+            let c = low-runs a inStem Initial (length stem) (omega arith) b in
+            record {
+              start = c .start;
+              held = c .held;
+              run = leads-on (λ i lt. same-letter a (sym (letter-round stem cycle i ∙ round-first stem cycle i lt)))
+                  (leads-as (λ i lt. same-letter a (sym (letter-stem stem cycle i lt))) (c .run)) (m .run);
+            }
         go (inr (l, e)) = absurd (omega arith)
 
     -- ---- and so are those of several
 
+    -- R of the letters of one or more passes
+    abbrev Several : (R : ℕ → Type 0) → Type 0
+    Several R = (e : ℕ) × R (suc e * length cycle)
+
+    -- runs over so many letters: from p to q, from an initial state to q, and such that have met an accepting state
+    abbrev Runs : (p q : ℕ) → Type 0
+    Runs p q = Several (λ d. Leads (Over a turn) d p q)
+
+    abbrev Starts : ℕ → Type 0
+    Starts q = Several (λ d. FromStart d q)
+
+    abbrev Mets : (p q : ℕ) → Type 0
+    Mets p q = Several (λ d. Meets a turn d p q)
+
     -- what bit k of row q says once passes are put together
     record Means (q k : ℕ) : Type 0 where
-      pub runs : k < maxStates → (e : ℕ) × Leads a turn (suc e * length cycle) k q
-      pub starts : k ≡ startBit → (e : ℕ) × FromStart (suc e * length cycle) q
-      pub mets : (p : ℕ) → p < maxStates → k ≡ metBit + p → (e : ℕ) × Meets a turn (suc e * length cycle) p q
+      pub runs : k < maxStates → Runs k q
+      pub starts : k ≡ startBit → Starts q
+      pub mets : (p : ℕ) → p < maxStates → k ≡ metBit + p → Mets p q
 
-    once : (P : ℕ → Type 0) → P (length cycle) → (e : ℕ) × P (suc e * length cycle)
-    once P h =
+    once : (R : ℕ → Type 0) → R (length cycle) → Several R
+    once R h =
         let z : length cycle ≡ 1 * length cycle = omega arith in
-        (0, subst P z h)
+        (0, subst R z h)
 
-    more : (P : ℕ → Type 0) (d e : ℕ) → P (suc d * length cycle + suc e * length cycle) → (e : ℕ) × P (suc e * length cycle)
-    more P d e h =
+    more : (R : ℕ → Type 0) (d e : ℕ) → R (suc d * length cycle + suc e * length cycle) → Several R
+    more R d e h =
         let z : suc d * length cycle + suc e * length cycle ≡ suc (d + suc e) * length cycle = omega arith in
-        (d + suc e, subst P z h)
+        (d + suc e, subst R z h)
 
-    in-turn : (i : ℕ) → i < length cycle → getD cycle i 0 ≡ turn i
-    in-turn i lt = sym (round-first stem cycle i lt)
+    in-turn : {p q : ℕ} → Leads (Over a inCycle) (length cycle) p q → Leads (Over a turn) (length cycle) p q
+    in-turn = leads-as (λ i lt. same-letter a (sym (round-first stem cycle i lt)))
 
     means-one : (q k : ℕ) → Passed q k → Means q k
+    unfolding in-turn
     means-one q k h = record {
-      runs = λ lt. once (λ d. Leads a turn d k q) (leads-as a in-turn (passed-low lt h));
+      runs = λ lt. once (λ d. Leads (Over a turn) d k q) (in-turn (passed-low lt h));
       starts = λ e. once (λ d. FromStart d q) (passed-start (subst (λ (j : ℕ). Passed q j) e h));
-      mets = λ p lt e. once (λ d. Meets a turn d p q)
-          (meets-as a in-turn (passed-high p lt (subst (λ (j : ℕ). Passed q j) e h)));
+      mets = λ p lt e.
+          let m = passed-high p lt (subst (λ (j : ℕ). Passed q j) e h) in
+          once (λ d. Meets a turn d p q) (record {
+            run = in-turn (m .run);
+            index = m .index;
+            after = m .after;
+            before = m .before;
+            accepts = m .accepts;
+          });
     }
 
     -- a run on through further passes
-    later : (d i : ℕ) → turn i ≡ turn (suc d * length cycle + i)
-    later d i = sym (round-later stem cycle (suc d) i)
+    later : (d i p q : ℕ) → Over a turn i p q → Over a turn (suc d * length cycle + i) p q
+    later d i = same-letter a (sym (round-later stem cycle (suc d) i))
 
-    later-word : (d i : ℕ) → turn i ≡ word (length stem + suc d * length cycle + i)
-    later-word d i =
+    later-word : (d i p q : ℕ) → Over a turn i p q → Over a word (length stem + suc d * length cycle + i) p q
+    later-word d i p q s =
         let z : length stem + (suc d * length cycle + i) ≡ length stem + suc d * length cycle + i = omega arith in
-        later d i ∙ sym (letter-round stem cycle (suc d * length cycle + i)) ∙ ap word z
+        same-letter a (sym (letter-round stem cycle (suc d * length cycle + i)) ∙ ap word z) p q (later d i p q s)
 
-    runs-on : {p m q : ℕ} → (d : ℕ) × Leads a turn (suc d * length cycle) p m → (e : ℕ) × Leads a turn (suc e * length cycle) m q → (e : ℕ) × Leads a turn (suc e * length cycle) p q
-    runs-on {p} {m} {q} (d, f) (e, g) = more (λ c. Leads a turn c p q) d e (leads-on a (λ i lt. later d i) f g)
+    runs-on : {p m q : ℕ} → Runs p m → Runs m q → Runs p q
+    runs-on {p} {m} {q} (d, f) (e, g) = more (λ c. Leads (Over a turn) c p q) d e (leads-on (λ i lt. later d i) f g)
 
-    start-on : {m q : ℕ} → (d : ℕ) × FromStart (suc d * length cycle) m → (e : ℕ) × Leads a turn (suc e * length cycle) m q → (e : ℕ) × FromStart (suc e * length cycle) q
+    start-on : {m q : ℕ} → Starts m → Runs m q → Starts q
     start-on {m} {q} (d, f) (e, g) =
-        let z : length stem + suc d * length cycle + suc e * length cycle ≡ length stem + (suc d * length cycle + suc e * length cycle) = omega arith in
+        let z : length stem + suc d * length cycle + suc e * length cycle
+        ≡ length stem + (suc d * length cycle + suc e * length cycle) = omega arith in
         more (λ c. FromStart c q) d e (record {
           start = f .start;
-          initial = f .initial;
-          run = subst (λ (c : ℕ). Leads a word c (f .start) q) z (leads-on a (λ i lt. later-word d i) (f .run) g);
+          held = f .held;
+          run = subst (λ (c : ℕ). Leads (Over a word) c (f .start) q) z (leads-on (λ i lt. later-word d i) (f .run) g);
         })
 
-    met-on : {p m q : ℕ} → (d : ℕ) × Meets a turn (suc d * length cycle) p m
-        → (e : ℕ) × Leads a turn (suc e * length cycle) m q → (e : ℕ) × Meets a turn (suc e * length cycle) p q
-    met-on {p} {m} {q} (d, f) (e, g) = more (λ c. Meets a turn c p q) d e (record {
-      run = leads-on a (λ i lt. later d i) (f .run) g;
-      index = f .index;
-      after = f .after;
-      before = omega (arith, f .before);
-      accepts = rw (on-early a (λ i lt. later d i) (f .run) g (f .index) (f .before)) (f .accepts);
-    })
+    met-on : {p m q : ℕ} → Mets p m → Runs m q → Mets p q
+    met-on {p} {m} {q} (d, f) (e, g) = more (λ c. Meets a turn c p q) d e (meets-on (λ i lt. later d i) f g)
 
-    on-met : {p m q : ℕ} → (d : ℕ) × Leads a turn (suc d * length cycle) p m
-        → (e : ℕ) × Meets a turn (suc e * length cycle) m q → (e : ℕ) × Meets a turn (suc e * length cycle) p q
-    on-met {p} {m} {q} (d, f) (e, g) = more (λ c. Meets a turn c p q) d e (record {
-      run = leads-on a (λ i lt. later d i) f (g .run);
-      index = suc d * length cycle + g .index;
-      after = omega (arith, g .after);
-      before = omega (arith, g .before);
-      accepts = rw (on-late a (λ i lt. later d i) f (g .run) (g .index)) (g .accepts);
-    })
+    on-met : {p m q : ℕ} → Runs p m → Mets m q → Mets p q
+    on-met {p} {m} {q} (d, f) (e, g) = more (λ c. Meets a turn c p q) d e (on-meets (λ i lt. later d i) f g)
 
     means : {q k : ℕ} → Linked n Passed q k → Means q k
     means (one q k h) = means-one q k h
@@ -218,46 +224,46 @@ module _ (a : Automaton) (n : ℕ) (stem cycle : List ℕ) where
       starts = λ e. absurd (omega arith);
       mets = λ p lt e.
           let z : k ≡ p = omega arith in
-          let to = subst (λ (j : ℕ). (e : ℕ) × Leads a turn (suc e * length cycle) j m) z (means h .runs (omega arith)) in
-          on-met to (means b .mets m (omega arith) refl);
+          on-met (subst (λ (j : ℕ). Runs j m) z (means h .runs (omega arith))) (means b .mets m (omega arith) refl);
     }
 
     pub found-pass : (q : ℕ) → q < n → Linked n Passed q startBit → Linked n Passed q (metBit + q) → AcceptingPass a stem cycle
     found-pass q lt b h = made (means b .starts refl) (means h .mets q (omega arith) refl)
       where
-        made : (d : ℕ) × FromStart (suc d * length cycle) q → (e : ℕ) × Meets a turn (suc e * length cycle) q q
-            → AcceptingPass a stem cycle
+        made : Starts q → Mets q q → AcceptingPass a stem cycle
         made (d, f) (e, g) = record {
           at = whole .at;
           first = suc d;
           second = suc d + suc e;
           later = omega arith;
-          begins = rw (whole .from) (f .initial);
+          begins = rw (whole .from) (f .held .0);
           steps = λ i lt. whole .steps i (omega arith);
-          same = on-early a (λ i lt. later-word d i) (f .run) (g .run) (length stem + suc d * length cycle) (omega arith) ∙ f .run .to ∙ sym (ap (whole .at) z ∙ whole .to);
+          same = on-early (λ i lt. later-word d i) (f .run) (g .run) (length stem + suc d * length cycle) (omega arith)
+              ∙ f .run .to ∙ sym (ap (whole .at) z ∙ whole .to);
           accepts = (
             length stem + suc d * length cycle + g .index,
             omega arith,
             omega (arith, g .before),
-            rw (on-late a (λ i lt. later-word d i) (f .run) (g .run) (g .index)) (g .accepts),
+            rw (on-late (λ i lt. later-word d i) (f .run) (g .run) (g .index)) (g .accepts),
           );
         }
           where
             z : length stem + (suc d + suc e) * length cycle ≡ length stem + suc d * length cycle + suc e * length cycle
             z = omega arith
 
-            whole : Leads a word (length stem + suc d * length cycle + suc e * length cycle) (f .start) q
-            whole = leads-on a (λ i lt. later-word d i) (f .run) (g .run)
+            whole : Leads (Over a word) (length stem + suc d * length cycle + suc e * length cycle) (f .start) q
+            whole = leads-on (λ i lt. later-word d i) (f .run) (g .run)
 
     -- ---- runs are bits
 
-    run-passed : {q : ℕ} (p : ℕ) → p < n → Leads a inCycle (length cycle) p q → Passed q p
+    run-passed : {q : ℕ} (p : ℕ) → p < n → Leads (Over a inCycle) (length cycle) p q → Passed q p
     run-passed p lt r = run-bits a inCycle Begun (length cycle) (inr (lt, refl)) r
 
     met-passed : {q : ℕ} (p : ℕ) → p < n → Meets a inCycle (length cycle) p q → Passed q (metBit + p)
     met-passed p lt m = met-bits a inCycle Begun (length cycle) (omega arith) (inr (lt, refl)) m
 
-    start-passed : {m q : ℕ} (p : ℕ) → In p (a .initial) → Leads a inStem (length stem) p m → Leads a inCycle (length cycle) m q → Passed q startBit
+    start-passed : {m q : ℕ} (p : ℕ) → In p (a .initial) → Leads (Over a inStem) (length stem) p m
+        → Leads (Over a inCycle) (length cycle) m q → Passed q startBit
     start-passed p h r t =
         run-bits a inCycle Begun (length cycle) (inl (run-bits a inStem Initial (length stem) (h, refl) r)) t
 
@@ -281,12 +287,12 @@ module _ (a : Automaton) (n : ℕ) (stem cycle : List ℕ) where
       state-inside : (e : ℕ) → e ≤ pass .second → state e < n
       state-inside e le = at-inside (passAt e) (omega (arith, mul-le-mul-right (length cycle) le))
 
-      stem-run : Leads a inStem (length stem) (pass .at 0) (state 0)
+      stem-run : Leads (Over a inStem) (length stem) (pass .at 0) (state 0)
       stem-run = record {
         at = pass .at;
         from = refl;
         to = ap (pass .at) (omega arith);
-        steps = λ i lt. subst (λ (x : ℕ). Step a (pass .at i) x (pass .at (suc i))) (letter-stem stem cycle i lt) (pass .steps i (omega arith));
+        steps = λ i lt. same-letter a (letter-stem stem cycle i lt) _ _ (pass .steps i (omega arith));
       }
 
       pass-letter : (e i : ℕ) → i < length cycle → word (passAt e + i) ≡ getD cycle i 0
@@ -294,7 +300,7 @@ module _ (a : Automaton) (n : ℕ) (stem cycle : List ℕ) where
           let z : passAt e + i ≡ length stem + (e * length cycle + i) = omega arith in
           ap word z ∙ letter-round stem cycle (e * length cycle + i) ∙ round-later stem cycle e i ∙ round-first stem cycle i lt
 
-      pass-run : (e : ℕ) → e < pass .second → Leads a inCycle (length cycle) (state e) (state (suc e))
+      pass-run : (e : ℕ) → e < pass .second → Leads (Over a inCycle) (length cycle) (state e) (state (suc e))
       pass-run e lt = record {
         at = λ i. pass .at (passAt e + i);
         from = ap (pass .at) (omega arith);
@@ -302,7 +308,7 @@ module _ (a : Automaton) (n : ℕ) (stem cycle : List ℕ) where
         steps = λ i l.
             let z : suc (passAt e + i) ≡ passAt e + suc i = omega arith in
             subst (λ (t : ℕ). Step a (pass .at (passAt e + i)) (getD cycle i 0) t) (ap (pass .at) z)
-            (subst (λ (x : ℕ). Step a (pass .at (passAt e + i)) x (pass .at (suc (passAt e + i)))) (pass-letter e i l) (pass .steps (passAt e + i) (omega (arith, next e lt))));
+            (same-letter a (pass-letter e i l) _ _ (pass .steps (passAt e + i) (omega (arith, next e lt))));
       }
 
       -- runs over one pass, and from pass to pass

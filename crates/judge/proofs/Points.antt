@@ -15,7 +15,6 @@ use Rattle.automaton.specs.Automaton.{Transition, Automaton, noState, reads, St
 use Rattle.sets.specs.Sets.{In}
 use Rattle.lasso.proofs.Letters.{letter-round}
 use Rattle.sets.proofs.Members.{All}
-use Rattle.judge.proofs.Runs.{Leads, leads-none, leads-snoc}
 use Rattle.automaton.proofs.InRange.{InRange}
 use Rattle.judge.specs.Search.{Point, point, readTargets, after, onward}
 use Rattle.judge.proofs.Queue.{Within}
@@ -42,63 +41,55 @@ module _ (stem cycle : List ℕ) where
       go (yes l) = omega (arith, after-inside p l)
       go (no l) = omega (arith, after-last p (omega arith))
 
-  -- the position i letters after p
-  unfoldable pub onto : (p i : ℕ) → ℕ
-  onto p zero = p
-  onto p (suc i) = after stem cycle (onto p i)
+  -- the position after i letters
+  unfoldable pub onto : ℕ → ℕ
+  onto zero = 0
+  onto (suc i) = after stem cycle (onto i)
 
-  pub onto-more : (p i j : ℕ) → onto p (i + j) ≡ onto (onto p i) j
-  unfolding onto
-  onto-more p i zero =
-      let z : i + 0 ≡ i = omega arith in
-      ap (onto p) z
-  onto-more p i (suc j) =
-      let z : i + suc j ≡ suc (i + j) = omega arith in
-      ap (onto p) z ∙ ap (after stem cycle) (onto-more p i j)
-
-  -- ---- from the beginning
-
-  onto-early : (i : ℕ) → i < s + n → onto 0 i ≡ i
+  onto-early : (i : ℕ) → i < s + n → onto i ≡ i
   unfolding onto
   onto-early zero l = refl
   onto-early (suc i) l = ap (after stem cycle) (onto-early i (omega arith)) ∙ after-inside i l
 
   -- the position n letters on is the same
   module _ (pos : 0 < n) where
-    onto-round : (d : ℕ) → onto 0 (s + d + n) ≡ onto 0 (s + d)
+    onto-round : (d : ℕ) → onto (s + d + n) ≡ onto (s + d)
     unfolding onto
     onto-round zero =
         let z : s + 0 + n ≡ suc (s + (n - 1)) = omega arith in
         let y : s + 0 ≡ s = omega arith in
-        ap (onto 0) z ∙ ap (after stem cycle) (onto-early (s + (n - 1)) (omega arith)) ∙ after-last (s + (n - 1)) (omega arith) ∙ sym (ap (onto 0) y ∙ onto-early s (omega arith))
+        ap onto z ∙ ap (after stem cycle) (onto-early (s + (n - 1)) (omega arith))
+        ∙ after-last (s + (n - 1)) (omega arith) ∙ sym (ap onto y ∙ onto-early s (omega arith))
     onto-round (suc d) =
         let z : s + suc d + n ≡ suc (s + d + n) = omega arith in
         let y : s + suc d ≡ suc (s + d) = omega arith in
-        ap (onto 0) z ∙ ap (after stem cycle) (onto-round d) ∙ sym (ap (onto 0) y)
+        ap onto z ∙ ap (after stem cycle) (onto-round d) ∙ sym (ap onto y)
 
     -- each pass begins at the cycle's first letter
-    pub onto-pass : (k : ℕ) → onto 0 (s + k * n) ≡ s
+    pub onto-pass : (k : ℕ) → onto (s + k * n) ≡ s
     onto-pass zero =
         let z : s + 0 * n ≡ s = omega arith in
-        ap (onto 0) z ∙ onto-early s (omega arith)
+        ap onto z ∙ onto-early s (omega arith)
     onto-pass (suc k) =
         let z : s + suc k * n ≡ s + k * n + n = omega (arith, suc-mul k n) in
-        ap (onto 0) z ∙ onto-round (k * n) ∙ onto-pass k
+        ap onto z ∙ onto-round (k * n) ∙ onto-pass k
 
     -- and the letter there is the word's
-    letter-below : (b i : ℕ) → i < b → letter stem cycle (onto 0 i) ≡ letter stem cycle i
+    letter-below : (b i : ℕ) → i < b → letter stem cycle (onto i) ≡ letter stem cycle i
     letter-below zero i l = absurd (omega arith)
     letter-below (suc b) i l = go (decLt i (s + n)) (letter-below b (i - n))
       where
-        go : Dec (i < s + n) → (i - n < b → letter stem cycle (onto 0 (i - n)) ≡ letter stem cycle (i - n)) → letter stem cycle (onto 0 i) ≡ letter stem cycle i
+        go : Dec (i < s + n) → (i - n < b → letter stem cycle (onto (i - n)) ≡ letter stem cycle (i - n))
+            → letter stem cycle (onto i) ≡ letter stem cycle i
         go (yes m) ih = ap (letter stem cycle) (onto-early i m)
         go (no m) ih =
             let z : i ≡ s + (i - n - s) + n = omega arith in
             let y : s + (i - n - s) ≡ i - n = omega arith in
             let x : i ≡ i - n + n = omega arith in
-            ap (letter stem cycle) (ap (onto 0) z ∙ onto-round (i - n - s) ∙ ap (onto 0) y) ∙ ih (omega arith) ∙ sym (letter-round stem cycle (i - n) (omega arith)) ∙ sym (ap (letter stem cycle) x)
+            ap (letter stem cycle) (ap onto z ∙ onto-round (i - n - s) ∙ ap onto y) ∙ ih (omega arith)
+            ∙ sym (letter-round stem cycle (i - n) (omega arith)) ∙ sym (ap (letter stem cycle) x)
 
-    pub letter-onto : (i : ℕ) → letter stem cycle (onto 0 i) ≡ letter stem cycle i
+    pub letter-onto : (i : ℕ) → letter stem cycle (onto i) ≡ letter stem cycle i
     letter-onto i = letter-below (suc i) i (omega arith)
 
 -- ---- what follows from a point
@@ -139,28 +130,6 @@ module _ (a : Automaton) (stem cycle : List ℕ) where
   step-onward p q r (t, m, reads-it, e) =
       subst (λ (k : ℕ). In (point (after stem cycle p) k) (onward a stem cycle (point p q))) (sym e)
       (in-targets (letter stem cycle p) (after stem cycle p) (getD (a .states) q noState .transitions) t m reads-it)
-
-  -- the letters from position p on
-  abbrev pub wordFrom : (p : ℕ) → ℕ → ℕ
-  wordFrom p i = letter stem cycle (onto stem cycle p i)
-
-  -- a run over d letters from one point to another
-  pub record Walk (d : ℕ) (x y : Point) : Type 0 where
-    pub ends : onto stem cycle (x .position) d ≡ y .position
-    pub run : Leads a (wordFrom (x .position)) d (x .state) (y .state)
-
-  pub walk-none : (x : Point) → Walk 0 x x
-  unfolding onto
-  walk-none x = record { ends = refl; run = leads-none a (wordFrom (x .position)) (x .state) }
-
-  pub walk-on : {d : ℕ} {x y : Point} → Walk d x y → (z : Point) → In z (onward a stem cycle y) → Walk (suc d) x z
-  unfolding onto
-  walk-on {d} {x} {y} w z h =
-      let (p, st) = onward-step y z h in
-      record {
-        ends = ap (after stem cycle) (w .ends) ∙ sym p;
-        run = leads-snoc a (w .run) (subst (λ (k : ℕ). Step a (y .state) (letter stem cycle k) (z .state)) (sym (w .ends)) st);
-      }
 
 -- what follows from a point is within bounds
 pub onward-within : (a : Automaton) (stem cycle : List ℕ) → InRange a → 0 < length cycle → (x : Point) → All (Within (length (a .states)) (length stem + length cycle)) (onward a stem cycle x)

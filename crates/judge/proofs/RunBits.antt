@@ -1,23 +1,23 @@
 -- What joining words, setting a bit and looking at one say of the bits of rows. Assumes nothing.
 use Prim.Native.Nat.{ℕ, zero, suc, _+_, _-_, _*_, _/_, _%_, _^_, _<_, _≤_}
 use mathlib.Core.Path.{_≡_, refl, sym, _∙_, ap, subst}
-use mathlib.Core.List.{List, _++_}
+use mathlib.Core.List.{List, [], _∷_, _++_}
 use mathlib.Core.Bool.{_&&_}
 use mathlib.Core.Logic.{_⊎_, inl, inr, ⊎-elim, ⊎-map}
 use native.Mathlib.Omega.{arith}
 use native.Mathlib.Decide.{ℕ-discrete, decLt}
-use lib.ListN.{length, getD, set, replicate, take, drop, length-set, length-replicate, List·getD-append}
-use lib.Seq.{getD-set-same, getD-set-other, getD-append-add, getD-take, getD-drop, length-take-le}
+use lib.ListN.{length, getD, set, replicate, drop, length-set, length-replicate, List·getD-append}
+use lib.Seq.{getD-set-same, getD-set-other, getD-append-add, getD-drop}
 use lib.Bits.{bitAnd, bitOr, bitXor, and-mask, and-le-l, and-le-r, or-add-and, xor-add-and, xor-self}
 use lib.Dec.{eqb}
 use lib.Pow.{pow-lt}
-use native.Mathlib.Nat.{one-mul, mod-eq-of-lt, add-zero}
+use native.Mathlib.Nat.{one-mul, mod-eq-of-lt, add-zero, sub-zero}
 use borrow.Author.Tests.{eqb-true, eqb-false, eq-eqb, ne-eqb}
-use Rattle.judge.specs.Memory.{Token, Lifted, Is, Gains, Confined, Ored, Tells}
-use Rattle.answer.proofs.Zeros.{zeros-at}
+use Rattle.judge.specs.Memory.{Token, Lifted, Gains, Confined, Ored, Tells}
 use Rattle.sets.specs.Bits.{Has}
 use Rattle.sets.proofs.Bits.{or-has, has-or-l, has-or-r, zero-has, pow-has, has-pow}
 use Rattle.judge.specs.Limits.{metBit, rowBits}
+use Rattle.judge.proofs.Gathers.{adds-as, none-set}
 
 -- ---- words joined
 
@@ -78,101 +78,92 @@ same-token : {x y : List ℕ} {q k : ℕ} → getD x (4 * q + k / 64) 0 ≡ getD
     → Token y q k
 same-token {x} {y} {q} {k} e h = record { within = h .within; bit = subst (λ (d : ℕ). Has d (k % 64)) e (h .bit) }
 
--- and of one that is joined with another word
-module _ (x y : List ℕ) (q k w : ℕ) (e : getD y (4 * q + k / 64) 0 ≡ bitOr (getD x (4 * q + k / 64) 0) w) where
-  joined-only : Token y q k → Token x q k ⊎ Has w (k % 64)
-  joined-only h =
-      ⊎-map (λ b. record { within = h .within; bit = b }) (λ b. b)
-      (or-has _ w (k % 64) (subst (λ (d : ℕ). Has d (k % 64)) e (h .bit)))
+-- n words of row t, from its word c on, joined with those of a list from index b on: their bits, one by one
+module _ {x from y : List ℕ} {a b n : ℕ} (t c : ℕ) (start : a ≡ 4 * t + c) (fits : c + n ≤ 4)
+    (o : Ored x a from b n y) where
+  abbrev Among : (r k : ℕ) → Type 0
+  Among r k = (r ≡ t) × (c ≤ k / 64) × (k / 64 < c + n)
 
-  joined-old : Token x q k → Token y q k
-  joined-old h = record { within = h .within; bit = rw e (has-or-l _ w (k % 64) (h .bit)) }
+  -- the word that is joined
+  abbrev other : ℕ → ℕ
+  other k = getD from (b + (k / 64 - c)) 0
 
-  joined-new : k < rowBits → Has w (k % 64) → Token y q k
-  joined-new lt b = record { within = lt; bit = rw e (has-or-r (getD x (4 * q + k / 64) 0) w (k % 64) b) }
+  abbrev pub Added : (r k : ℕ) → Type 0
+  Added r k = Among r k × Has (other k) (k % 64)
 
--- words of other rows
-apart : (r t k : ℕ) → k < rowBits → (r ≡ t → ⊥) → (4 * r + k / 64 < 4 * t) ⊎ (4 * t + 4 ≤ 4 * r + k / 64)
-apart r t k w e = go (decLt r t)
-  where
-    go : Dec (r < t) → (4 * r + k / 64 < 4 * t) ⊎ (4 * t + 4 ≤ 4 * r + k / 64)
-    go (yes l) = inl (omega arith)
-    go (no l) = inr (omega arith)
+  -- a word is among those joined, or it is as it was
+  among : (r k : ℕ) → Among r k → getD y (4 * r + k / 64) 0 ≡ bitOr (getD x (4 * r + k / 64) 0) (other k)
+  among r k (e, l, h) =
+      let i : 4 * r + k / 64 ≡ a + (k / 64 - c) = omega arith in
+      rw i (o .inside (k / 64 - c) (omega arith))
+
+  abbrev Stays : (r k : ℕ) → Type 0
+  Stays r k = getD y (4 * r + k / 64) 0 ≡ getD x (4 * r + k / 64) 0
+
+  which : (r k : ℕ) → k < rowBits → Among r k ⊎ Stays r k
+  which r k w = go (decLt (4 * r + k / 64) a) (decLt (4 * r + k / 64) (a + n))
+    where
+      go : Dec (4 * r + k / 64 < a) → Dec (4 * r + k / 64 < a + n) → Among r k ⊎ Stays r k
+      go (yes l) d = inr (o .outside (4 * r + k / 64) (inl l))
+      go (no l) (no h) = inr (o .outside (4 * r + k / 64) (inr (omega arith)))
+      go (no l) (yes h) = inl (omega arith, omega arith, omega arith)
+
+  pub ored-bits : Gains x y Added
+  ored-bits = record {
+    only = λ r k h. only r k h (which r k (h .within));
+    all = λ r k h. ⊎-elim (λ h. old r k h (which r k (h .within))) (new r k) h;
+  }
+    where
+      token : (r k : ℕ) → Among r k → k < rowBits → Has (bitOr (getD x (4 * r + k / 64) 0) (other k)) (k % 64)
+          → Token y r k
+      token r k m w b = record { within = w; bit = rw (among r k m) b }
+
+      only : (r k : ℕ) → Token y r k → Among r k ⊎ Stays r k → Token x r k ⊎ Added r k
+      only r k h (inl m) =
+          ⊎-map (λ b. record { within = h .within; bit = b }) (λ b. (m, b))
+          (or-has _ (other k) (k % 64) (subst (λ (d : ℕ). Has d (k % 64)) (among r k m) (h .bit)))
+      only r k h (inr e) = inl (same-token e h)
+
+      old : (r k : ℕ) → Token x r k → Among r k ⊎ Stays r k → Token y r k
+      old r k h (inl m) = token r k m (h .within) (has-or-l _ (other k) (k % 64) (h .bit))
+      old r k h (inr e) = same-token (sym e) h
+
+      new : (r k : ℕ) → Added r k → Token y r k
+      new r k (m, b) =
+          token r k m (omega (arith, m .2)) (has-or-r (getD x (4 * r + k / 64) 0) (other k) (k % 64) b)
 
 module _ (x from y : List ℕ) (t q : ℕ) where
   -- a whole row
   pub ored-row : Ored x (4 * t) from (4 * q) 4 y → Gains x y (λ r k. (r ≡ t) × Token from q k)
-  ored-row o = record { only = λ r k h. only r k h (ℕ-discrete r t); all = λ r k h. all r k h (ℕ-discrete r t) }
-    where
-      word : (r k : ℕ) → r ≡ t → k < rowBits
-          → getD y (4 * r + k / 64) 0 ≡ bitOr (getD x (4 * r + k / 64) 0) (getD from (4 * q + k / 64) 0)
-      word r k e w = rw e (o .inside (k / 64) (omega arith))
-
-      other : (r k : ℕ) → (r ≡ t → ⊥) → k < rowBits → getD y (4 * r + k / 64) 0 ≡ getD x (4 * r + k / 64) 0
-      other r k e w = o .outside (4 * r + k / 64) (apart r t k w e)
-
-      only : (r k : ℕ) → Token y r k → Dec (r ≡ t) → Token x r k ⊎ ((r ≡ t) × Token from q k)
-      only r k h (yes e) =
-          ⊎-map (λ b. b) (λ b. (e, record { within = h .within; bit = b }))
-          (joined-only x y r k _ (word r k e (h .within)) h)
-      only r k h (no e) = inl (same-token (other r k e (h .within)) h)
-
-      all : (r k : ℕ) → Token x r k ⊎ ((r ≡ t) × Token from q k) → Dec (r ≡ t) → Token y r k
-      all r k (inr (e, h)) d = joined-new x y r k _ (word r k e (h .within)) (h .within) (h .bit)
-      all r k (inl h) (yes e) = joined-old x y r k _ (word r k e (h .within)) h
-      all r k (inl h) (no e) = same-token (sym (other r k e (h .within))) h
+  ored-row o =
+      adds-as (ored-bits t 0 (omega arith) (omega arith) o)
+      (λ r k h. (h .0 .0, record { within = omega (arith, h .0 .2); bit = rw sub-zero at (h .1) }))
+      (λ r k h. ((h .0, omega arith, omega (arith, h .1 .within)), rw sub-zero (h .1 .bit)))
 
   -- the upper half of a row, from the lower half of another
   pub ored-met : Ored x (4 * t + 2) from (4 * q) 2 y → Gains x y (λ r k. (r ≡ t) × Lifted (Token from) q k)
-  ored-met o = record { only = λ r k h. only r k h (upper r k (h .within)); all = λ r k h. all r k h }
+  ored-met o = adds-as (ored-bits t 2 (omega arith) (omega arith) o) to from-low
     where
-      -- a word is joined, or it is as it was
-      Joins : (r k : ℕ) → Type 0
-      Joins r k = (r ≡ t) × (metBit ≤ k)
-          × (getD y (4 * r + k / 64) 0 ≡ bitOr (getD x (4 * r + k / 64) 0) (getD from (4 * q + (k - metBit) / 64) 0))
+      to : (r k : ℕ) → Added t 2 (omega arith) (omega arith) o r k → (r ≡ t) × Lifted (Token from) q k
+      to r k ((e, l, h), b) =
+          let i : k / 64 - 2 ≡ (k - metBit) / 64 = omega arith in
+          let m : k % 64 ≡ (k - metBit) % 64 = omega arith in (
+            e,
+            record {
+              low = k - metBit;
+              half = omega arith;
+              high = omega arith;
+              held = record { within = omega arith; bit = rw (i, m) at b };
+            },
+          )
 
-      Stays : (r k : ℕ) → Type 0
-      Stays r k = getD y (4 * r + k / 64) 0 ≡ getD x (4 * r + k / 64) 0
-
-      joins : (r k : ℕ) → k < rowBits → r ≡ t → metBit ≤ k → Joins r k
-      joins r k w e l =
-          let i : 4 * r + k / 64 ≡ 4 * t + 2 + (k - metBit) / 64 = omega arith in
-          (e, l, rw i (o .inside ((k - metBit) / 64) (omega arith)))
-
-      upper : (r k : ℕ) → k < rowBits → Joins r k ⊎ Stays r k
-      upper r k w = go (ℕ-discrete r t) (decLt k metBit)
-        where
-          go : Dec (r ≡ t) → Dec (k < metBit) → Joins r k ⊎ Stays r k
-          go (yes e) (yes l) = inr (o .outside (4 * r + k / 64) (inl (omega arith)))
-          go (yes e) (no l) = inl (joins r k w e (omega arith))
-          go (no e) d =
-              inr (o .outside (4 * r + k / 64) (⊎-map (λ l. omega arith) (λ l. omega arith) (apart r t k w e)))
-
-      only : (r k : ℕ) → Token y r k → Joins r k ⊎ Stays r k → Token x r k ⊎ ((r ≡ t) × Lifted (Token from) q k)
-      only r k h (inr e) = inl (same-token e h)
-      only r k h (inl (e, l, f)) = ⊎-map (λ b. b) (λ b. (e, made b)) (joined-only x y r k _ f h)
-        where
-          made : Has (getD from (4 * q + (k - metBit) / 64) 0) (k % 64) → Lifted (Token from) q k
-          made b =
-              let w = h .within in
-              let m : k % 64 ≡ (k - metBit) % 64 = omega arith in
-              record {
-                low = k - metBit;
-                half = omega arith;
-                high = omega arith;
-                held = record { within = omega arith; bit = rw m at b };
-              }
-
-      all : (r k : ℕ) → Token x r k ⊎ ((r ≡ t) × Lifted (Token from) q k) → Token y r k
-      all r k (inl h) =
-          ⊎-elim (λ (j : Joins r k). joined-old x y r k _ (j .2) h) (λ e. same-token (sym e) h) (upper r k (h .within))
-      all r k (inr (e, l)) =
+      from-low : (r k : ℕ) → (r ≡ t) × Lifted (Token from) q k → Added t 2 (omega arith) (omega arith) o r k
+      from-low r k (e, l) =
           let g = l .high in
           let lt = l .half in
-          let w : k < rowBits = omega arith in
-          let i : k - metBit ≡ l .low = omega arith in
+          let i : k / 64 - 2 ≡ l .low / 64 = omega arith in
           let m : k % 64 ≡ l .low % 64 = omega arith in
-          joined-new x y r k _ (joins r k w e (omega arith) .2) w (rw (i, m) (l .held .bit))
+          ((e, omega arith, omega arith), rw (i, m) (l .held .bit))
 
 -- ---- words that are 0
 
@@ -203,9 +194,6 @@ tests-joined a b c = go (ℕ-discrete a b) (ℕ-discrete c 0)
 
 -- ---- no bit
 
-pub none-set : (n q k : ℕ) → Token (replicate n 0) q k → ⊥
-none-set n q k h = zero-has (rw (zeros-at n (4 * q + k / 64)) at (h .bit))
-
 four : (row : List ℕ) (j : ℕ) → j < 4 → getD row 0 0 ≡ 0 → getD row 1 0 ≡ 0 → getD row 2 0 ≡ 0 → getD row 3 0 ≡ 0
     → getD row j 0 ≡ 0
 four row zero lt a b c d = a
@@ -224,89 +212,55 @@ row-none row e k h =
     let w = or-none (getD row 0 0) (getD row 1 0) (g .0) in
     zero-has (rw (four row (4 * 0 + k / 64) (omega (arith, h .within)) (w .0) (w .1) (g .1) (f .1)) at (h .bit))
 
--- ---- the first rows stored
+-- the first n rows are 0, and behind them nothing stood
+pub cleared : (n : ℕ) (old : List ℕ) → Confined n old → {rows : List ℕ}
+    → rows ≡ replicate (4 * n) 0 ++ drop (4 * n) old → (q k : ℕ) → Token rows q k → ⊥
+cleared n old confined {rows} e q k h = go (decLt q n)
+  where
+    zeros : List ℕ
+    zeros = replicate (4 * n) 0
 
--- what stands in front, and what was behind it before
-module _ (m : ℕ) (new old : List ℕ) (size : length new ≡ m) where
-  front : (i : ℕ) → i < m → getD (new ++ drop m old) i 0 ≡ getD new i 0
-  front i lt = List·getD-append new (drop m old) 0 i (omega arith)
+    at : ℕ
+    at = 4 * q + k / 64
 
-  behind : (i : ℕ) → m ≤ i → getD (new ++ drop m old) i 0 ≡ getD old i 0
-  behind i le =
-      let e : i ≡ length new + (i - m) = omega arith in
-      let f : m + (i - m) ≡ i = omega arith in
-      ap (λ (j : ℕ). getD (new ++ drop m old) j 0) e ∙ getD-append-add new (drop m old) (i - m) 0 ∙ getD-drop m old (i - m) 0 ∙ ap (λ (j : ℕ). getD old j 0) f
+    size : length zeros ≡ 4 * n
+    size = length-replicate (4 * n) 0
 
-module _ (n : ℕ) (old : List ℕ) (confined : Confined n old) where
-  -- where nothing stood behind them, the bits are those of the rows stored
-  stored : (new : List ℕ) → length new ≡ 4 * n → Is (new ++ drop (4 * n) old) (λ q k. (q < n) × Token new q k)
-  stored new size = record { only = λ q k h. only q k h (decLt q n); all = λ q k h. all q k (h .0) (h .1) }
-    where
-      word : (q k : ℕ) → q < n → k < rowBits
-          → getD (new ++ drop (4 * n) old) (4 * q + k / 64) 0 ≡ getD new (4 * q + k / 64) 0
-      word q k lt w = front (4 * n) new old size (4 * q + k / 64) (omega arith)
-
-      only : (q k : ℕ) → Token (new ++ drop (4 * n) old) q k → Dec (q < n) → (q < n) × Token new q k
-      only q k h (yes lt) = (lt, same-token (word q k lt (h .within)) h)
-      only q k h (no ge) =
-          absurd (ge (confined q k (same-token (behind (4 * n) new old size (4 * q + k / 64) (omega arith)) h)))
-
-      all : (q k : ℕ) → q < n → Token new q k → Token (new ++ drop (4 * n) old) q k
-      all q k lt h = same-token (sym (word q k lt (h .within))) h
-
-  pub cleared : {rows : List ℕ} → rows ≡ replicate (4 * n) 0 ++ drop (4 * n) old → (q k : ℕ) → Token rows q k → ⊥
-  cleared {rows} e q k h =
-      none-set (4 * n) q k (stored (replicate (4 * n) 0) (length-replicate (4 * n) 0) .only q k (rw e at h) .1)
-
-  pub copied : {rows : List ℕ} (from : List ℕ) → 4 * n ≤ length from → Confined n from
-      → rows ≡ take (4 * n) from ++ drop (4 * n) old → Is rows (Token from)
-  copied {rows} from fits within e = record {
-    only = λ q k h. let (lt, t) = is .only q k (rw e at h) in same-token (word q k lt (h .within)) t;
-    all = λ q k h. let lt = within q k h in rw e (is .all q k (lt, same-token (sym (word q k lt (h .within))) h));
-  }
-    where
-      is : Is (take (4 * n) from ++ drop (4 * n) old) (λ q k. (q < n) × Token (take (4 * n) from) q k)
-      is = stored (take (4 * n) from) (length-take-le (4 * n) from fits)
-
-      word : (q k : ℕ) → q < n → k < rowBits → getD (take (4 * n) from) (4 * q + k / 64) 0 ≡ getD from (4 * q + k / 64) 0
-      word q k lt w = getD-take (4 * n) from (4 * q + k / 64) 0 (omega arith)
+    go : Dec (q < n) → ⊥
+    go (yes lt) =
+        none-set (4 * n) q k
+        (same-token (List·getD-append zeros (drop (4 * n) old) 0 at (omega (arith, size, h .within))) (rw e at h))
+    go (no ge) =
+        let i : 4 * n + (at - 4 * n) ≡ at = omega arith in
+        let z : at ≡ length zeros + (at - 4 * n) = omega (arith, size) in
+        ge (confined q k (same-token (ap (λ (j : ℕ). getD (zeros ++ drop (4 * n) old) j 0) z
+        ∙ getD-append-add zeros (drop (4 * n) old) (at - 4 * n) 0 ∙ getD-drop (4 * n) old (at - 4 * n) 0
+        ∙ ap (λ (j : ℕ). getD old j 0) i) (rw e at h)))
 
 -- ---- one bit
 
--- a word of x with the bits of another
-abbrev withBits : List ℕ → (q k word : ℕ) → List ℕ
-withBits x q k word = set x (4 * q + k / 64) (bitOr (getD x (4 * q + k / 64) 0) word)
+pub bit-is-set : (x : List ℕ) (q k : ℕ) → 4 * q + 4 ≤ length x → k < rowBits → (word : ℕ) → word ≡ 2 ^ (k % 64)
+    → Gains x (joinAt x (4 * q + k / 64) word) (λ r j. (r ≡ q) × (j ≡ k))
+bit-is-set x q k fits within word e =
+    adds-as (ored-bits q (k / 64) refl (omega arith) one) (λ r j h. to r j (h .0) (h .1))
+    (λ r j h. ((h .0, omega (arith, h .1), omega (arith, h .1)), from r j (h .1)))
+  where
+    one : Ored x (4 * q + k / 64) (word ∷ []) 0 1 (joinAt x (4 * q + k / 64) word)
+    one =
+        let begun = or-begins x (4 * q + k / 64) (word ∷ []) 0 1 in
+        simp add-zero at (or-steps x (4 * q + k / 64) (word ∷ []) 0 1 x 0 (omega arith) (omega arith) begun .ored)
 
-module _ (x : List ℕ) (q k : ℕ) (fits : 4 * q + 4 ≤ length x) (within : k < rowBits) where
-  pub bit-is-set : (word : ℕ) → word ≡ 2 ^ (k % 64) → Gains x (withBits x q k word) (λ r j. (r ≡ q) × (j ≡ k))
-  bit-is-set word e = record {
-    only = λ r j h. only r j h (ℕ-discrete (4 * r + j / 64) (4 * q + k / 64));
-    all = λ r j h. all r j h (ℕ-discrete (4 * r + j / 64) (4 * q + k / 64));
-  }
-    where
-      at : (i : ℕ) → i ≡ 4 * q + k / 64 → getD (withBits x q k word) i 0 ≡ bitOr (getD x i 0) word
-      at i h = rw h (getD-set-same x (4 * q + k / 64) (bitOr (getD x (4 * q + k / 64) 0) word) 0 (omega arith))
+    to : (r j : ℕ) → (r ≡ q) × (k / 64 ≤ j / 64) × (j / 64 < k / 64 + 1)
+        → Has (getD (word ∷ []) (0 + (j / 64 - k / 64)) 0) (j % 64) → (r ≡ q) × (j ≡ k)
+    to r j (a, l, h) b =
+        let z : 0 + (j / 64 - k / 64) ≡ 0 = omega arith in
+        let m = has-pow (k % 64) (j % 64) (rw (z, e) at b) in
+        (a, omega arith)
 
-      other : (i : ℕ) → (i ≡ 4 * q + k / 64 → ⊥) → getD (withBits x q k word) i 0 ≡ getD x i 0
-      other i h = getD-set-other x (4 * q + k / 64) i (bitOr (getD x (4 * q + k / 64) 0) word) 0 h
-
-      only : (r j : ℕ) → Token (withBits x q k word) r j → Dec (4 * r + j / 64 ≡ 4 * q + k / 64)
-          → Token x r j ⊎ ((r ≡ q) × (j ≡ k))
-      only r j h (no f) = inl (same-token (other (4 * r + j / 64) f) h)
-      only r j h (yes f) = ⊎-map (λ t. t) it (joined-only x (withBits x q k word) r j word (at (4 * r + j / 64) f) h)
-        where
-          it : Has word (j % 64) → (r ≡ q) × (j ≡ k)
-          it b =
-              let m = has-pow (k % 64) (j % 64) (rw e at b) in
-              let w = h .within in
-              (omega arith, omega arith)
-
-      all : (r j : ℕ) → Token x r j ⊎ ((r ≡ q) × (j ≡ k)) → Dec (4 * r + j / 64 ≡ 4 * q + k / 64) → Token (withBits x q k word) r j
-      all r j (inl h) (yes f) = joined-old x (withBits x q k word) r j word (at (4 * r + j / 64) f) h
-      all r j (inl h) (no f) = same-token (sym (other (4 * r + j / 64) f)) h
-      all r j (inr (a, b)) d =
-          let p : Has word (j % 64) = rw (e, b) (pow-has (k % 64)) in
-          joined-new x (withBits x q k word) r j word (at (4 * r + j / 64) (rw (a, b) refl)) (omega arith) p
+    from : (r j : ℕ) → j ≡ k → Has (getD (word ∷ []) (0 + (j / 64 - k / 64)) 0) (j % 64)
+    from r j f =
+        let z : 0 + (j / 64 - k / 64) ≡ 0 = omega arith in
+        rw (z, e, f) (pow-has (k % 64))
 
 -- a word's bit, as the code looks at it
 pub looked : (rows : List ℕ) (q k : ℕ) → k < rowBits

@@ -1,4 +1,4 @@
--- Runs over the first letters of a word, from one state to another: put together, taken apart, carried to another word.
+-- Runs of some number of steps from one state to another: put together, taken apart, carried over to other steps.
 -- Assumes nothing.
 use Prim.Native.Nat.{ℕ, suc, _+_, _-_, _<_, _≤_}
 use mathlib.Core.Path.{_≡_, refl, sym, _∙_, ap, subst}
@@ -10,47 +10,61 @@ use lib.Dec.{eqb, ltb}
 use borrow.Author.Tests.{lt-ltb, le-ltb}
 use Rattle.automaton.specs.Automaton.{Automaton, Step, Accepts}
 
--- a run over the first d letters of w, from p to q
-pub record Leads (a : Automaton) (w : ℕ → ℕ) (d p q : ℕ) : Type 0 where
-  pub at : ℕ → ℕ
+-- a run of d steps from p to q; R says which steps there are at each index
+pub record Leads {X : Type 0} (R : ℕ → X → X → Type 0) (d : ℕ) (p q : X) : Type 0 where
+  pub at : ℕ → X
   pub from : at 0 ≡ p
   pub to : at d ≡ q
-  pub steps : (i : ℕ) → i < d → Step a (at i) (w i) (at (suc i))
+  pub steps : (i : ℕ) → i < d → R i (at i) (at (suc i))
 
--- one that stands in an accepting state after its first letter or later
+-- the steps of an automaton over the letters of w
+abbrev pub Over : (a : Automaton) (w : ℕ → ℕ) (i p q : ℕ) → Type 0
+Over a w i p q = Step a p (w i) q
+
+-- a run that stands in an accepting state after its first letter or later
 pub record Meets (a : Automaton) (w : ℕ → ℕ) (d p q : ℕ) : Type 0 where
-  pub run : Leads a w d p q
+  pub run : Leads (Over a w) d p q
   pub index : ℕ
   pub after : 0 < index
   pub before : index ≤ d
   pub accepts : Accepts a (run .at index)
 
-module _ (a : Automaton) where
-  pub leads-none : (w : ℕ → ℕ) (p : ℕ) → Leads a w 0 p p
-  leads-none w p = record { at = λ i. p; from = refl; to = refl; steps = λ i lt. absurd (omega arith) }
+-- a step at a letter, said of the same letter
+pub same-letter : (a : Automaton) {x y : ℕ} → x ≡ y → (p q : ℕ) → Step a p x q → Step a p y q
+same-letter a e p q s = subst (λ (l : ℕ). Step a p l q) e s
 
-  -- the same letters in another word
-  abbrev pub leads-as : {w w' : ℕ → ℕ} {d p q : ℕ} → ((i : ℕ) → i < d → w i ≡ w' i) → Leads a w d p q → Leads a w' d p q
-  leads-as {w} {w'} {d} same r = record {
-    at = r .at;
-    from = r .from;
-    to = r .to;
-    steps = λ i lt. subst (λ (x : ℕ). Step a (r .at i) x (r .at (suc i))) (same i lt) (r .steps i lt);
+module _ {X : Type 0} where
+  pub leads-none : {R : ℕ → X → X → Type 0} (p : X) → Leads R 0 p p
+  leads-none p = record { at = λ i. p; from = refl; to = refl; steps = λ i lt. absurd (omega arith) }
+
+  -- one step
+  abbrev pub leads-one : {R : ℕ → X → X → Type 0} {p q : X} → R 0 p q → Leads R 1 p q
+  leads-one {R} {p} {q} s = record {
+    at = λ i. cond (eqb i 0) p q;
+    from = refl;
+    to = refl;
+    steps = λ i lt. go i (omega arith);
   }
+    where
+      go : (i : ℕ) → i ≡ 0 → R i (cond (eqb i 0) p q) (cond (eqb (suc i) 0) p q)
+      go i e = rw e s
 
-  pub meets-as : {w w' : ℕ → ℕ} {d p q : ℕ} → ((i : ℕ) → i < d → w i ≡ w' i) → Meets a w d p q → Meets a w' d p q
-  meets-as same m = record { run = leads-as same (m .run); index = m .index; after = m .after; before = m .before; accepts = m .accepts }
+  -- the same steps said otherwise
+  abbrev pub leads-as : {R S : ℕ → X → X → Type 0} {d : ℕ} {p q : X} → ((i : ℕ) → i < d → (x y : X) → R i x y → S i x y)
+      → Leads R d p q → Leads S d p q
+  leads-as same r = record { at = r .at; from = r .from; to = r .to; steps = λ i lt. same i lt _ _ (r .steps i lt) }
 
-  -- all letters but the last, and the last
-  abbrev pub leads-init : {w : ℕ → ℕ} {d p q : ℕ} (r : Leads a w (suc d) p q) → Leads a w d p (r .at d)
+  -- all steps but the last, and the last
+  abbrev pub leads-init : {R : ℕ → X → X → Type 0} {d : ℕ} {p q : X} (r : Leads R (suc d) p q) → Leads R d p (r .at d)
   leads-init r = record { at = r .at; from = r .from; to = refl; steps = λ i lt. r .steps i (omega arith) }
 
-  pub leads-last : {w : ℕ → ℕ} {d p q : ℕ} (r : Leads a w (suc d) p q) → Step a (r .at d) (w d) q
-  leads-last {w} {d} r = subst (λ (t : ℕ). Step a (r .at d) (w d) t) (r .to) (r .steps d (omega arith))
+  pub last-step : {R : ℕ → X → X → Type 0} {d : ℕ} {p q : X} (r : Leads R (suc d) p q) → R d (r .at d) q
+  last-step {R} {d} r = subst (λ (t : X). R d (r .at d) t) (r .to) (r .steps d (omega arith))
 
-  -- one run after another, the second over the letters that follow
-  module _ {w v : ℕ → ℕ} {d e p m q : ℕ} (same : (i : ℕ) → i < e → v i ≡ w (d + i)) (f : Leads a w d p m) (g : Leads a v e m q) where
-    put : ℕ → ℕ
+  -- one run after another, whose steps are those that follow
+  module _ {R S : ℕ → X → X → Type 0} {d e : ℕ} {p m q : X}
+      (same : (i : ℕ) → i < e → (x y : X) → S i x y → R (d + i) x y) (f : Leads R d p m) (g : Leads S e m q) where
+    put : ℕ → X
     put i = cond (ltb i d) (f .at i) (g .at (i - d))
 
     put-late : (i : ℕ) → put (d + i) ≡ g .at i
@@ -69,16 +83,23 @@ module _ (a : Automaton) where
             let z : d ≡ d + 0 = omega arith in
             rw e (ap put z ∙ put-late 0 ∙ g .from ∙ sym (f .to))
 
-    step-at : (i : ℕ) → i < d + e → Dec (i < d) → Step a (put i) (w i) (put (suc i))
+    step-at : (i : ℕ) → i < d + e → Dec (i < d) → R i (put i) (put (suc i))
     step-at i lt (yes l) =
         rw (put-early i (omega arith), put-early (suc i) (omega arith)) (f .steps i l)
     step-at i lt (no l) =
         let z : i ≡ d + (i - d) = omega arith in
         let y : suc i ≡ d + suc (i - d) = omega arith in
-        rw (ap put y ∙ put-late (suc (i - d)), ap put z ∙ put-late (i - d), ap w z ∙ sym (same (i - d) (omega arith))) (g .steps (i - d) (omega arith))
+        let next = subst (λ (j : ℕ). R j (g .at (i - d)) (g .at (suc (i - d)))) (sym z)
+        (same (i - d) (omega arith) _ _ (g .steps (i - d) (omega arith))) in
+        rw (ap put y ∙ put-late (suc (i - d)), ap put z ∙ put-late (i - d)) next
 
-    pub leads-on : Leads a w (d + e) p q
-    leads-on = record { at = put; from = put-early 0 (omega arith) ∙ f .from; to = put-late e ∙ g .to; steps = λ i lt. step-at i lt (decLt i d) }
+    pub leads-on : Leads R (d + e) p q
+    leads-on = record {
+      at = put;
+      from = put-early 0 (omega arith) ∙ f .from;
+      to = put-late e ∙ g .to;
+      steps = λ i lt. step-at i lt (decLt i d);
+    }
 
     pub on-early : (i : ℕ) → i ≤ d → leads-on .at i ≡ f .at i
     unfolding leads-on
@@ -88,38 +109,51 @@ module _ (a : Automaton) where
     unfolding leads-on
     on-late i = put-late i
 
-  -- one letter
-  pub leads-one : {w : ℕ → ℕ} {p q : ℕ} → Step a p (w 0) q → Leads a w 1 p q
-  leads-one {w} {p} {q} s = record { at = λ i. cond (eqb i 0) p q; from = refl; to = refl; steps = λ i lt. go i (omega arith) }
-    where
-      go : (i : ℕ) → i ≡ 0 → Step a (cond (eqb i 0) p q) (w i) (cond (eqb (suc i) 0) p q)
-      go i e = rw e s
-
-  module _ {w : ℕ → ℕ} {d p q t : ℕ} (r : Leads a w d p q) (s : Step a q (w d) t) where
-    last : Leads a (λ i. w (d + i)) 1 q t
-    last =
+  -- a step more
+  module _ {R : ℕ → X → X → Type 0} {d : ℕ} {p q t : X} (r : Leads R d p q) (s : R d q t) where
+    abbrev pub leads-last : Leads (λ i. R (d + i)) 1 q t
+    leads-last =
         let z : d ≡ d + 0 = omega arith in
-        leads-one (subst (λ (i : ℕ). Step a q (w i) t) z s)
+        leads-one (subst (λ (i : ℕ). R i q t) z s)
 
-    pub leads-snoc : Leads a w (suc d) p t
-    leads-snoc = subst (λ (i : ℕ). Leads a w i p t) (add-one d) (leads-on (λ i lt. refl) r last)
+    pub leads-snoc : Leads R (suc d) p t
+    leads-snoc = subst (λ (i : ℕ). Leads R i p t) (add-one d) (leads-on (λ i lt x y h. h) r leads-last)
 
-    -- what was met stays met, and the state reached counts
-    pub meets-snoc : (index : ℕ) → 0 < index → index ≤ d → Accepts a (r .at index) → Meets a w (suc d) p t
-    meets-snoc index lo hi acc = subst (λ (i : ℕ). Meets a w i p t) (add-one d) (record {
-      run = leads-on (λ i lt. refl) r last;
-      index = index;
-      after = lo;
-      before = omega arith;
-      accepts = rw (on-early (λ i lt. refl) r last index hi) acc;
-    })
+-- what was met stays met
+pub meets-on : {a : Automaton} {w : ℕ → ℕ} {S : (i p q : ℕ) → Type 0} {d e p m q : ℕ}
+    → ((i : ℕ) → i < e → (x y : ℕ) → S i x y → Over a w (d + i) x y) → Meets a w d p m → Leads S e m q
+    → Meets a w (d + e) p q
+meets-on same f g = record {
+  run = leads-on same (f .run) g;
+  index = f .index;
+  after = f .after;
+  before = omega (arith, f .before);
+  accepts = rw (on-early same (f .run) g (f .index) (f .before)) (f .accepts);
+}
 
-    pub meets-here : Accepts a t → Meets a w (suc d) p t
-    meets-here acc =
-        record {
-          run = leads-snoc;
-          index = suc d;
-          after = omega arith;
-          before = omega arith;
-          accepts = rw (leads-snoc .to) acc;
-        }
+-- what is met later counts
+pub on-meets : {a : Automaton} {w v : ℕ → ℕ} {d e p m q : ℕ}
+    → ((i : ℕ) → i < e → (x y : ℕ) → Over a v i x y → Over a w (d + i) x y) → Leads (Over a w) d p m → Meets a v e m q
+    → Meets a w (d + e) p q
+on-meets {a} {w} {v} {d} same f g = record {
+  run = leads-on same f (g .run);
+  index = d + g .index;
+  after = omega (arith, g .after);
+  before = omega (arith, g .before);
+  accepts = rw (on-late same f (g .run) (g .index)) (g .accepts);
+}
+
+module _ {a : Automaton} {w : ℕ → ℕ} {d p q t : ℕ} where
+  pub meets-snoc : Meets a w d p q → Over a w d q t → Meets a w (suc d) p t
+  meets-snoc m s =
+      subst (λ (i : ℕ). Meets a w i p t) (add-one d) (meets-on (λ i lt x y h. h) m (leads-last (m .run) s))
+
+  pub meets-here : Leads (Over a w) d p q → Over a w d q t → Accepts a t → Meets a w (suc d) p t
+  meets-here r s acc =
+      subst (λ (i : ℕ). Meets a w i p t) (add-one d) (on-meets {v = λ i. w (d + i)} (λ i lt x y h. h) r (record {
+        run = leads-last r s;
+        index = 1;
+        after = omega arith;
+        before = omega arith;
+        accepts = acc;
+      }))

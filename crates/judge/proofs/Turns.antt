@@ -3,11 +3,9 @@
 use Prim.Native.Nat.{ℕ, _+_, _-_, _*_, _<_, _≤_}
 use mathlib.Core.Path.{_≡_, refl, sym, _∙_}
 use mathlib.Core.List.{List}
-use mathlib.Core.Bool.{Bool, true, false, not}
 use native.Mathlib.Omega.{arith}
 use native.Mathlib.Numerals.{add-one}
 use lib.ListN.{length, drop}
-use borrow.Author.Tests.{not-true, not-false}
 use Rattle.sets.specs.Sets.{In}
 use Rattle.automaton.specs.Automaton.{Step, Accepts}
 use Rattle.image.specs.Image.{initialAt, contentsBytes}
@@ -17,17 +15,8 @@ use Rattle.judge.specs.Memory.{Token, Lifted, Gains, ByRecord}
 use Rattle.image.specs.Lookup.{imageAutomaton, recordsAt, Readable, AcceptingByte, transitionCountOf}
 use Rattle.automaton.specs.Limits.{maxStates}
 use Rattle.judge.specs.Limits.{startBit}
-use Rattle.judge.proofs.Decisions.{false-true}
 use Rattle.judge.proofs.Gathers.{adds-as, lift-as, Gathering, row-was, row-is}
 use Rattle.image.proofs.Lookup.{step-taken, taken-step, accepts-inside, accepts-byte, byte-accepts, initial-number, number-initial, number-drop, records-end, target-inside, initial-inside}
-
--- ---- whether a record reads the letter
-
-pub reads-not : {r t : Bool} → r ≡ t → not r ≡ true → t ≡ true → ⊥
-reads-not {r} e f g = false-true (sym (not-true r f) ∙ e ∙ g)
-
-pub reads-so : {r t : Bool} → r ≡ t → not r ≡ false → t ≡ true
-reads-so {r} e f = sym e ∙ not-false r f
 
 -- ---- all records of a state
 

@@ -11,35 +11,26 @@ use Rattle.sets.specs.Sets.{In}
 use Rattle.judge.specs.Memory.{Token, Is, Gains, Confined, Covered, Tells, After, AfterAll, Linked, one, join, joinMet, SomeStarted}
 use Rattle.judge.specs.Limits.{startBit, metBit, rowsWords}
 use Rattle.automaton.specs.Limits.{maxStates}
-use Rattle.judge.proofs.Gathers.{is-initial}
+use Rattle.judge.proofs.Gathers.{is-initial, is-made}
 use Rattle.judge.proofs.Decisions.{holds-not}
 use Rattle.judge.proofs.Letters.{moved-map, after-inside}
 use Rattle.judge.proofs.Passes.{Initial, Begun, Passed, passed-covered, found-pass, pass-stemmed, pass-passed, pass-found}
 
 -- what follows from less follows from more
-after-map : (a : Automaton) (w : ℕ → ℕ) {P Q : (q k : ℕ) → Type 0} → ((q k : ℕ) → P q k → Q q k)
-    → (i q k : ℕ) → After a w P i q k → After a w Q i q k
-after-map a w f zero q k h = f q k h
-after-map a w f (suc i) q k h = moved-map a (w i) (after-map a w f i) h
+after-map : (a : Automaton) (word : List ℕ) (P Q : (q k : ℕ) → Type 0) → ((q k : ℕ) → P q k → Q q k)
+    → (q k : ℕ) → AfterAll a word P q k → AfterAll a word Q q k
+after-map a word P Q f = go (length word)
+  where
+    go : (i q k : ℕ) → After a (λ j. getD word j 0) P i q k → After a (λ j. getD word j 0) Q i q k
+    go zero q k h = f q k h
+    go (suc i) q k h = moved-map a (getD word i 0) _ _ (go i) q k h
 
-linked-map : (n : ℕ) {P Q : (q k : ℕ) → Type 0} → ((q k : ℕ) → P q k → Q q k) → {q k : ℕ} → Linked n P q k → Linked n Q q k
-linked-map n f (one q k h) = one q k (f q k h)
-linked-map n f (join m q k lm lq b h) = join m q k lm lq (linked-map n f b) (linked-map n f h)
-linked-map n f (joinMet m q k lm lq lk b h) = joinMet m q k lm lq lk (linked-map n f b) (linked-map n f h)
-
--- rows by what the rows before them hold
-is-after : (a : Automaton) (word : List ℕ) {x y : List ℕ} {P : (q k : ℕ) → Type 0} → Is x P
-    → Is y (AfterAll a word (Token x)) → Is y (AfterAll a word P)
-is-after a word p is = record {
-  only = λ q k h. after-map a (λ i. getD word i 0) (p .only) (length word) q k (is .only q k h);
-  all = λ q k h. is .all q k (after-map a (λ i. getD word i 0) (p .all) (length word) q k h);
-}
-
-is-linked : (n : ℕ) {x y : List ℕ} {P : (q k : ℕ) → Type 0} → Is x P → Is y (Linked n (Token x)) → Is y (Linked n P)
-is-linked n p is = record {
-  only = λ q k h. linked-map n (p .only) (is .only q k h);
-  all = λ q k h. is .all q k (linked-map n (p .all) h);
-}
+linked-map : (n : ℕ) (P Q : (q k : ℕ) → Type 0) → ((q k : ℕ) → P q k → Q q k)
+    → (q k : ℕ) → Linked n P q k → Linked n Q q k
+linked-map n P Q f _ _ (one q k h) = one q k (f q k h)
+linked-map n P Q f _ _ (join m q k lm lq b h) = join m q k lm lq (linked-map n P Q f _ _ b) (linked-map n P Q f _ _ h)
+linked-map n P Q f _ _ (joinMet m q k lm lq lk b h) =
+    joinMet m q k lm lq lk (linked-map n P Q f _ _ b) (linked-map n P Q f _ _ h)
 
 -- n counts the states, and the automaton's numbers are among them
 pub record Counted (a : Automaton) (n : ℕ) : Type 0 where
@@ -57,13 +48,13 @@ module _ {a : Automaton} {n : ℕ} (counted : Counted a n) (stem cycle : List �
   pub lost-in-stem : ((q : ℕ) → AfterAll a stem (Token r1) q startBit → ⊥) → Tells false (AcceptingPass a stem cycle)
   lost-in-stem lost = holds-not (λ pass.
       let h = pass-stemmed a n stem cycle (counted .few) (counted .inside) (counted .initial) pass in
-      lost (h .0) (after-map a (λ i. getD stem i 0) (is-initial rowsWords starts .all) (length stem) (h .0) startBit (h .1)))
+      lost (h .0) (after-map a stem _ _ (is-initial rowsWords starts .all) (h .0) startBit (h .1)))
 
   module _ {r2 : List ℕ} (stemmed : Is r2 (AfterAll a stem (Token r1)))
       {r3 : List ℕ} (begun : Gains r2 r3 (λ q k. (q < n) × (k ≡ q))) where
     is-begun : Is r3 (Begun a n stem cycle)
     is-begun =
-        let is = is-after a stem (is-initial rowsWords starts) stemmed in
+        let is = is-made (AfterAll a stem) (after-map a stem) (is-initial rowsWords starts) stemmed in
         record {
           only = λ q k h. ⊎-map (is .only q k) (λ b. b) (begun .only q k h);
           all = λ q k h. begun .all q k (⊎-map (is .all q k) (λ b. b) h);
@@ -80,11 +71,11 @@ module _ {a : Automaton} {n : ℕ} (counted : Counted a n) (stem cycle : List �
         → Tells false (AcceptingPass a stem cycle)
     lost-in-cycle lost = holds-not (λ pass.
         let h = pass-passed a n stem cycle (counted .few) (counted .inside) (counted .initial) pass in
-        lost (h .0) (after-map a (λ i. getD cycle i 0) (is-begun .all) (length cycle) (h .0) startBit (h .1)))
+        lost (h .0) (after-map a cycle _ _ (is-begun .all) (h .0) startBit (h .1)))
 
     module _ {r4 : List ℕ} (passed : Is r4 (AfterAll a cycle (Token r3))) where
       is-passed : Is r4 (Passed a n stem cycle)
-      is-passed = is-after a cycle is-begun passed
+      is-passed = is-made (AfterAll a cycle) (after-map a cycle) is-begun passed
 
       pub rows-covered : Covered r4
       rows-covered q k lt h =
@@ -103,7 +94,7 @@ module _ {a : Automaton} {n : ℕ} (counted : Counted a n) (stem cycle : List �
       }
         where
           rows : Is r5 (Linked n (Passed a n stem cycle))
-          rows = is-linked n is-passed closed
+          rows = is-made (Linked n) (linked-map n) is-passed closed
 
 -- no state accepts
 pub never-accepts : (a : Automaton) (stem cycle : List ℕ) → ((q : ℕ) → Accepts a q → ⊥) → Tells false (AcceptingPass a stem cycle)

@@ -39,7 +39,7 @@ pub record Is (rows : List ℕ) (Held : (q k : ℕ) → Type 0) : Type 0 where
 abbrev pub Gains : (before after : List ℕ) (New : (q k : ℕ) → Type 0) → Type 0
 Gains before after New = Is after (λ q k. Token before q k ⊎ New q k)
 
--- no row behind the first n has a bit: with n states no others are read, cleared or copied
+-- no row behind the first n has a bit: with n states no others are read or cleared
 abbrev pub Confined : (n : ℕ) (rows : List ℕ) → Type 0
 Confined n rows = (q k : ℕ) → Token rows q k → q < n
 
@@ -83,11 +83,9 @@ pub record Ran (r : Bool) (rows : List ℕ) (Held : (q k : ℕ) → Type 0) : Ty
   pub on : r ≡ true → Is rows Held
   pub lost : r ≡ false → (q : ℕ) → Held q startBit → ⊥
 
--- the one row of `via` has the runs to m, and those of its lower half lifted if m comes back to itself
-pub record Through (rows via : List ℕ) (m : ℕ) : Type 0 where
-  pub only : (k : ℕ) → Token via 0 k → Token rows m k ⊎ (Token rows m (metBit + m) × Lifted (Token rows) m k)
-  pub row : (k : ℕ) → Token rows m k → Token via 0 k
-  pub again : (k : ℕ) → Token rows m (metBit + m) → Lifted (Token rows) m k → Token via 0 k
+-- the runs to m, and those of the lower half lifted if m comes back to itself
+abbrev pub Through : (rows : List ℕ) (m k : ℕ) → Type 0
+Through rows m k = Token rows m k ⊎ (Token rows m (metBit + m) × Lifted (Token rows) m k)
 
 -- what is joined to row q when its bits m and `metBit` + m are looked at
 abbrev pub Via : (rows via : List ℕ) (m q k : ℕ) → Type 0

@@ -35,6 +35,7 @@ const ROWS_WORDS: usize = 4 * automaton::MAX_STATES;
 
 type Rows = [u64; ROWS_WORDS];
 
+// One of them by itself.
 type Row = [u64; 4];
 
 // The bit of the runs from an initial state at letter 0, and how far above a bit the one lies that says the same of
@@ -253,7 +254,7 @@ fn some_started(rows: &Rows, n: usize, back: bool) -> bool
     false
 }
 
-// The same; false if none from an initial state is left.
+// The runs after one letter, in `next`; false if none from an initial state is left.
 fn advance(image: &[u8], n: usize, letter: u8, rows: &Rows, next: &mut Rows) -> bool
     requires { ⌜ Readable (now image) × (n ≡ countsAt (now image) .states) × Confined n (now next) ⌝ }
     ensures { λ r. ⌜ Ran r (now (next .exit))
@@ -261,18 +262,6 @@ fn advance(image: &[u8], n: usize, letter: u8, rows: &Rows, next: &mut Rows) -> 
 {
     step(image, n, letter, rows, next);
     some_started(next, n, false)
-}
-
-// The same, in the rows that the runs stood in before. In `next` they are made.
-fn advance_here(image: &[u8], n: usize, letter: u8, rows: &mut Rows, next: &mut Rows) -> bool
-    requires { ⌜ Readable (now image) × (n ≡ countsAt (now image) .states)
-        × Confined n (now rows) × Confined n (now next) ⌝ }
-    ensures { λ r. ⌜ Ran r (now (rows .exit))
-        (Moved (imageAutomaton (now (image .entry))) letter (Token (now (rows .entry)))) ⌝ }
-{
-    let left = advance(image, n, letter, rows, next);
-    answer::copy_words(rows, next, 4 * n);
-    left
 }
 
 // The runs after all letters of a word. False at the first letter after which none from an initial state is left: then
@@ -296,7 +285,11 @@ fn run(image: &[u8], n: usize, word: &[u8], rows: &mut Rows) -> bool
     if i == word.len() {
         return true;
     }
-    advance_here(image, n, word[i], rows, &mut next)
+    if !advance(image, n, word[i], rows, &mut next) {
+        return false;
+    }
+    *rows = next;
+    true
 }
 
 // A run begins in each initial state. Their numbers are the image's last.
@@ -330,7 +323,7 @@ fn begin_passes(n: usize, rows: &mut Rows)
 // all that go round with it meet one too.
 fn runs_to(rows: &Rows, m: usize) -> Row
     requires { ⌜ m < maxStates ⌝ }
-    ensures { λ r. ⌜ Through (now (rows .entry)) r m ⌝ }
+    ensures { λ r. ⌜ Is r (λ p k. (p ≡ 0) × Through (now (rows .entry)) m k) ⌝ }
 {
     let mut via = row_of(rows, m);
     if !has_bit(rows, m, MET + m) {

@@ -8,7 +8,7 @@ use mathlib.Core.Path.{_≡_}
 use lib.ListN.{length}
 use Rattle.automaton.specs.Automaton.{Step}
 use Rattle.image.specs.Lookup.{imageAutomaton}
-use Rattle.judge.proofs.Letters.{Running, run-begins, run-confined, run-steps, run-stops, run-last, run-ends}
+use Rattle.judge.proofs.Letters.{Running, run-begins, run-confined, run-steps, run-stops, run-ends}
 use Rattle.image.proofs.Lookup.{step-target}
 use Rattle.judge.proofs.run.Statement.{statement}
 use Rattle.judge.proofs.run.Tie as tie
@@ -64,23 +64,24 @@ loop-again c =
 returns-3 : tie.Need-returns-3 Inv-loop μ-loop
 returns-3 c = run-ends _ _ _ _ (c .before .before .loop .i) (c .if3 .taken) (c .before .before .loop .inv)
 
-advance-here-requires : tie.Need-advance-here-requires Inv-loop μ-loop
-advance-here-requires c κs =
-    let at = c .before .before .before .before .before in
-    let s = at .before .before .before in
-    let confined = run-confined _ _ _ _ (target s) (s .pre .2) (at .loop .i) (at .loop .inv) in
-    (s .pre .0, s .pre .1, confined, at .loop .inv .confined)
-
 returns-4 : tie.Need-returns-4 Inv-loop μ-loop
 returns-4 c =
-    let at = c .before .before .before .before .before .before in
+    let at = c .before .before .before .before .before .before .before in
     let s = at .before .before .before in
-    run-last _ _ _ _ (target s) (s .pre .2) (at .loop .i) (at .loop .inv) (omega arith) (c .advance-here .ensures)
-    (omega arith)
+    run-stops _ _ _ _ (target s) (s .pre .2) (at .loop .i) (at .loop .inv) (omega arith) (c .before .advance3 .ensures)
+    (not-true _ (c .if4 .taken))
+
+returns-5 : tie.Need-returns-5 Inv-loop μ-loop
+returns-5 c =
+    let at = c .before .before .before .before .before .before .before in
+    let s = at .before .before .before in
+    run-ends _ _ _ _ (at .loop .i + 1) (omega arith)
+    (run-steps _ _ _ _ (target s) (s .pre .2) (at .loop .i) (at .loop .inv) (omega arith)
+    (c .before .advance3 .ensures) (not-false _ (c .if4 .left)))
 
 pub run-spec : {M : Type 1} → statement M
 run-spec =
     tie.close
     (tie.spec Inv-loop μ-loop loop-holds (λ c. search needs) (λ c. search needs) (λ c κs. search needs) returns
     (λ c. search needs) (λ c. search needs) advance-requires-2 returns-2 (λ c. search needs) (λ c. search needs)
-    loop-again returns-3 (λ c. search needs) advance-here-requires returns-4)
+    loop-again returns-3 (λ c. search needs) (λ c κs. search needs) returns-4 returns-5)

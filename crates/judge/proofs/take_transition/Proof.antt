@@ -2,19 +2,20 @@
 -- Assumes nothing.
 use borrow.Author.Needs.{needs}
 use Rattle.judge.proofs.RunBits.{ored-row}
-use Rattle.judge.proofs.Gathers.{adds-if, adds-not}
-use Rattle.judge.proofs.Turns.{reads-not, reads-so}
+use Rattle.judge.proofs.Gathers.{adds-as, adds-none}
+use Rattle.judge.proofs.Decisions.{tells-same, decided-not, decided-so}
 use Rattle.judge.proofs.take_transition.Statement.{statement}
 use Rattle.judge.proofs.take_transition.Tie as tie
 
 returns : tie.Need-returns
-returns c = adds-not (reads-not (c .before .reads-letter .ensures) (c .if1 .taken))
+returns c =
+    adds-none (λ t k h. decided-not (tells-same (c .before .reads-letter .ensures)) (c .if1 .taken) (h .0))
 
 returns-2 : tie.Need-returns-2
 returns-2 c =
     let test = c .before .before .before .before in
-    adds-if (reads-so (test .before .reads-letter .ensures) (test .if1 .left))
-    (ored-row _ _ _ _ 0 (rw (c .before .before .number-at .ensures) at (c .or-words .ensures)))
+    adds-as (ored-row _ _ _ _ 0 (rw (c .before .before .number-at .ensures) at (c .or-words .ensures)))
+    (λ t k h. (decided-so (tells-same (test .before .reads-letter .ensures)) (test .if1 .left), h)) (λ t k h. h .1)
 
 pub take-transition-spec : {M : Type 1} → statement M
 take-transition-spec =
