@@ -1,6 +1,5 @@
 // The first walk: the generalized automaton of a rule. Its states are obligation sets, its transitions terms; they
 // stand in tables that the caller lends, each transition with the number of its target and the untils that it fulfils.
-use acceptance::Untils;
 ghost use mathlib.Core.Path.{_≡_};
 ghost use mathlib.Core.List.{[]};
 ghost use Prim.Native.Nat.{_≤_, _<_};
