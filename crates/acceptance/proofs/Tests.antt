@@ -17,7 +17,7 @@ use Rattle.acceptance.specs.Acceptance.{shows, fulfils}
 use Rattle.acceptance.specs.Memory.{showsN, fulfilsN}
 
 -- one number is another where the three parts are
-equal-parts : (x y : Term) → Bytes x → Bytes y
+pub equal-parts : (x y : Term) → Bytes x → Bytes y
     → eqb (pack x) (pack y) ≡ (eqb (x .must) (y .must) && (eqb (x .mustNot) (y .mustNot) && eqb (x .obligations) (y .obligations)))
 equal-parts x y g h = go (eqb (x .must) (y .must)) (eqb (x .mustNot) (y .mustNot)) (eqb (x .obligations) (y .obligations)) refl refl refl
   where

@@ -4,5 +4,6 @@ pub mod Bits
 pub mod Lists
 pub mod Inserts
 pub mod Rising
+pub mod Seeking
 pub mod Stores
 pub mod Folds

@@ -14,7 +14,7 @@ pack-unpack t = omega arith
 pub unpack-bytes : (t : ℕ) → Bytes (unpack t)
 unpack-bytes t = record { must = omega arith; mustNot = omega arith }
 
-unpack-pack : (t : Term) → Bytes t → unpack (pack t) ≡ t
+pub unpack-pack : (t : Term) → Bytes t → unpack (pack t) ≡ t
 unpack-pack t bytes =
     let a : pack t / 256 % 256 ≡ t .must = omega (arith, bytes .must, bytes .mustNot) in
     let b : pack t % 256 ≡ t .mustNot = omega (arith, bytes .must, bytes .mustNot) in

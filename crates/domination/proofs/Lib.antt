@@ -1,0 +1,3 @@
+-- What the proofs of several functions, and of the crates above, cite.
+pub mod Undominated
+pub mod Packed
