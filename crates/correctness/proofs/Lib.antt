@@ -10,7 +10,10 @@ pub mod Levels
 pub mod Tests
 pub mod Counting
 pub mod Numbering
+pub mod Listing
 pub mod Walks
+pub mod Represented
 pub mod AcceptingPass
+pub mod Dropping
 pub mod Labels
 pub mod WellFormed

@@ -1,5 +1,6 @@
--- The automaton of an accepted rule numbers the automaton that counts levels over obligation sets: the first walk
--- numbers the sets, the second the pairs of such a number and a level. Assumes that both walks are accepted.
+-- The automaton of an accepted rule, by any listing of a state's transitions, numbers the automaton that counts levels
+-- over obligation sets: the first walk numbers the sets, the second the pairs of such a number and a level. Assumes
+-- that both walks are accepted.
 use Prim.Native.Nat.{ℕ, zero, suc, _<_}
 use mathlib.Core.Path.{_≡_, refl, sym, _∙_, ap, subst}
 use mathlib.Core.Logic.{_↔_}
@@ -16,20 +17,21 @@ use Rattle.formula.specs.Formula.{formula}
 use Rattle.term.specs.Term.{Term, cover}
 use Rattle.term.specs.Size.{sizesChecked}
 use Rattle.generalized.specs.Explore.{find}
-use Rattle.generalized.specs.Generalized.{transitions, targets, stateWalk, generalized}
 use Rattle.generalized.proofs.Passed.{initial-few}
 use Rattle.generalized.proofs.Explored.{Explored, walk-explored, extends-longer, extends-at}
-use Rattle.automaton.specs.Automaton.{Transition, State, Automaton, noState, reads, Step}
+use Rattle.automaton.specs.Automaton.{Transition, State, noState, reads, Step}
 use Rattle.sets.specs.Sets.{In}
 use Rattle.acceptance.specs.Acceptance.{untilCount}
-use Rattle.translation.specs.Degeneralized.{nextLevel, Pair, pair, samePair, numbers, initialNumbers, pairTransitions, target, pairWalk, degeneralized, stateOf}
+use Rattle.translation.specs.Degeneralized.{nextLevel, Pair, pair, samePair, numbers, initialNumbers, target, transitionOf}
 use Rattle.translation.proofs.Codes.{numbers-length}
 use Rattle.sets.proofs.Members.{All, at-in, in-at, map-in, in-map, map-at}
-use Rattle.correctness.proofs.Runs.{Reads, Represents}
+use Rattle.correctness.proofs.Runs.{Reads}
 use Rattle.correctness.proofs.Tests.{reads-iff}
 use Rattle.automaton.proofs.Passes.{numbered}
 use Rattle.correctness.proofs.Counting.{Counted, counting}
 use Rattle.correctness.proofs.Numbering.{Numbering}
+use Rattle.correctness.proofs.Listing.{Listed, stateWalkBy, generalizedBy, pairTransitionsBy, pairWalkBy}
+use Rattle.correctness.proofs.Listing.{degeneralizedBy, stateBy, automatonBy}
 
 -- the numbers below n
 pub numbers-at : (n k : ℕ) → k < n → getD (numbers n) k 0 ≡ k
@@ -58,17 +60,6 @@ same-equal x y e =
 same-self : (x : Pair) → samePair x x ≡ true
 same-self x = and-eq-true-iff (eqb (x .state) (x .state)) _ .1 (eq-eqb (x .state) (x .state) refl, eq-eqb (x .level) (x .level) refl)
 
--- a state's transitions as the first walk lists them: all its terms
-abbrev pub Listed : List ℕ → ℕ → Term → Type 0
-Listed rule e t = In t (transitions rule e)
-
-pub listed-represent : (rule : List ℕ) → Represents rule (Listed rule)
-unfolding transitions
-listed-represent rule = record {
-  listed = λ e t m. m;
-  enough = λ e t m. (t, m, record { reads = λ a r. r; obligations = λ n h. h; fulfils = λ n a b k f. f });
-}
-
 module _ (states : List ℕ) (pairs : List Pair) where
   abbrev pairAt : ℕ → Pair
   pairAt k = getD pairs k (pair 0 0)
@@ -82,11 +73,9 @@ module _ (states : List ℕ) (pairs : List Pair) where
     pub inside : k < length pairs
     pub known : pairAt k .state < length states
 
-abbrev pub automatonOf : (rule states : List ℕ) → List Pair → Automaton
-automatonOf rule states pairs = record { states = map (stateOf rule states pairs) pairs; initial = initialNumbers rule }
-
-module _ (rule : List ℕ) (accepted-rule : sizesChecked rule ≡ fine) (states : List ℕ) (first : generalized rule ≡ accepted states)
-    (pairs : List Pair) (second : degeneralized rule states ≡ accepted pairs) where
+module _ (rule : List ℕ) (listing : ℕ → List Term) (accepted-rule : sizesChecked rule ≡ fine)
+    (states : List ℕ) (first : generalizedBy rule listing ≡ accepted states)
+    (pairs : List Pair) (second : degeneralizedBy rule listing states ≡ accepted pairs) where
   abbrev count : ℕ
   count = length (cover (formula rule))
 
@@ -95,20 +84,20 @@ module _ (rule : List ℕ) (accepted-rule : sizesChecked rule ≡ fine) (states 
 
   -- the transitions of number k
   abbrev listedAt : ℕ → List Term
-  listedAt k = transitions rule (getD states (at k .state) 0)
+  listedAt k = pairTransitionsBy rule listing states (at k)
 
-  pub first-walked : Explored (stateWalk rule) 0 (cover (formula rule)) states
-  unfolding generalized
+  pub first-walked : Explored (stateWalkBy rule listing) 0 (cover (formula rule)) states
   first-walked =
-      walk-explored (stateWalk rule) eqb-true (λ x. eq-eqb x x refl) (omega (arith, initial-few rule accepted-rule)) first
+      walk-explored (stateWalkBy rule listing) eqb-true (λ x. eq-eqb x x refl)
+      (omega (arith, initial-few rule accepted-rule)) first
 
   initial-count : length (map (λ i. pair i 0) (numbers count)) ≡ count
   initial-count = length-map (numbers count) (λ i. pair i 0) ∙ numbers-length count
 
-  pub second-walked : Explored (pairWalk rule states) 0 (map (λ i. pair i 0) (numbers count)) pairs
-  unfolding degeneralized initialNumbers
+  pub second-walked : Explored (pairWalkBy rule listing states) 0 (map (λ i. pair i 0) (numbers count)) pairs
+  unfolding initialNumbers
   second-walked =
-      walk-explored (pairWalk rule states) same-equal same-self
+      walk-explored (pairWalkBy rule listing states) same-equal same-self
       (omega (arith, initial-few rule accepted-rule, initial-count)) second
 
   -- the first numbers are the initial ones
@@ -130,16 +119,16 @@ module _ (rule : List ℕ) (accepted-rule : sizesChecked rule ≡ fine) (states 
       λ i. record { obligations = o i; level = initial-at k l i .level }
 
   -- the target of a known state's transition is known
-  target-known : (state : ℕ) → state < length states → (t : Term) → In t (transitions rule (getD states state 0))
+  target-known : (state : ℕ) → state < length states → (t : Term) → In t (listing (getD states state 0))
       → (find eqb (t .obligations) states < length states) × (getD states (find eqb (t .obligations) states) 0 ≡ t .obligations)
-  unfolding targets
   target-known state l t m =
       first-walked .numbered (t .obligations)
-      (first-walked .taken state (omega arith) l .closed (t .obligations) (in-map (λ t. t .obligations) t (transitions rule (getD states state 0)) m))
+      (first-walked .taken state (omega arith) l .closed (t .obligations)
+      (in-map (λ t. t .obligations) t (listing (getD states state 0)) m))
 
   -- the pairs' states are numbers of the first walk
   pub pairs-known : All (λ x. x .state < length states) pairs
-  unfolding pairTransitions target
+  unfolding target
   pairs-known = second-walked .every (λ x. x .state < length states) step start
     where
       start : All (λ x. x .state < length states) (map (λ i. pair i 0) (numbers count))
@@ -148,9 +137,10 @@ module _ (rule : List ℕ) (accepted-rule : sizesChecked rule ≡ fine) (states 
           let q : x .state ≡ i = ap (λ (y : Pair). y .state) e in
           omega (arith, numbers-in count i m, extends-longer (first-walked .extends))
 
-      step : (x : Pair) → x .state < length states → All (λ y. y .state < length states) (map (target rule states x) (pairTransitions rule states x))
+      step : (x : Pair) → x .state < length states
+          → All (λ y. y .state < length states) (map (target rule states x) (pairTransitionsBy rule listing states x))
       step x l y h =
-          let (t, m, e) = map-in (target rule states x) y (pairTransitions rule states x) h in
+          let (t, m, e) = map-in (target rule states x) y (pairTransitionsBy rule listing states x) h in
           subst (λ (z : Pair). z .state < length states) (sym e) (target-known (x .state) l t m .0)
 
   -- number j stands for what the term t leads to from number k
@@ -158,11 +148,11 @@ module _ (rule : List ℕ) (accepted-rule : sizesChecked rule ≡ fine) (states 
     pub valid : Valid states pairs j
     is : means states pairs j ≡ record { obligations = t .obligations; level = nextLevel rule (at k .level) t }
 
-  abbrev pub leads : ℕ → Term → ℕ
+  abbrev leads : ℕ → Term → ℕ
   leads k t = find samePair (target rule states (at k) t) pairs
 
   pub lands : (k : ℕ) → Valid states pairs k → (t : Term) → In t (listedAt k) → Lands k (leads k t) t
-  unfolding pairTransitions target
+  unfolding target
   lands k v t m =
       let (a, e) = target-known (at k .state) (v .known) t m in
       let (b, f) = second-walked .numbered (target rule states (at k) t)
@@ -173,22 +163,25 @@ module _ (rule : List ℕ) (accepted-rule : sizesChecked rule ≡ fine) (states 
         is = λ i. record { obligations = o i; level = f i .level };
       }
 
-  state-at : (k : ℕ) → Valid states pairs k → getD (automatonOf rule states pairs .states) k noState ≡ stateOf rule states pairs (at k)
-  state-at k v = map-at (stateOf rule states pairs) (pair 0 0) noState pairs k (v .inside)
+  state-at : (k : ℕ) → Valid states pairs k
+      → getD (automatonBy rule listing states pairs .states) k noState ≡ stateBy rule listing states pairs (at k)
+  state-at k v = map-at (stateBy rule listing states pairs) (pair 0 0) noState pairs k (v .inside)
 
-  step-iff : (k letter j : ℕ) → Valid states pairs k → Step (automatonOf rule states pairs) k letter j ↔ ((t : Term) × In t (listedAt k) × Reads t letter × (j ≡ leads k t))
-  unfolding stateOf pairTransitions
+  step-iff : (k letter j : ℕ) → Valid states pairs k → Step (automatonBy rule listing states pairs) k letter j
+      ↔ ((t : Term) × In t (listedAt k) × Reads t letter × (j ≡ leads k t))
   step-iff k letter j v = (there, back)
     where
       transition : Term → Transition
-      transition t = record { must = t .must; mustNot = t .mustNot; target = leads k t }
+      transition = transitionOf rule states pairs (at k)
 
-      there : Step (automatonOf rule states pairs) k letter j → (t : Term) × In t (listedAt k) × Reads t letter × (j ≡ leads k t)
+      there : Step (automatonBy rule listing states pairs) k letter j
+          → (t : Term) × In t (listedAt k) × Reads t letter × (j ≡ leads k t)
       there (u, m, r, e) =
           let (t, l, q) = map-in transition u (listedAt k) (subst (λ (s : State). In u (s .transitions)) (state-at k v) m) in
           (t, l, reads-iff t (leads k t) letter .0 (subst (λ (x : Transition). reads x letter ≡ true) q r), e ∙ ap (λ (x : Transition). x .target) q)
 
-      back : (t : Term) × In t (listedAt k) × Reads t letter × (j ≡ leads k t) → Step (automatonOf rule states pairs) k letter j
+      back : (t : Term) × In t (listedAt k) × Reads t letter × (j ≡ leads k t)
+          → Step (automatonBy rule listing states pairs) k letter j
       back (t, l, r, e) = (
         transition t,
         subst (λ (s : State). In (transition t) (s .transitions)) (sym (state-at k v)) (in-map transition t (listedAt k) l),
@@ -196,14 +189,15 @@ module _ (rule : List ℕ) (accepted-rule : sizesChecked rule ≡ fine) (states 
         e,
       )
 
-  pub numbering : Numbering (counting rule (Listed rule)) (numbered (automatonOf rule states pairs)) (length pairs) (Valid states pairs) (means states pairs)
-  unfolding initialNumbers stateOf
+  pub numbering : Numbering (counting rule (Listed listing)) (numbered (automatonBy rule listing states pairs))
+      (length pairs) (Valid states pairs) (means states pairs)
+  unfolding initialNumbers
   numbering = record {
     small = λ k v. v .inside;
     initial-valid = λ k h. initial-valid k (numbers-in count k h);
     initial-means = λ k h.
         let l = numbers-in count k h in
-        subst (counting rule (Listed rule) .Initial) (sym (initial-means k l)) (at-in 0 (cover (formula rule)) k l, refl);
+        subst (counting rule (Listed listing) .Initial) (sym (initial-means k l)) (at-in 0 (cover (formula rule)) k l, refl);
     initial-has = λ x (m, z).
         let (k, l, q) = in-at 0 (x .obligations) (cover (formula rule)) m in
         (k, in-numbers count k l, initial-means k l ∙ sym (λ i. record { obligations = sym q i; level = z i }));
