@@ -5,6 +5,7 @@ pub mod Explored
 pub mod Passed
 pub mod Numbers
 pub mod Products
+pub mod Sifting
 pub mod Meeting
 pub mod Covering
 pub mod Walking

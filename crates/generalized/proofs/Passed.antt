@@ -18,8 +18,10 @@ use Rattle.term.specs.Limits.{maxTerms}
 use Rattle.term.specs.Term.{cover}
 use Rattle.term.specs.Size.{sizeCheck, sizesChecked}
 use Rattle.term.proofs.Sizes.{Few, few-fine, bytes-fine, sizes-fine}
+use Rattle.domination.specs.Domination.{dominates, free}
+use Rattle.domination.proofs.Undominated.{filter-short}
 use Rattle.generalized.specs.Limits.{maxProduct}
-use Rattle.generalized.specs.Generalized.{partialProduct, transitions, productCheck}
+use Rattle.generalized.specs.Generalized.{partialProduct, stateTerms, transitions, productCheck}
 
 module _ (rule : List ℕ) (passed : sizesChecked rule ≡ fine) where
   pub some-nodes : 0 < nodeCount rule
@@ -47,4 +49,6 @@ module _ (rule : List ℕ) (passed : sizesChecked rule ≡ fine) where
   few-transitions place state e =
       let last : suc (root rule) ≡ nodeCount rule = omega (arith, some-nodes) in
       let fits = require-fine _ 21 place (lowest-each _ (nodeCount rule) e (root rule) (omega (arith, some-nodes))) in
-      rw (← last) (leb-true (length (partialProduct rule state (suc (root rule)))) maxProduct fits)
+      let terms : length (stateTerms rule state) ≤ maxProduct =
+      rw (← last) (leb-true (length (partialProduct rule state (suc (root rule)))) maxProduct fits) in
+      omega (arith, filter-short (free (dominates rule) (stateTerms rule state)) (stateTerms rule state))

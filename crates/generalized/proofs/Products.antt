@@ -1,6 +1,6 @@
 -- The partial products of a state, as numbers, and what their counts say of number 21.
 -- Assumes nothing.
-use mathlib.Core.Path.{_≡_, sym, ap, _∙_}
+use mathlib.Core.Path.{_≡_, refl, sym, ap, _∙_}
 use mathlib.Core.Bool.{Bool, true, false}
 use mathlib.Core.List.{List, [], _∷_, map}
 use Prim.Native.Nat.{ℕ, zero, suc, _+_, _≤_, _<_, min}
@@ -18,15 +18,16 @@ use Rattle.formula.specs.Formula.{tree, InRange}
 use Rattle.sets.specs.Bits.{has}
 use Rattle.sets.specs.Sets.{Stores, insertProductN}
 use Rattle.sets.proofs.Stores.{items-are}
+use Rattle.sets.proofs.Rising.{Rising, Consistent, product-rises}
 use Rattle.term.specs.Term.{Term, terms}
 use Rattle.term.specs.Size.{sizesChecked}
 use Rattle.term.specs.Memory.{pack, rowOf, TermRow, TermTable}
 use Rattle.term.proofs.Packing.{Numbers, of-terms, numbers-are, canonical}
 use Rattle.term.proofs.Packing.{product-numbers, owing-numbers, terms-numbers}
-use Rattle.term.proofs.Rising.{product-one}
+use Rattle.term.proofs.Rising.{terms-rise, product-one}
 use Rattle.term.proofs.Rows.{row-is, row-fits}
 use Rattle.generalized.specs.Limits.{maxProduct}
-use Rattle.generalized.specs.Generalized.{times, partialProduct, transitions, productCheck}
+use Rattle.generalized.specs.Generalized.{times, partialProduct, stateTerms, productCheck}
 use Rattle.generalized.specs.Memory.{Factor, ProductRoom, Product}
 use Rattle.generalized.proofs.Passed.{few, in-range}
 
@@ -45,6 +46,24 @@ partial-packed rule state zero ranges = owing-numbers (0 ∷ [])
 partial-packed rule state (suc n) ranges =
     times-packed (has state n) (partial-packed rule state n (λ k lt. ranges k (omega arith)))
     (terms-numbers (tree rule n) (ranges n (omega arith)))
+
+-- their numbers rise
+times-rises : (b : Bool) {ts us : List Term} → Packed ts → Packed us → Rising Consistent 0 (map pack ts)
+    → Rising Consistent 0 (map pack us) → Rising Consistent 0 (map pack (times b ts us))
+times-rises true p t rise own =
+    rw (← (numbers-are of-terms (product-numbers of-terms p t)))
+    (product-rises Consistent (λ x y c d e. e) 0 0 _ _ _ rise own tt)
+times-rises false p t rise own = rise
+
+pub partial-rises : (rule : List ℕ) (state n : ℕ) → ((k : ℕ) → k < n → InRange (tree rule k))
+    → Rising Consistent 0 (map pack (partialProduct rule state n))
+unfolding partialProduct
+partial-rises rule state zero ranges = (omega arith, refl, tt)
+partial-rises rule state (suc n) ranges =
+    times-rises (has state n) (partial-packed rule state n (λ k lt. ranges k (omega arith)))
+    (terms-numbers (tree rule n) (ranges n (omega arith)))
+    (partial-rises rule state n (λ k lt. ranges k (omega arith)))
+    (terms-rise (tree rule n) (ranges n (omega arith)))
 
 -- a node's row can be multiplied with
 pub factor-of : (rule table : List ℕ) (k : ℕ) → sizesChecked rule ≡ fine → TermTable rule table → k < nodeCount rule
@@ -84,7 +103,7 @@ multiply-begins {n = n} items next le room = record {
 module _ {rule : List ℕ} {state n : ℕ} {items next : List ℕ} {count k : ℕ}
     (inv : Multiplying rule state n items next count k) where
   pub multiply-ends : n ≡ nodeCount rule → n ≤ k → Product rule state items count
-  unfolding productCheck transitions
+  unfolding productCheck
   multiply-ends e ge =
       let same : k ≡ nodeCount rule = omega (arith, inv .within) in
       record {

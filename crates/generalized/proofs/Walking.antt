@@ -10,13 +10,11 @@ use lib.Seq.{getD-take, length-take-le, take-append-le, take-all, take-add, take
 use borrow.Author.Count.{below-more}
 use Rattle.answer.specs.Result.{Result, accepted, refused, andThen, fine}
 use Rattle.answer.proofs.Results.{then-accepted}
-use Rattle.formula.specs.Rule.{nodeCount}
 use Rattle.formula.specs.Formula.{formula}
 use Rattle.term.specs.Limits.{maxTerms}
 use Rattle.term.specs.Term.{Term, cover}
 use Rattle.term.specs.Size.{sizesChecked}
-use Rattle.term.specs.Memory.{unpack}
-use Rattle.term.proofs.Unpacking.{unpack-all}
+use Rattle.domination.specs.Memory.{Drops}
 use Rattle.generalized.specs.Limits.{maxProduct, maxGeneralizedStates}
 use Rattle.generalized.specs.declared.Extent.{Extent}
 use Rattle.generalized.specs.declared.Step.{Step}
@@ -28,8 +26,7 @@ use Rattle.generalized.specs.Memory.{ProductRoom, Product, ListedKept, W
 use Rattle.generalized.specs.Memory.{MeetsAll, allTransitions, WalkPlaces, Walks}
 use Rattle.generalized.proofs.Exploring.{explore-next, explore-refused, explore-ends}
 use Rattle.generalized.proofs.Explored.{Extends, extends-longer, all-grows}
-use Rattle.generalized.proofs.Passed.{in-range}
-use Rattle.generalized.proofs.Products.{partial-packed}
+use Rattle.generalized.proofs.Sifting.{left-are, left-told}
 use Rattle.generalized.proofs.Numbers.{listed-on, listed-none, listed-both}
 
 -- the transitions of the state at place among xs
@@ -41,24 +38,25 @@ abbrev walkState : (rule : List ℕ) (place count : ℕ) (xs : List ℕ) → Res
 walkState rule place count xs =
     andThen (productCheck rule place (getD xs place 0)) (λ _. meetTargets place (transitionsOf rule xs place) count xs)
 
--- the state at place, whose transitions are the first count of items
+-- the state at place, whose terms are the first count of items
 module _ (rule states : List ℕ) (place : ℕ) (before : Extent) (lt : place < before .states) (items : List ℕ) (count : ℕ)
     (product : Product rule (getD states place 0) items count) where
   state-refused : maxProduct < count
       → walkState rule place (before .transitions) (take (before .states) states) ≡ refused 21 place
   state-refused over = rw (getD-take (before .states) states place 0 lt, product .over over place)
 
-  state-adds : sizesChecked rule ≡ fine → count ≤ maxProduct
-      → (bytes transitions₀ : List ℕ) (step : Step) (states′ transitions′ : List ℕ) → Told rule items bytes count
-      → MeetsAll items bytes count place before states transitions₀ step states′ transitions′
-      → AddsTransitions rule (transitionsOf rule states place) (before .transitions) transitions₀
-      (walkState rule place (before .transitions) (take (before .states) states)) step states′ transitions′
-  unfolding transitions
-  state-adds passed le bytes transitions₀ step states′ transitions′ told turn =
-      let packed = partial-packed rule (getD states place 0) (nodeCount rule) (in-range rule passed) in
-      let are : map unpack (take count items) ≡ transitions rule (getD states place 0) =
-      rw (product .terms le) (unpack-all packed) in
-      rw (getD-take (before .states) states place 0 lt, product .checked le place) (rw are at (turn rule told))
+  -- what is left of its terms once they are sifted
+  module _ (passed : sizesChecked rule ≡ fine) (le : count ≤ maxProduct) {bytes : List ℕ}
+      (told : Told rule items bytes count) {items′ bytes′ : List ℕ} {n : ℕ}
+      (drops : Drops items bytes count items′ bytes′ n) where
+    state-adds : (transitions₀ : List ℕ) (step : Step) (states′ transitions′ : List ℕ)
+        → MeetsAll items′ bytes′ n place before states transitions₀ step states′ transitions′
+        → AddsTransitions rule (transitionsOf rule states place) (before .transitions) transitions₀
+        (walkState rule place (before .transitions) (take (before .states) states)) step states′ transitions′
+    state-adds transitions₀ step states′ transitions′ turn =
+        let are = left-are rule passed (getD states place 0) product le told drops in
+        let own = left-told rule passed (getD states place 0) product le told drops in
+        rw (getD-take (before .states) states place 0 lt, product .checked le place) (rw are at (turn rule own))
 
 -- the walk of a state only adds states
 state-extends : (rule : List ℕ) (place total : ℕ) (xs ys : List ℕ) → walkState rule place total xs ≡ accepted ys
@@ -154,7 +152,7 @@ module _ {rule : List ℕ} {initial : ℕ} {states transitions ends : List ℕ} 
         ending = λ k lt. inv .ending k (omega arith);
       }
 
-  -- it goes on with the state there, whose transitions are the first many of items
+  -- it goes on with the state there, whose terms are the first many of items
   module _ (lt : place < size .states) {items : List ℕ} {many : ℕ}
       (product : Product rule (getD states place 0) items many) where
     fuel : maxGeneralizedStates - place ≡ suc (maxGeneralizedStates - suc place)
@@ -174,14 +172,15 @@ module _ {rule : List ℕ} {initial : ℕ} {states transitions ends : List ℕ} 
     pub walk-over : maxProduct < many → generalized rule ≡ refused 21 place
     walk-over over = refused-here (state-refused rule states place size lt items many product over)
 
-    module _ (passed : sizesChecked rule ≡ fine) (le : many ≤ maxProduct) (bytes : List ℕ)
-        (told : Told rule items bytes many) (step : Step) (states′ transitions′ : List ℕ)
-        (turn : MeetsAll items bytes many place size states transitions step states′ transitions′) where
+    module _ (passed : sizesChecked rule ≡ fine) (le : many ≤ maxProduct) {bytes : List ℕ}
+        (told : Told rule items bytes many) {items′ bytes′ : List ℕ} {n : ℕ}
+        (drops : Drops items bytes many items′ bytes′ n) (step : Step) (states′ transitions′ : List ℕ)
+        (turn : MeetsAll items′ bytes′ n place size states transitions step states′ transitions′) where
       walked : AddsTransitions rule (transitionsOf rule states place) total transitions (walkState rule place total xs)
           step states′ transitions′
       walked =
-          state-adds rule states place size lt items many product passed le bytes transitions step states′ transitions′
-          told turn
+          state-adds rule states place size lt items many product passed le told drops transitions step states′
+          transitions′ turn
 
       pub walk-refused : {number at : ℕ} → step ≡ Stop number at → generalized rule ≡ refused number at
       walk-refused e = refused-here (rw e at walked)

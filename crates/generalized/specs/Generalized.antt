@@ -1,5 +1,5 @@
 -- The first walk: the generalized automaton of a rule (01, First walk and second walk). Its states are obligation
--- sets, its transitions terms.
+-- sets, its transitions terms that no other dominates.
 use Prim.Native.Nat.{ℕ, zero, suc}
 use mathlib.Core.List.{List, [], _∷_, map}
 use mathlib.Core.Bool.{Bool, true, false}
@@ -10,6 +10,7 @@ use Rattle.formula.specs.Rule.{nodeCount}
 use Rattle.formula.specs.Formula.{tree, formula}
 use Rattle.sets.specs.Bits.{has}
 use Rattle.term.specs.Term.{Term, term, product, cover, terms}
+use Rattle.domination.specs.Domination.{dominates, undominated}
 use Rattle.generalized.specs.Limits.{maxProduct, maxGeneralizedTransitions, maxGeneralizedStates}
 use Rattle.generalized.specs.Explore.{Numbering, Walk, walked}
 
@@ -24,13 +25,18 @@ unfoldable pub partialProduct : List ℕ → (state n : ℕ) → List Term
 partialProduct rule state zero = term 0 0 0 ∷ []
 partialProduct rule state (suc n) = times (has state n) (partialProduct rule state n) (terms (tree rule n))
 
--- a state's transitions: the product over all its obligations, in the order of terms (01, First walk and second walk,
--- sentences 5 and 6)
-unfoldable pub transitions : List ℕ → ℕ → List Term
-transitions rule state = partialProduct rule state (nodeCount rule)
+-- a state's terms: the product over all its obligations, in the order of terms (01, First walk and second walk,
+-- sentence 5)
+abbrev pub stateTerms : List ℕ → ℕ → List Term
+stateTerms rule state = partialProduct rule state (nodeCount rule)
 
--- 21, at the state that is walked: its product, or a partial one on the way, has more than maxProduct terms (01, First
--- walk and second walk, sentence 4; Numbers that come from the state, 21)
+-- a state's transitions: those of its terms that no other of them dominates (R-1; 01, First walk and second walk,
+-- sentence 6)
+unfoldable pub transitions : List ℕ → ℕ → List Term
+transitions rule state = undominated (dominates rule) (stateTerms rule state)
+
+-- 21, at the state that is walked: its product, or a partial one on the way, has more than maxProduct terms, those that
+-- will be dropped too (01, First walk and second walk, sentence 4; Numbers that come from the state, 21; R-1, sentence 5)
 unfoldable pub productCheck : List ℕ → (place state : ℕ) → Check
 productCheck rule place state =
     lowest (λ n. require (leb (length (partialProduct rule state (suc n))) maxProduct) 21 place) (nodeCount rule)

@@ -21,7 +21,7 @@ use Rattle.generalized.specs.declared.Step.the-variants.{On, Stop}
 use Rattle.generalized.specs.declared.Walked.{Walked}
 use Rattle.generalized.specs.declared.Walked.the-variants.{Accepted, Refused}
 use Rattle.generalized.specs.Explore.{find, meet, meetAll}
-use Rattle.generalized.specs.Generalized.{transitions, productCheck, stateNumbering, generalized}
+use Rattle.generalized.specs.Generalized.{stateTerms, transitions, productCheck, stateNumbering, generalized}
 
 -- ---- the transitions of a state
 
@@ -37,10 +37,10 @@ pub record ProductRoom (product next : List ℕ) : Type 0 where
   pub room : length product ≡ maxProduct
   pub beside : length next ≡ maxProduct
 
--- the first count of items are a state's transitions, unless a partial product is too large; then count is above that
+-- the first count of items are a state's terms, unless a partial product is too large; then count is above that
 pub record Product (rule : List ℕ) (state : ℕ) (items : List ℕ) (count : ℕ) : Type 0 where
   pub checked : count ≤ maxProduct → (place : ℕ) → productCheck rule place state ≡ fine
-  pub terms : count ≤ maxProduct → take count items ≡ map pack (transitions rule state)
+  pub terms : count ≤ maxProduct → take count items ≡ map pack (stateTerms rule state)
   pub over : maxProduct < count → (place : ℕ) → productCheck rule place state ≡ refused 21 place
 
 -- ---- a transition in the table

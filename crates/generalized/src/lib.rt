@@ -153,7 +153,7 @@ fn times(table: &[u64], k: usize, product: &mut [u64], count: usize, next: &mut 
     more
 }
 
-// The transitions of a state: the product over its obligations, up to the first one that is over.
+// The terms of a state: the product over its obligations, up to the first one that is over.
 fn state_terms(
     rule: &[u8],
     table: &[u64],
@@ -245,8 +245,8 @@ fn put_end(ends: &mut [usize], state: GeneralizedNumber, end: usize)
 }
 
 // The first walk of a rule that 1 to 7 and 20 let pass, from its table of terms: its states by number, their
-// transitions one after another, and where each state's end. Each state's transitions are worked out, or 21, then the
-// untils that they fulfil, then they are met.
+// transitions one after another, and where each state's end. Each state's terms are worked out, or 21, then the untils
+// that they fulfil; those that another dominates are dropped, and the rest are met.
 pub fn walk(
     rule: &[u8],
     table: &[u64],
@@ -275,7 +275,8 @@ pub fn walk(
             return Walked::Refused(PRODUCT_TOO_LARGE, at);
         }
         acceptance::fulfil(rule, table, untils, &product, many, &mut bytes);
-        let step = meet_all(&product, &bytes, many, state, states, transitions, size);
+        let few = domination::drop_dominated(&mut product, &mut bytes, many);
+        let step = meet_all(&product, &bytes, few, state, states, transitions, size);
         match step {
             Step::On(n, m) => {
                 put_end(ends, state, m);

@@ -3,8 +3,9 @@
 use mathlib.Core.Path.{_≡_, refl, ap, _∙_}
 use mathlib.Core.List.{List, [], _∷_}
 use mathlib.Core.Bool.{Bool, true, false, cond}
-use Prim.Native.Nat.{ℕ, suc, _≤_}
+use Prim.Native.Nat.{ℕ, zero, suc, _≤_, _<_}
 use native.Mathlib.Omega.{arith}
+use lib.ListN.{length, getD}
 use lib.Dec.{ltb}
 use lib.Bits.{bitOr}
 use borrow.Author.Tests.{lt-ltb, ltb-true}
@@ -20,6 +21,20 @@ module _ (P : ℕ → Type 0) where
   pub rising-from : (low high : ℕ) (xs : List ℕ) → low ≤ high → Rising P high xs → Rising P low xs
   rising-from low high [] le r = tt
   rising-from low high (x ∷ xs) le r = (omega arith, r .1, r .2)
+
+  rising-least : (low : ℕ) (xs : List ℕ) → Rising P low xs → (i : ℕ) → i < length xs → low ≤ getD xs i 0
+  rising-least low [] r i lt = absurd (omega arith)
+  rising-least low (x ∷ xs) r zero lt = r .0
+  rising-least low (x ∷ xs) r (suc i) lt =
+      let le = rising-least (suc x) xs (r .2) i (omega arith) in omega (arith, r .0)
+
+  -- of two places the later one has the higher number
+  pub rising-at : (low : ℕ) (xs : List ℕ) → Rising P low xs → (i j : ℕ) → i < j → j < length xs
+      → getD xs i 0 < getD xs j 0
+  rising-at low [] r i j lt inside = absurd (omega arith)
+  rising-at low (x ∷ xs) r i zero lt inside = absurd (omega arith)
+  rising-at low (x ∷ xs) r zero (suc j) lt inside = rising-least (suc x) xs (r .2) j (omega arith)
+  rising-at low (x ∷ xs) r (suc i) (suc j) lt inside = rising-at (suc x) xs (r .2) i j (omega arith) (omega arith)
 
   pub insert-rises : (t low : ℕ) (xs : List ℕ) → low ≤ t → P t → Rising P low xs → Rising P low (insertN t xs)
   unfolding insert

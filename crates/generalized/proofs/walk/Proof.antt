@@ -7,6 +7,7 @@ use mathlib.Core.Path.{refl, sym, _∙_}
 use Rattle.generalized.specs.Limits.{maxGeneralizedStates}
 use Rattle.term.proofs.Sizes.{bytes-fine}
 use Rattle.generalized.proofs.Walking.{Walking, Space, walk-begins, walk-refused, walk-over, walk-steps, walk-ends}
+use Rattle.generalized.proofs.Sifting.{terms-sorted}
 use Rattle.generalized.proofs.walk.Statement.{statement}
 use Rattle.generalized.proofs.walk.Tie as tie
 
@@ -19,7 +20,7 @@ abbrev μ-loop : tie.MeasureT-loop
     maxGeneralizedStates - state .0
 
 -- The places of a turn, each by the one after it: what the walk was given, the turn's beginning, the state that is
--- taken, its product, the untils that are told, the targets that are met.
+-- taken, its product, the untils that are told, what is left when some are dropped, the targets that are met.
 abbrev start : tie.At-loop Inv-loop μ-loop → tie.Start Inv-loop μ-loop
 start c = c .before .before .before .before .before .before .before .before .before .before .before
 
@@ -38,8 +39,11 @@ product c = c .before .before .before
 abbrev small : tie.After-fulfil Inv-loop μ-loop → tie.Else2 Inv-loop μ-loop
 small c = c .before .before .before
 
-abbrev told : tie.After-meet-all Inv-loop μ-loop → tie.After-fulfil Inv-loop μ-loop
-told c = c .before .before .before .before .before .before
+abbrev told : tie.After-drop-dominated Inv-loop μ-loop → tie.After-fulfil Inv-loop μ-loop
+told c = c .before .before .before .before
+
+abbrev sifted : tie.After-meet-all Inv-loop μ-loop → tie.After-drop-dominated Inv-loop μ-loop
+sifted c = c .before .before .before .before .before .before .before
 
 abbrev met : tie.After-step Inv-loop μ-loop → tie.After-meet-all Inv-loop μ-loop
 met c = c .before .before .before .before .before .before
@@ -49,7 +53,7 @@ stopped c = c .before .before .before .before .before .before
 
 -- and the turn in which targets are met
 abbrev turn-of : tie.After-meet-all Inv-loop μ-loop → tie.Then1 Inv-loop μ-loop
-turn-of c = taken (product (small (told c)))
+turn-of c = taken (product (small (told (sifted c))))
 
 untils-of-requires : tie.Need-untils-of-requires Inv-loop μ-loop
 untils-of-requires c κs = bytes-fine _ (c .before .before .before .before .before .pre .0)
@@ -102,10 +106,44 @@ fulfil-requires c κs =
       record { accepted = bytes-fine _ (start at .pre .0); terms = start at .pre .1; untils = untils .ensures },
     )
 
+slice-aggregate-drop-dominated : tie.Need-slice-aggregate-drop-dominated Inv-loop μ-loop
+slice-aggregate-drop-dominated c =
+    let terms = product (small (c .before .before)) in
+    sym (terms .state-terms .kept .1 .1 .1 .0 ∙ turn (taken terms) .loop .inv .1 .products .room)
+
+slice-aggregate-drop-dominated-2 : tie.Need-slice-aggregate-drop-dominated-2 Inv-loop μ-loop
+slice-aggregate-drop-dominated-2 c =
+    let bytes = c .before .before .before in
+    sym (bytes .fulfil .kept .1 .1 .1 .1 .1 .0 ∙ turn (taken (product (small bytes))) .loop .inv .1 .bytes-room)
+
+drop-dominated-requires : tie.Need-drop-dominated-requires Inv-loop μ-loop
+drop-dominated-requires c κs =
+    let few = small (c .before .before .before) in
+    let terms = product few in
+    terms-sorted _ (start (turn (taken terms)) .pre .0) _ (terms .state-terms .ensures) (few .if2 .left)
+    (omega (arith, few .if2 .left, slice-aggregate-drop-dominated (c .before)))
+    (omega (arith, few .if2 .left, slice-aggregate-drop-dominated-2 c))
+
+slice-aggregate-meet-all : tie.Need-slice-aggregate-meet-all Inv-loop μ-loop
+slice-aggregate-meet-all c =
+    let left = c .before .before .before in
+    slice-aggregate-drop-dominated (left .before .before) ∙ sym (left .drop-dominated .kept .0)
+
+slice-aggregate-meet-all-2 : tie.Need-slice-aggregate-meet-all-2 Inv-loop μ-loop
+slice-aggregate-meet-all-2 c =
+    let left = c .before .before .before .before in
+    slice-aggregate-drop-dominated-2 (left .before) ∙ sym (left .drop-dominated .kept .1 .0)
+
 meet-all-requires : tie.Need-meet-all-requires Inv-loop μ-loop
 meet-all-requires c κs =
-    let at = turn (taken (product (small (c .before .before .before .before .before)))) in
-    (search needs, search needs, at .loop .inv .0 .room)
+    let left = c .before .before .before .before .before .before in
+    let at = turn (taken (product (small (told left)))) in
+    let few = left .drop-dominated .ensures .few in
+    let most = small (told left) .if2 .left in (
+      omega (arith, few, most, slice-aggregate-meet-all (c .before .before .before)),
+      omega (arith, few, most, slice-aggregate-meet-all-2 (c .before .before)),
+      at .loop .inv .0 .room,
+    )
 
 put-end-requires : tie.Need-put-end-requires Inv-loop μ-loop
 put-end-requires c κs =
@@ -120,8 +158,8 @@ numbered c =
     let state = turn-of (met (c .before .before .before)) in
     omega (arith, turn state .loop .inv .0 .room .few, state .if1 .taken)
 
-add-t46 : tie.Need-add-t46 Inv-loop μ-loop
-add-t46 c = omega (arith, numbered (c .before .before .before))
+add-t51 : tie.Need-add-t51 Inv-loop μ-loop
+add-t51 c = omega (arith, numbered (c .before .before .before))
 
 loop-less : tie.Need-loop-less Inv-loop μ-loop
 loop-less c = omega (arith, numbered (c .before .before .before))
@@ -131,21 +169,21 @@ loop-again c =
     let end = c .before .before .before in
     let step = end .before .before .before in
     let meets = met step in
-    let bytes = told meets in
+    let left = sifted meets in
+    let bytes = told left in
     let terms = product (small bytes) in
-    let at = turn (taken terms) in
-    let space = at .loop .inv .1 in (
+    let at = turn (taken terms) in (
       walk-steps (at .loop .inv .0) (taken terms .if1 .taken) (terms .state-terms .ensures) (start at .pre .0)
-          (small bytes .if2 .left) _ (bytes .fulfil .ensures) (meets .meet-all .result)
+          (small bytes .if2 .left) (bytes .fulfil .ensures) (left .drop-dominated .ensures) (meets .meet-all .result)
           (meets .meet-all .last .1 .1 .1 .1 .0) (meets .meet-all .last .1 .1 .1 .1 .1 .0)
           (meets .meet-all .ensures) (step .step .given .1) (meets .meet-all .kept .1 .1 .1 .1 .0)
           (meets .meet-all .kept .1 .1 .1 .1 .1 .0) (end .put-end .ensures),
       record {
         products = record {
-          room = terms .state-terms .kept .1 .1 .1 .0 ∙ space .products .room;
-          beside = terms .state-terms .kept .1 .1 .1 .1 .0 ∙ space .products .beside;
+          room = sym (slice-aggregate-meet-all (meets .before .before .before .before));
+          beside = terms .state-terms .kept .1 .1 .1 .1 .0 ∙ at .loop .inv .1 .products .beside;
         };
-        bytes-room = bytes .fulfil .kept .1 .1 .1 .1 .1 .0 ∙ space .bytes-room;
+        bytes-room = sym (slice-aggregate-meet-all-2 (meets .before .before .before));
       },
     )
 
@@ -171,11 +209,12 @@ same-length-6 c =
 returns-2 : tie.Need-returns-2 Inv-loop μ-loop
 returns-2 c =
     let meets = stopped (c .before) in
-    let bytes = told meets in
+    let left = sifted meets in
+    let bytes = told left in
     let terms = product (small bytes) in
     let at = turn (taken terms) in
     walk-refused (at .loop .inv .0) (taken terms .if1 .taken) (terms .state-terms .ensures) (start at .pre .0)
-    (small bytes .if2 .left) _ (bytes .fulfil .ensures) (meets .meet-all .result)
+    (small bytes .if2 .left) (bytes .fulfil .ensures) (left .drop-dominated .ensures) (meets .meet-all .result)
     (meets .meet-all .last .1 .1 .1 .1 .0) (meets .meet-all .last .1 .1 .1 .1 .1 .0)
     (meets .meet-all .ensures) (c .before .step2 .given .1)
 
@@ -188,6 +227,7 @@ walk-spec =
     (tie.spec Inv-loop μ-loop untils-of-requires start-requires loop-holds (λ c. search needs) (λ c. search needs)
     slice-aggregate-state-terms slice-aggregate-state-terms-2 state-terms-requires (λ c. search needs)
     (λ c. search needs) (λ c. search needs) returns (λ c. search needs) slice-aggregate-fulfil-2 fulfil-requires
-    (λ c. search needs) (λ c. search needs) meet-all-requires (λ c. search needs) put-end-requires add-t46 loop-less
+    slice-aggregate-drop-dominated slice-aggregate-drop-dominated-2 drop-dominated-requires
+    slice-aggregate-meet-all slice-aggregate-meet-all-2 meet-all-requires (λ c. search needs) put-end-requires add-t51 loop-less
     loop-again (λ c. search needs) same-length-4 same-length-5 same-length-6 returns-2 (λ c. search needs)
     (λ c. search needs) (λ c. search needs) returns-3)
