@@ -11,7 +11,7 @@ use lib.ListN.{getD}
 use lib.Dec.{eqb}
 use borrow.Author.Tests.{eqb-true, eq-eqb}
 use Rattle.formula.specs.Rule.{nodeCount, kindAt, untils}
-use Rattle.formula.specs.Formula.{Formula, formula}
+use Rattle.formula.specs.Formula.{Formula, until, formula}
 use Rattle.formula.specs.Satisfaction.{Holds}
 use Rattle.term.specs.Term.{Term, cover}
 use Rattle.sets.specs.Sets.{In}
@@ -19,7 +19,7 @@ use Rattle.acceptance.specs.Acceptance.{fulfils, untilCount}
 use Rattle.translation.specs.Degeneralized.{nextLevel}
 use Rattle.automaton.proofs.Positions.{Again}
 use Rattle.sets.proofs.Members.{at-in, in-at, append-in, in-append}
-use Rattle.correctness.proofs.Runs.{Reads, Fulfilling, Run, Fair, Represents}
+use Rattle.correctness.proofs.Runs.{Reads, Fulfilling, Known, Run, Fair, Represents}
 use Rattle.correctness.proofs.Trees.{kind-until, until-kind}
 use Rattle.correctness.proofs.Sound.{sound}
 use Rattle.correctness.proofs.Periodic.{holds-dec}
@@ -65,6 +65,15 @@ module _ (rule : List ℕ) where
       go ih (yes e) = inr (subst (λ (b : Bool). In n (cond b (k ∷ []) [])) (sym (eq-eqb (kindAt rule k) 7 (sym (ap (kindAt rule) e) ∙ q))) (inl e))
       go ih (no e) = inl (ih (omega arith))
 
+  -- each until has a number, which tells the terms that fulfil it
+  pub until-numbered : (n : ℕ) (a b : Formula) → Known rule n (until n a b)
+      → (k : ℕ) × (k < untilCount rule) × ((t : Term) → Over rule k t ↔ Fulfilling n (until n a b) t)
+  until-numbered n a b known =
+      let (k, l, q) = in-at 0 n (untils rule (nodeCount rule))
+      (in-untils (nodeCount rule) n (known .0) (until-kind rule n a b known)) in
+      (k, l, λ t. subst (λ (c : ℕ). fulfils rule c t ≡ true ↔ Fulfilling n (until n a b) t) (sym q)
+      (subst (λ (f : Formula). fulfils rule n t ≡ true ↔ Fulfilling n f t) (known .1) (fulfils-iff rule n t)))
+
   -- the untils that the levels count are those of a fair run
   Counts : (ℕ → Term) → Type 0
   Counts t = (k : ℕ) → k < untilCount rule → Again (λ j. Over rule k (t j))
@@ -81,9 +90,9 @@ module _ (rule : List ℕ) where
   counts-fair : (t : ℕ → Term) → Counts t → Fair rule t
   unfolding Counts
   counts-fair t counts n a b known i =
-      let (k, l, q) = in-at 0 n (untils rule (nodeCount rule)) (in-untils (nodeCount rule) n (known .0) (until-kind rule n a b known)) in
+      let (k, l, same) = until-numbered n a b known in
       let (j, x, g) = counts k l i in
-      (j, x, subst (λ (f : Formula). Fulfilling n f (t j)) (known .1) (fulfils-iff rule n (t j) .0 (subst (λ (c : ℕ). fulfils rule c (t j) ≡ true) q g)))
+      (j, x, same (t j) .0 g)
 
 module _ (rule : List ℕ) (Move : ℕ → Term → Type 0) (represents : Represents rule Move) (w : ℕ → ℕ) where
   -- a fair run, with its levels

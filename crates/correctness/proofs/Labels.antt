@@ -13,7 +13,9 @@ use Rattle.formula.specs.Rule.{nodeCount}
 use Rattle.formula.specs.Formula.{Formula, bottom, top, proposition, negatedProposition, conjunction, disjunction, next, until, release, tree, InRange}
 use Rattle.sets.specs.Bits.{has}
 use Rattle.term.specs.Term.{Term, term, less, joined, consistent, product, cover, terms}
-use Rattle.generalized.specs.Generalized.{times, partialProduct, transitions}
+use Rattle.domination.specs.Domination.{dominates, free}
+use Rattle.domination.proofs.Undominated.{filter-in}
+use Rattle.generalized.specs.Generalized.{times, partialProduct, stateTerms, transitions}
 use Rattle.automaton.proofs.WellFormed.{Label}
 use Rattle.sets.proofs.Members.{All, all-one, map-in}
 use Rattle.correctness.proofs.Members.{all-union, product-in, product-kept}
@@ -66,4 +68,6 @@ module _ (rule : List ℕ) (in-range : (n : ℕ) → n < nodeCount rule → InRa
   -- the transitions of any state
   pub transitions-labelled : All Labelled (transitions rule state)
   unfolding transitions
-  transitions-labelled = partial-labelled (nodeCount rule) (omega arith)
+  transitions-labelled t m =
+      partial-labelled (nodeCount rule) (omega arith) t
+      (filter-in (free (dominates rule) (stateTerms rule state)) t (stateTerms rule state) m .0)

@@ -18,7 +18,7 @@ use Rattle.sets.proofs.Members.{or-iff, any-iff}
 use Rattle.sets.proofs.Bits.{Sub, has-false, and-disjoint, disjoint-and, or-sub, sub-or}
 use Rattle.correctness.proofs.Runs.{Reads, Within, Fulfilling}
 
-within-iff : (x y : ℕ) → within x y ≡ true ↔ Sub x y
+pub within-iff : (x y : ℕ) → within x y ≡ true ↔ Sub x y
 within-iff x y = (λ e. sub-or x y (eqb-true (bitOr x y) y e), λ s. eq-eqb (bitOr x y) y (or-sub x y s))
 
 lacks-iff : (d n : ℕ) → not (has d n) ≡ true ↔ (Has d n → ⊥)
