@@ -70,9 +70,12 @@ module _ (rule : List ℕ) where
       → (k : ℕ) × (k < untilCount rule) × ((t : Term) → Over rule k t ↔ Fulfilling n (until n a b) t)
   until-numbered n a b known =
       let (k, l, q) = in-at 0 n (untils rule (nodeCount rule))
-      (in-untils (nodeCount rule) n (known .0) (until-kind rule n a b known)) in
-      (k, l, λ t. subst (λ (c : ℕ). fulfils rule c t ≡ true ↔ Fulfilling n (until n a b) t) (sym q)
-      (subst (λ (f : Formula). fulfils rule n t ≡ true ↔ Fulfilling n f t) (known .1) (fulfils-iff rule n t)))
+      (in-untils (nodeCount rule) n (known .0) (until-kind rule n a b known)) in (
+        k,
+        l,
+        λ t. subst (λ (c : ℕ). fulfils rule c t ≡ true ↔ Fulfilling n (until n a b) t) (sym q)
+            (subst (λ (f : Formula). fulfils rule n t ≡ true ↔ Fulfilling n f t) (known .1) (fulfils-iff rule n t)),
+      )
 
   -- the untils that the levels count are those of a fair run
   Counts : (ℕ → Term) → Type 0

@@ -17,7 +17,8 @@ use Rattle.lasso.specs.Lasso.{letter, lassoCheck}
 use Rattle.term.specs.Term.{cover, terms}
 use Rattle.term.specs.Size.{sizeCheck, sizesChecked}
 use Rattle.generalized.specs.Explore.{find, meet, meetAll, explore}
-use Rattle.acceptance.specs.Acceptance.{shows, fulfils}
+use Rattle.acceptance.specs.Acceptance.{shows, fulfils, bitsOf, fulfilment}
+use Rattle.domination.specs.Domination.{dominates, filter}
 use Rattle.generalized.specs.Generalized.{partialProduct, transitions, productCheck, targets, generalized}
 use Rattle.generalized.specs.Memory.{allTransitions}
 use Rattle.automaton.specs.Automaton.{Transition, State, Automaton}
@@ -151,8 +152,12 @@ p9 : Row
 p9 = record {
   rule = 1 ∷ 0 ∷ 0 ∷ 2 ∷ 0 ∷ 0 ∷ 7 ∷ 0 ∷ 1 ∷ 0 ∷ 0 ∷ 0 ∷ 8 ∷ 3 ∷ 2 ∷ [];
   sets = 16 ∷ 20 ∷ [];
-  count = 5;
-  automaton = record { states = state false (transition 1 0 1 ∷ transition 0 0 2 ∷ []) ∷ state true (transition 1 0 1 ∷ transition 0 0 2 ∷ []) ∷ state false (transition 1 0 1 ∷ transition 0 0 2 ∷ transition 1 0 3 ∷ []) ∷ state true (transition 1 0 1 ∷ transition 0 0 2 ∷ transition 1 0 3 ∷ []) ∷ []; initial = 0 ∷ [] };
+  count = 4;
+  automaton = record {
+    states = state false (transition 1 0 1 ∷ transition 0 0 2 ∷ []) ∷ state true (transition 1 0 1 ∷ transition 0 0 2 ∷ [])
+        ∷ state false (transition 1 0 1 ∷ transition 0 0 2 ∷ []) ∷ [];
+    initial = 0 ∷ [];
+  };
   images = [];
   cases = [];
 }
@@ -163,22 +168,22 @@ table = p1 ∷ p2 ∷ p3 ∷ p4 ∷ p5 ∷ p6 ∷ p7 ∷ p8 ∷ p9 ∷ []
 -- ---- the whole table, computed
 
 walks : map (λ row. generalized (row .rule)) table ≡ map (λ row. accepted (row .sets)) table
-unfolding on state transition table p1 p2 p3 p4 p5 p6 p7 p8 p9 insert union insertJoin insertJoins insertProduct lowest
-    trees tree formula cover terms find meet meetAll explore partialProduct transitions productCheck targets generalized
-    allTransitions
+unfolding on state transition table p1 p2 p3 p4 p5 p6 p7 p8 p9 insert union insertJoin insertJoins insertProduct any
+    lowest untils trees tree formula cover terms shows fulfils bitsOf fulfilment dominates filter find meet meetAll
+    explore partialProduct transitions productCheck targets generalized allTransitions
 walks = refl
 
 counts : map (λ row. length (allTransitions (row .rule) (row .sets))) table ≡ map (λ row. row .count) table
-unfolding on state transition table p1 p2 p3 p4 p5 p6 p7 p8 p9 insert union insertJoin insertJoins insertProduct lowest
-    trees tree formula cover terms find meet meetAll explore partialProduct transitions productCheck targets generalized
-    allTransitions
+unfolding on state transition table p1 p2 p3 p4 p5 p6 p7 p8 p9 insert union insertJoin insertJoins insertProduct any
+    lowest untils trees tree formula cover terms shows fulfils bitsOf fulfilment dominates filter find meet meetAll
+    explore partialProduct transitions productCheck targets generalized allTransitions
 counts = refl
 
 translations : map (λ row. translation (row .rule)) table ≡ map (λ row. accepted (row .automaton)) table
 unfolding on state transition table p1 p2 p3 p4 p5 p6 p7 p8 p9 insert union insertJoin insertJoins insertProduct any
     lowest leftOperand rightOperand lengthCheck nodeCheck places placeCheck syntaxCheck untils untilCheck Rule.checked
     trees tree formula cover terms sizeCheck sizesChecked find meet meetAll explore partialProduct transitions
-    productCheck targets generalized shows fulfils climb nextLevel numbers initialNumbers pairTransitions target
+    productCheck targets generalized shows fulfils bitsOf fulfilment dominates filter climb nextLevel numbers initialNumbers pairTransitions target
     degeneralized stateOf translation
 translations = refl
 
