@@ -6,6 +6,8 @@ import sys
 sys.path.insert(0, os.path.join(os.path.dirname(os.path.abspath(__file__)), "second"))
 import second  # noqa: E402  (the second translator, by another author)
 
+second.UPTO = 1  # the requests that have landed: R-1
+
 FALSE, TRUE, PROPOSITION, NEGATION, AND, OR, NEXT, UNTIL, RELEASE = range(9)
 
 
@@ -73,16 +75,16 @@ def nested_eventually(count):
     return b.bytes()
 
 
-# name, rule, what document 01 says of it: the refusal's number, or 0
+# name, rule, what document 01 with the landed requests says of it: the refusal's number and place, or None
 LIMITS = [
-    ("64 terms", choices(6), 0),
-    ("128 terms", choices(7), 20),
-    ("next-eventually 0 to 6", next_eventually(7), 23),
-    ("and next (0 release 1)", next_eventually(7, lambda b, p: b.add(NEXT, b.add(RELEASE, p[0], p[1]))), 21),
-    ("next-eventually 0 to 5 and always (6 or not 6)", next_eventually(6, always_either), 22),
-    ("eventually 0 to 4 and next next 5", eventually_and_next_next(), 24),
-    ("nine nested eventually", nested_eventually(9), 7),
-    ("eight nested eventually", nested_eventually(8), 0),
+    ("64 terms", choices(6), None),
+    ("128 terms", choices(7), (20, 26)),
+    ("next-eventually 0 to 6", next_eventually(7), (23, 1)),
+    ("and next (0 release 1)", next_eventually(7, lambda b, p: b.add(NEXT, b.add(RELEASE, p[0], p[1]))), (21, 1)),
+    ("next-eventually 0 to 5 and always (6 or not 6)", next_eventually(6, always_either), (22, 54)),
+    ("eventually 0 to 4 and next next 5", eventually_and_next_next(), (24, 64)),
+    ("nine nested eventually", nested_eventually(9), (7, 0)),
+    ("eight nested eventually", nested_eventually(8), None),
 ]
 
 # a list of 65 that belongs to no node: both are accepted
@@ -136,13 +138,39 @@ def crowded(rng):
     return b.bytes()
 
 
+def clauses(rng):
+    """One to four clauses in one conjunction, most of them with an "always" or an "eventually" in the other: rules whose
+    states have transitions that dominate each other."""
+    b = Builder()
+    true, false = b.add(TRUE), b.add(FALSE)
+    leaves = [b.add(rng.choice((PROPOSITION, PROPOSITION, NEGATION)), p) for p in range(rng.randrange(1, 5))]
+
+    def clause(depth):
+        pick = rng.randrange(6) if depth else 5
+        if pick < 2:
+            return b.add(RELEASE, false, clause(depth - 1))
+        if pick < 4:
+            return b.add(UNTIL, true, clause(depth - 1))
+        if pick < 5:
+            return b.add(rng.choice((AND, OR, UNTIL, RELEASE)), clause(depth - 1), rng.choice(leaves))
+        return rng.choice(leaves)
+
+    parts = [clause(rng.randrange(1, 4)) for _ in range(rng.randrange(1, 5))]
+    used = {c for kind, *children in b.nodes if kind > NEGATION for c in children}
+    b.joined(rng.choice((AND, AND, AND, OR)), parts + [n for n in (true, false, *leaves) if n not in used and n not in parts])
+    return b.bytes()
+
+
 # all operators; until-heavy ones, for 7
 FLAVOURS = ((AND, OR, NEXT, UNTIL, RELEASE), (NEXT, UNTIL, UNTIL))
 
 
 def well_formed(rng):
-    if rng.random() < .15:
+    pick = rng.random()
+    if pick < .15:
         return crowded(rng)
+    if pick < .35:
+        return clauses(rng)
     return second.random_rule(rng, rng.randrange(1, 18), marks=rng.choice((2, 4, 8)), kinds=rng.choice(FLAVOURS))
 
 
