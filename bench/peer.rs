@@ -169,7 +169,7 @@ fn fulfils(f: usize, terms: &[Term], t: Term) -> bool {
         })
 }
 
-/// The transitions of a state of the first walk: the product of its obligations' terms, the first as they stand.
+/// The terms of a state of the first walk: the product over its obligations, the first one's as they stand.
 fn state_terms(state: u32, terms: &[Vec<Term>], place: usize) -> Answer<Vec<Term>> {
     let mut owed = (0..terms.len()).filter(|n| state >> n & 1 == 1);
     let mut ts = match owed.next() {
@@ -183,6 +183,28 @@ fn state_terms(state: u32, terms: &[Vec<Term>], place: usize) -> Answer<Vec<Term
         }
     }
     Ok(ts)
+}
+
+/// The terms that no other dominates, each with a bit for every until that it fulfils. What dominates a term comes before
+/// it, and of those that do, one is kept.
+fn undominated(ts: Vec<Term>, untils: &[usize], terms: &[Vec<Term>]) -> Vec<(Term, u8)> {
+    let mut kept: Vec<(Term, u8)> = Vec::with_capacity(ts.len());
+    for t in ts {
+        let fulfilled = untils
+            .iter()
+            .enumerate()
+            .fold(0, |m, (k, &f)| m | (fulfils(f, &terms[f], t) as u8) << k);
+        let dominated = kept.iter().any(|&(u, more)| {
+            u.must & !t.must == 0
+                && u.must_not & !t.must_not == 0
+                && u.obligations & !t.obligations == 0
+                && fulfilled & !more == 0
+        });
+        if !dominated {
+            kept.push((t, fulfilled));
+        }
+    }
+    kept
 }
 
 /// A transition of the first walk: its term, its target's number, and a bit for each until that it fulfils.
@@ -202,10 +224,10 @@ pub fn translate(rule: &[u8]) -> Answer<Automaton> {
     let mut total = 0;
     while rows.len() < sets.len() {
         let place = rows.len();
-        let ts = state_terms(sets[place], &terms, place)?;
+        let ts = undominated(state_terms(sets[place], &terms, place)?, &untils, &terms);
         let mut row = Vec::with_capacity(ts.len());
         let mut last = 0;
-        for term in ts {
+        for (term, fulfilled) in ts {
             total += 1;
             if total > 1024 {
                 return refuse(22, place);
@@ -221,10 +243,6 @@ pub fn translate(rule: &[u8]) -> Answer<Automaton> {
                 }
             };
             last = target;
-            let fulfilled = untils
-                .iter()
-                .enumerate()
-                .fold(0, |m, (k, &f)| m | (fulfils(f, &terms[f], term) as u8) << k);
             row.push(Step { term, target, fulfilled });
         }
         rows.push(row);
