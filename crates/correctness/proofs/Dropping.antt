@@ -6,8 +6,7 @@ use mathlib.Core.Logic.{_↔_, Iff·trans, Iff·symm}
 use mathlib.Core.List.{List}
 use lib.ListN.{length}
 use Rattle.answer.specs.Result.{Result, accepted}
-use Rattle.formula.specs.Rule.{nodeCount}
-use Rattle.generalized.specs.Generalized.{partialProduct}
+use Rattle.generalized.specs.Generalized.{stateTerms}
 use Rattle.automaton.specs.Automaton.{Automaton, AcceptingPass}
 use Rattle.translation.specs.Degeneralized.{translation}
 use Rattle.correctness.proofs.Listing.{translationBy}
@@ -16,7 +15,7 @@ use Rattle.correctness.proofs.AcceptingPass.{pass-iff-satisfied-by, acc
 
 -- the translation without R-1's dropping: a state's transitions are all terms of its last partial product
 abbrev pub undropped : List ℕ → Result Automaton
-undropped rule = translationBy rule (λ state. partialProduct rule state (nodeCount rule))
+undropped rule = translationBy rule (stateTerms rule)
 
 -- Dropping changes no verdict (R-1): on a lasso (document 01: plan) of any length whose cycle is not empty, the automaton
 -- a of a rule has an accepting pass if and only if b has one, the automaton of the rule without dropping. So a plan
@@ -27,5 +26,4 @@ pub dropping-changes-no-verdict : (rule stem cycle : List ℕ) (a b : Automaton)
 dropping-changes-no-verdict rule stem cycle a b dropped whole pos =
     Iff·trans (accepting-pass-iff-satisfied rule stem cycle a dropped pos)
     (Iff·symm
-    (pass-iff-satisfied-by rule stem cycle (λ state. partialProduct rule state (nodeCount rule)) (terms-represent rule)
-    b whole pos))
+    (pass-iff-satisfied-by rule stem cycle (stateTerms rule) (terms-represent rule) b whole pos))

@@ -13,7 +13,7 @@ use Rattle.formula.specs.Rule.{nodeCount}
 use Rattle.formula.specs.Formula.{Formula, bottom, top, proposition, negatedProposition, conjunction, disjunction, next, until, release, tree, InRange}
 use Rattle.sets.specs.Bits.{has}
 use Rattle.term.specs.Term.{Term, term, less, joined, consistent, product, cover, terms}
-use Rattle.domination.specs.Domination.{dominates, free}
+use Rattle.domination.specs.Domination.{dominates, stays}
 use Rattle.domination.proofs.Undominated.{filter-in}
 use Rattle.generalized.specs.Generalized.{times, partialProduct, stateTerms, transitions}
 use Rattle.automaton.proofs.WellFormed.{Label}
@@ -70,4 +70,4 @@ module _ (rule : List ℕ) (in-range : (n : ℕ) → n < nodeCount rule → InRa
   unfolding transitions
   transitions-labelled t m =
       partial-labelled (nodeCount rule) (omega arith) t
-      (filter-in (free (dominates rule) (stateTerms rule state)) t (stateTerms rule state) m .0)
+      (filter-in (stays (dominates rule) (stateTerms rule state)) t (stateTerms rule state) m .0)

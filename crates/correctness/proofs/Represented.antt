@@ -6,13 +6,12 @@ use mathlib.Core.Bool.{Bool, true, false, not}
 use mathlib.Core.List.{List}
 use borrow.Author.Tests.{eq-eqb}
 use Rattle.sets.specs.Sets.{In, any}
-use Rattle.sets.specs.Bits.{has}
 use Rattle.sets.proofs.Bits.{has-true}
 use Rattle.term.specs.Term.{Term}
 use Rattle.acceptance.specs.Acceptance.{fulfilment}
 use Rattle.acceptance.proofs.Bits.{fulfilment-has}
-use Rattle.domination.specs.Domination.{dominates, free, undominated}
-use Rattle.domination.proofs.Undominated.{filter-in, in-filter, Above, dominated-above}
+use Rattle.domination.specs.Domination.{dominates, stays, undominated}
+use Rattle.domination.proofs.Undominated.{filter-in, in-filter, dominated-above}
 use Rattle.domination.proofs.Packed.{rank, term-parts, term-falls, term-follows}
 use Rattle.generalized.specs.Generalized.{stateTerms, transitions}
 use Rattle.correctness.proofs.Runs.{Within, within-reads, Dominates, TermOf, Represents}
@@ -49,14 +48,15 @@ module _ (rule : List ℕ) where
   pub transitions-represent : Represents rule (Listed (transitions rule))
   unfolding transitions
   transitions-represent = record {
-    listed = λ e t m. filter-in (free (dominates rule) (stateTerms rule e)) t (stateTerms rule e) m .0;
+    listed = λ e t m. filter-in (stays (dominates rule) (stateTerms rule e)) t (stateTerms rule e) m .0;
     enough = λ e t m. go e t m (any (λ u. dominates rule u t) (stateTerms rule e)) refl;
   }
     where
       go : (e : ℕ) (t : Term) → TermOf rule e t → (b : Bool) → any (λ u. dominates rule u t) (stateTerms rule e) ≡ b
           → (v : Term) × In v (undominated (dominates rule) (stateTerms rule e)) × Dominates rule v t
       go e t m true q =
-          let up = dominated-above (dominates rule) rank (term-falls rule) (term-follows rule) (stateTerms rule e) t q in
+          let up =
+          dominated-above (dominates rule) rank (term-falls rule) (term-follows rule) (stateTerms rule e) t q in
           (up .above, up .listed, dominates-says (up .above) t (up .holds))
       go e t m false q =
-          (t, in-filter (free (dominates rule) (stateTerms rule e)) t (stateTerms rule e) m (ap not q), dominates-self t)
+          (t, in-filter (stays (dominates rule) (stateTerms rule e)) t (stateTerms rule e) m (ap not q), dominates-self t)

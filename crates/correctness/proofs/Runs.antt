@@ -11,7 +11,7 @@ use Rattle.formula.specs.Rule.{nodeCount}
 use Rattle.formula.specs.Formula.{Formula, bottom, top, proposition, negatedProposition, conjunction, disjunction, next, until, release, tree, formula}
 use Rattle.sets.specs.Bits.{has, Has}
 use Rattle.term.specs.Term.{Term, less, joined, consistent, cover, terms}
-use Rattle.generalized.specs.Generalized.{times, partialProduct}
+use Rattle.generalized.specs.Generalized.{times, partialProduct, stateTerms}
 use Rattle.sets.specs.Sets.{In}
 use Rattle.automaton.proofs.Positions.{Again}
 use Rattle.sets.proofs.Bits.{Sub, has-false, has-or-l, has-or-r}
@@ -105,7 +105,7 @@ module _ (rule : List ℕ) where
 
   -- a term of state e
   abbrev pub TermOf : ℕ → Term → Type 0
-  TermOf e t = In t (partialProduct rule e (nodeCount rule))
+  TermOf e t = In t (stateTerms rule e)
 
   -- a state's transitions (Move) are terms of the state, and each of its terms is dominated by one
   pub record Represents (Move : ℕ → Term → Type 0) : Type 0 where

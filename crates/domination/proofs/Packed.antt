@@ -1,6 +1,6 @@
 -- Domination among terms and among packed terms: both fall in rank and can be followed on, and packing carries one to
 -- the other. Assumes of packed terms that their must and mustNot are bytes.
-use mathlib.Core.Path.{_≡_, refl, sym, subst, ap, _∙_}
+use mathlib.Core.Path.{_≡_, refl, sym, ap}
 use mathlib.Core.Bool.{Bool, true, false, not, _&&_, and-eq-true-iff, and-assoc, false≢true}
 use mathlib.Core.List.{List, map}
 use Prim.Native.Nat.{ℕ, _+_, _≤_, _<_}

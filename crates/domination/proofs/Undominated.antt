@@ -11,7 +11,7 @@ use lib.ListN.{length, getD, take, drop, length-take, take-append-drop}
 use lib.Seq.{getD-take}
 use Rattle.sets.specs.Sets.{In, any}
 use Rattle.sets.proofs.Members.{any-iff, at-in, in-at, in-append}
-use Rattle.domination.specs.Domination.{filter, free, undominated}
+use Rattle.domination.specs.Domination.{filter, stays, undominated}
 
 -- two tests of which each follows from the other are one
 same-answer : (a b : Bool) → (a ≡ true → b ≡ true) → (b ≡ true → a ≡ true) → a ≡ b
@@ -107,7 +107,7 @@ module _ {A : Type 0} (dominates : A → A → Bool) (rank : A → ℕ)
       go true q further =
           let (z, m′, d) = any-iff (λ z. dominates z y) xs .0 q in
           further z (omega (arith, falls z y d)) m′ (follows z y x d e)
-      go false q further = record { above = y; listed = in-filter (free dominates xs) y xs m (ap not q); holds = e }
+      go false q further = record { above = y; listed = in-filter (stays dominates xs) y xs m (ap not q); holds = e }
 
   -- what one of xs dominates, one of the undominated dominates
   pub dominated-above : (x : A) → any (λ y. dominates y x) xs ≡ true → Above x
@@ -116,7 +116,7 @@ module _ {A : Type 0} (dominates : A → A → Bool) (rank : A → ℕ)
   -- where ranks rise along xs, the undominated before place i tell whether the one at i is dominated
   module _ (none : A) (rises : (i j : ℕ) → i < j → j < length xs → rank (getD xs i none) < rank (getD xs j none)) where
     pub dominated-before : (i : ℕ) → i < length xs
-        → any (λ y. dominates y (getD xs i none)) (filter (free dominates xs) (take i xs))
+        → any (λ y. dominates y (getD xs i none)) (filter (stays dominates xs) (take i xs))
         ≡ any (λ y. dominates y (getD xs i none)) xs
     dominated-before i lt = same-answer _ _ there back
       where
@@ -124,12 +124,12 @@ module _ {A : Type 0} (dominates : A → A → Bool) (rank : A → ℕ)
         here = getD xs i none
 
         before : List A
-        before = filter (free dominates xs) (take i xs)
+        before = filter (stays dominates xs) (take i xs)
 
         there : any (λ y. dominates y here) before ≡ true → any (λ y. dominates y here) xs ≡ true
         there e =
             let (y, m, d) = any-iff (λ y. dominates y here) before .0 e in
-            let n = in-append y (take i xs) (drop i xs) (inl (filter-in (free dominates xs) y (take i xs) m .0)) in
+            let n = in-append y (take i xs) (drop i xs) (inl (filter-in (stays dominates xs) y (take i xs) m .0)) in
             any-iff (λ y. dominates y here) xs .1 (y, subst (In y) (take-append-drop i xs) n, d)
 
         earlier : (j : ℕ) → j < length xs → rank (getD xs j none) < rank here → j < i
@@ -145,10 +145,10 @@ module _ {A : Type 0} (dominates : A → A → Bool) (rank : A → ℕ)
         back : any (λ y. dominates y here) xs ≡ true → any (λ y. dominates y here) before ≡ true
         back e =
             let up = dominated-above here e in
-            let (m, f) = filter-in (free dominates xs) (up .above) xs (up .listed) in
+            let (m, f) = filter-in (stays dominates xs) (up .above) xs (up .listed) in
             let (j, l, q) = in-at none (up .above) xs m in
             let k = earlier j l (subst (λ (y : A). rank y < rank here) (sym q) (falls (up .above) here (up .holds))) in
             let n = at-in none (take i xs) j (omega (arith, length-take i xs)) in
             let is : getD (take i xs) j none ≡ up .above = getD-take i xs j none k ∙ q in
             any-iff (λ y. dominates y here) before .1
-            (up .above, in-filter (free dominates xs) (up .above) (take i xs) (subst (λ (y : A). In y (take i xs)) is n) f, up .holds)
+            (up .above, in-filter (stays dominates xs) (up .above) (take i xs) (subst (λ (y : A). In y (take i xs)) is n) f, up .holds)

@@ -23,11 +23,11 @@ unfoldable pub filter : {A : Type 0} → (A → Bool) → List A → List A
 filter test [] = []
 filter test (x ∷ xs) = cond (test x) (x ∷ filter test xs) (filter test xs)
 
--- whether x is dominated by none of xs
-abbrev pub free : {A : Type 0} (dominates : A → A → Bool) (xs : List A) → A → Bool
-free dominates xs x = not (any (λ y. dominates y x) xs)
+-- whether x stays: none of xs dominates it
+abbrev pub stays : {A : Type 0} (dominates : A → A → Bool) (xs : List A) → A → Bool
+stays dominates xs x = not (any (λ y. dominates y x) xs)
 
 -- those of xs that none of xs dominates, in their order: all of xs are looked at, the dropped ones too (R-1,
 -- sentences 2 and 4)
 abbrev pub undominated : {A : Type 0} (dominates : A → A → Bool) → List A → List A
-undominated dominates xs = filter (free dominates xs) xs
+undominated dominates xs = filter (stays dominates xs) xs

@@ -33,7 +33,7 @@ fn dominated(ts: &[u64], bytes: &[u8], t: u64, byte: u8) -> bool
     false
 }
 
-// x or y.
+// x where first is set, else y.
 fn either(first: bool, x: usize, y: usize) -> usize
     ensures { λ r. ⌜ r ≡ cond first x y ⌝ }
 {
@@ -41,8 +41,8 @@ fn either(first: bool, x: usize, y: usize) -> usize
 }
 
 // Of the first count of ts, which rise, those that none of them dominates, moved to the front with their bytes; how
-// many there are. What dominates a term is below it and dominated by none itself or by one that is kept, so a term is
-// held against those that are kept before it.
+// many they are. What dominates a term is a lower number, and among all that dominate it there is one that stays: so a
+// term is held against those kept before it, and against no others.
 pub fn drop_dominated(ts: &mut [u64], bytes: &mut [u8], count: usize) -> usize
     requires { ⌜ Sorted (now ts) (now bytes) count ⌝ }
     ensures { λ r. ⌜ Drops (now (ts .entry)) (now (bytes .entry)) count (now (ts .exit)) (now (bytes .exit)) r ⌝ }

@@ -27,7 +27,7 @@ use Rattle.term.proofs.Packing.{product-numbers, owing-numbers, terms-numbers}
 use Rattle.term.proofs.Rising.{terms-rise, product-one}
 use Rattle.term.proofs.Rows.{row-is, row-fits}
 use Rattle.generalized.specs.Limits.{maxProduct}
-use Rattle.generalized.specs.Generalized.{times, partialProduct, stateTerms, productCheck}
+use Rattle.generalized.specs.Generalized.{times, partialProduct, productCheck}
 use Rattle.generalized.specs.Memory.{Factor, ProductRoom, Product}
 use Rattle.generalized.proofs.Passed.{few, in-range}
 

@@ -17,7 +17,7 @@ use Rattle.term.specs.Memory.{pack, unpack}
 use Rattle.term.proofs.Packing.{Numbers, none, more, Bytes, of-terms}
 use Rattle.term.proofs.Unpacking.{unpack-pack}
 use Rattle.acceptance.specs.Acceptance.{fulfilment}
-use Rattle.domination.specs.Domination.{dominates, free}
+use Rattle.domination.specs.Domination.{dominates, stays}
 use Rattle.domination.specs.Memory.{Sorted, Sifted, Drops}
 use Rattle.domination.proofs.Undominated.{filter-in}
 use Rattle.domination.proofs.Packed.{untilsN, undominated-packed}
@@ -43,7 +43,7 @@ module _ (rule : List ℕ) (passed : sizesChecked rule ≡ fine) (state : ℕ) w
   pub transitions-bytes : (t : Term) → In t (transitions rule state) → Bytes t
   unfolding transitions
   transitions-bytes t m =
-      terms-bytes t (filter-in (free (dominates rule) (stateTerms rule state)) t (stateTerms rule state) m .0)
+      terms-bytes t (filter-in (stays (dominates rule) (stateTerms rule state)) t (stateTerms rule state) m .0)
 
   module _ {items bytes : List ℕ} {count : ℕ} (product : Product rule state items count) (le : count ≤ maxProduct) where
     pub terms-sorted : count ≤ length items → count ≤ length bytes → Sorted items bytes count

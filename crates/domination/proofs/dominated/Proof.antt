@@ -2,7 +2,7 @@
 -- the untils are that the bytes tell (`Seeking`). Assumes nothing.
 use borrow.Author.Needs.{needs}
 use native.Mathlib.Omega.{arith}
-use mathlib.Core.Path.{_≡_, refl, sym, _∙_, ap}
+use mathlib.Core.Path.{_≡_, refl, _∙_, ap}
 use mathlib.Core.Bool.{Bool, true, false}
 use mathlib.Core.List.{List, map}
 use Prim.Native.Nat.{ℕ, _+_, _-_, _≤_, _<_}
@@ -16,26 +16,26 @@ use Rattle.domination.proofs.dominated.Tie as tie
 
 module _ (ts bytes : List ℕ) (t byte : ℕ) where
   -- what holds of any untils that the bytes and byte tell
-  abbrev Told : (P : (ℕ → ℕ) → Type 0) → Type 0
-  Told P = (untils : ℕ → ℕ) → bytes ≡ map untils ts → byte ≡ untils t → P untils
+  abbrev ForUntils : (P : (ℕ → ℕ) → Type 0) → Type 0
+  ForUntils P = (untils : ℕ → ℕ) → bytes ≡ map untils ts → byte ≡ untils t → P untils
 
   abbrev test : (ℕ → ℕ) → ℕ → Bool
   test untils u = dominatesN untils u t
 
   -- the search stands at i
   abbrev Searching : ℕ → Type 0
-  Searching i = Told (λ untils. Seeking (test untils) ts i)
+  Searching i = ForUntils (λ untils. Seeking (test untils) ts i)
 
   module _ (i : ℕ) (lt : i < length ts) {b : Bool} (e : b ≡ dominatesByte (getD ts i 0) (getD bytes i 0) t byte)
       (inv : Searching i) where
     -- the test of the term at i
-    tested : Told (λ untils. b ≡ test untils (getD ts i 0))
+    tested : ForUntils (λ untils. b ≡ test untils (getD ts i 0))
     tested untils told own =
         let at : getD bytes i 0 ≡ untils (getD ts i 0) =
         ap (λ (xs : List ℕ). getD xs i 0) told ∙ map-at untils 0 0 ts i lt in
         e ∙ rw (at, own)
 
-    finds : b ≡ true → Told (λ untils. true ≡ any (test untils) ts)
+    finds : b ≡ true → ForUntils (λ untils. true ≡ any (test untils) ts)
     finds f untils told own = seek-finds _ _ i (inv untils told own) lt (tested untils told own) f
 
     steps : b ≡ false → Searching (i + 1)
