@@ -13,9 +13,8 @@ use Rattle.formula.specs.Rule.{nodeCount}
 use Rattle.formula.specs.Formula.{Formula, bottom, top, proposition, negatedProposition, conjunction, disjunction, next, until, release, tree, InRange}
 use Rattle.sets.specs.Bits.{has}
 use Rattle.term.specs.Term.{Term, term, less, joined, consistent, product, cover, terms}
-use Rattle.domination.specs.Domination.{dominates, stays}
-use Rattle.domination.proofs.Undominated.{filter-in}
-use Rattle.generalized.specs.Generalized.{times, partialProduct, stateTerms, transitions}
+use Rattle.generalized.specs.Generalized.{times, partialProduct, transitions}
+use Rattle.generalized.proofs.Sifting.{transitions-terms}
 use Rattle.automaton.proofs.WellFormed.{Label}
 use Rattle.sets.proofs.Members.{All, all-one, map-in}
 use Rattle.correctness.proofs.Members.{all-union, product-in, product-kept}
@@ -67,7 +66,4 @@ module _ (rule : List ℕ) (in-range : (n : ℕ) → n < nodeCount rule → InRa
 
   -- the transitions of any state
   pub transitions-labelled : All Labelled (transitions rule state)
-  unfolding transitions
-  transitions-labelled t m =
-      partial-labelled (nodeCount rule) (omega arith) t
-      (filter-in (stays (dominates rule) (stateTerms rule state)) t (stateTerms rule state) m .0)
+  transitions-labelled t m = partial-labelled (nodeCount rule) (omega arith) t (transitions-terms rule state t m)

@@ -11,9 +11,10 @@ use Rattle.term.specs.Term.{Term}
 use Rattle.acceptance.specs.Acceptance.{fulfilment}
 use Rattle.acceptance.proofs.Bits.{fulfilment-has}
 use Rattle.domination.specs.Domination.{dominates, stays, undominated}
-use Rattle.domination.proofs.Undominated.{filter-in, in-filter, dominated-above}
+use Rattle.domination.proofs.Undominated.{in-filter, dominated-above}
 use Rattle.domination.proofs.Packed.{rank, term-parts, term-falls, term-follows}
 use Rattle.generalized.specs.Generalized.{stateTerms, transitions}
+use Rattle.generalized.proofs.Sifting.{transitions-terms}
 use Rattle.correctness.proofs.Runs.{Within, within-reads, Dominates, TermOf, Represents}
 use Rattle.correctness.proofs.Tests.{within-iff}
 use Rattle.correctness.proofs.Counting.{until-numbered}
@@ -48,7 +49,7 @@ module _ (rule : List ℕ) where
   pub transitions-represent : Represents rule (Listed (transitions rule))
   unfolding transitions
   transitions-represent = record {
-    listed = λ e t m. filter-in (stays (dominates rule) (stateTerms rule e)) t (stateTerms rule e) m .0;
+    listed = transitions-terms rule;
     enough = λ e t m. go e t m (any (λ u. dominates rule u t) (stateTerms rule e)) refl;
   }
     where

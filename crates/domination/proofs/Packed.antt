@@ -8,7 +8,7 @@ use native.Mathlib.Omega.{arith}
 use lib.Dec.{eqb}
 use lib.Bits.{bitOr, or-add-and, and-le-r}
 use borrow.Author.Tests.{eqb-true, eq-eqb, ne-eqb, eqb-false, not-true}
-use Rattle.sets.specs.Sets.{In}
+use Rattle.sets.proofs.Members.{All}
 use Rattle.sets.proofs.Bits.{or-sub, sub-or}
 use Rattle.term.specs.Term.{Term, joined}
 use Rattle.term.specs.Memory.{pack, unpack}
@@ -151,7 +151,7 @@ module _ (rule : List ℕ) where
       ) (simp and-assoc)
 
   -- sifting packed terms is sifting terms
-  pub undominated-packed : (ts : List Term) → ((t : Term) → In t ts → Bytes t)
+  pub undominated-packed : (ts : List Term) → All Bytes ts
       → undominated (dominatesN untilsN) (map pack ts) ≡ map pack (undominated (dominates rule) ts)
   undominated-packed ts bytes =
       undominated-map pack (dominatesN untilsN) (dominates rule) ts

@@ -1,5 +1,5 @@
--- The members of a list that none of it dominates: whatever is dominated is dominated by one of these, which comes down
--- from one to the next. Assumes of domination that it can be followed on and falls in rank.
+-- The members of a list that none of it dominates: whatever is dominated is dominated by one of these, found by going
+-- from what dominates to what dominates that. Assumes of domination that it can be followed on and falls in rank.
 use mathlib.Core.Path.{_≡_, refl, sym, subst, ap, _∙_}
 use mathlib.Core.Logic.{inl, inr}
 use mathlib.Core.Bool.{Bool, true, false, cond, not, false≢true}
@@ -78,7 +78,8 @@ module _ {A B : Type 0} (g : A → B) where
   filter-map p q [] same = refl
   filter-map p q (x ∷ xs) same = rw (same x (inl refl), filter-map p q xs (λ y m. same y (inr m))) (go (q x))
     where
-      go : (b : Bool) → cond b (g x ∷ map g (filter q xs)) (map g (filter q xs)) ≡ map g (cond b (x ∷ filter q xs) (filter q xs))
+      go : (b : Bool) → cond b (g x ∷ map g (filter q xs)) (map g (filter q xs))
+          ≡ map g (cond b (x ∷ filter q xs) (filter q xs))
       go true = refl
       go false = refl
 
@@ -98,9 +99,9 @@ module _ {A : Type 0} (dominates : A → A → Bool) (rank : A → ℕ)
     pub listed : In above (undominated dominates xs)
     pub holds : dominates above x ≡ true
 
-  climb : (n : ℕ) (x y : A) → rank y < n → In y xs → dominates y x ≡ true → Above x
-  climb zero x y lt m e = absurd (omega arith)
-  climb (suc n) x y lt m e = go (any (λ z. dominates z y) xs) refl (λ z lt′ m′ e′. climb n x z lt′ m′ e′)
+  above-from : (n : ℕ) (x y : A) → rank y < n → In y xs → dominates y x ≡ true → Above x
+  above-from zero x y lt m e = absurd (omega arith)
+  above-from (suc n) x y lt m e = go (any (λ z. dominates z y) xs) refl (λ z lt′ m′ e′. above-from n x z lt′ m′ e′)
     where
       go : (b : Bool) → any (λ z. dominates z y) xs ≡ b
           → ((z : A) → rank z < n → In z xs → dominates z x ≡ true → Above x) → Above x
@@ -111,7 +112,8 @@ module _ {A : Type 0} (dominates : A → A → Bool) (rank : A → ℕ)
 
   -- what one of xs dominates, one of the undominated dominates
   pub dominated-above : (x : A) → any (λ y. dominates y x) xs ≡ true → Above x
-  dominated-above x e = let (y, m, d) = any-iff (λ y. dominates y x) xs .0 e in climb (suc (rank y)) x y (omega arith) m d
+  dominated-above x e =
+      let (y, m, d) = any-iff (λ y. dominates y x) xs .0 e in above-from (suc (rank y)) x y (omega arith) m d
 
   -- where ranks rise along xs, the undominated before place i tell whether the one at i is dominated
   module _ (none : A) (rises : (i j : ℕ) → i < j → j < length xs → rank (getD xs i none) < rank (getD xs j none)) where
@@ -150,5 +152,6 @@ module _ {A : Type 0} (dominates : A → A → Bool) (rank : A → ℕ)
             let k = earlier j l (subst (λ (y : A). rank y < rank here) (sym q) (falls (up .above) here (up .holds))) in
             let n = at-in none (take i xs) j (omega (arith, length-take i xs)) in
             let is : getD (take i xs) j none ≡ up .above = getD-take i xs j none k ∙ q in
+            let before-i = subst (λ (y : A). In y (take i xs)) is n in
             any-iff (λ y. dominates y here) before .1
-            (up .above, in-filter (stays dominates xs) (up .above) (take i xs) (subst (λ (y : A). In y (take i xs)) is n) f, up .holds)
+            (up .above, in-filter (stays dominates xs) (up .above) (take i xs) before-i f, up .holds)

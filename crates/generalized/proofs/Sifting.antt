@@ -1,8 +1,8 @@
 -- What dropping leaves of a state's terms, as numbers with their bytes, are the state's transitions.
 -- Assumes that 1 to 7 and 20 let the rule pass.
-use mathlib.Core.Path.{_≡_, refl, sym, subst, _∙_}
+use mathlib.Core.Path.{_≡_, sym, subst, _∙_}
 use mathlib.Core.Logic.{inl, inr}
-use mathlib.Core.List.{List, [], _∷_, map, map-map}
+use mathlib.Core.List.{List, map, map-map}
 use Prim.Native.Nat.{ℕ, _≤_}
 use native.Mathlib.Omega.{arith}
 use lib.ListN.{length, take}
@@ -10,12 +10,13 @@ use lib.Seq.{getD-take, length-take-le}
 use Rattle.answer.specs.Result.{fine}
 use Rattle.formula.specs.Rule.{nodeCount}
 use Rattle.sets.specs.Sets.{In}
+use Rattle.sets.proofs.Members.{All}
 use Rattle.sets.proofs.Rising.{Consistent, rising-at}
 use Rattle.term.specs.Term.{Term}
 use Rattle.term.specs.Size.{sizesChecked}
-use Rattle.term.specs.Memory.{pack, unpack}
+use Rattle.term.specs.Memory.{unpack}
 use Rattle.term.proofs.Packing.{Numbers, none, more, Bytes, of-terms}
-use Rattle.term.proofs.Unpacking.{unpack-pack}
+use Rattle.term.proofs.Unpacking.{unpack-all}
 use Rattle.acceptance.specs.Acceptance.{fulfilment}
 use Rattle.domination.specs.Domination.{dominates, stays}
 use Rattle.domination.specs.Memory.{Sorted, Sifted, Drops}
@@ -27,23 +28,24 @@ use Rattle.generalized.specs.Memory.{Product, Told}
 use Rattle.generalized.proofs.Passed.{in-range}
 use Rattle.generalized.proofs.Products.{partial-packed, partial-rises}
 
-numbers-bytes : {ts : List Term} {ns : List ℕ} → Numbers of-terms ts ns → (t : Term) → In t ts → Bytes t
+numbers-bytes : {ts : List Term} {ns : List ℕ} → Numbers of-terms ts ns → All Bytes ts
 numbers-bytes none t h = absurd h
 numbers-bytes (more u own rest) t (inl e) = subst Bytes (sym e) own
 numbers-bytes (more u own rest) t (inr h) = numbers-bytes rest t h
 
-unpack-each : (ts : List Term) → ((t : Term) → In t ts → Bytes t) → map unpack (map pack ts) ≡ ts
-unpack-each [] bytes = refl
-unpack-each (t ∷ ts) bytes = rw (unpack-pack t (bytes t (inl refl)), unpack-each ts (λ u m. bytes u (inr m)))
+-- a state's transitions are terms of it
+pub transitions-terms : (rule : List ℕ) (state : ℕ) (t : Term) → In t (transitions rule state)
+    → In t (stateTerms rule state)
+unfolding transitions
+transitions-terms rule state t m =
+    filter-in (stays (dominates rule) (stateTerms rule state)) t (stateTerms rule state) m .0
 
 module _ (rule : List ℕ) (passed : sizesChecked rule ≡ fine) (state : ℕ) where
-  terms-bytes : (t : Term) → In t (stateTerms rule state) → Bytes t
+  terms-bytes : All Bytes (stateTerms rule state)
   terms-bytes = numbers-bytes (partial-packed rule state (nodeCount rule) (in-range rule passed))
 
-  pub transitions-bytes : (t : Term) → In t (transitions rule state) → Bytes t
-  unfolding transitions
-  transitions-bytes t m =
-      terms-bytes t (filter-in (stays (dominates rule) (stateTerms rule state)) t (stateTerms rule state) m .0)
+  pub transitions-bytes : All Bytes (transitions rule state)
+  transitions-bytes t m = terms-bytes t (transitions-terms rule state t m)
 
   module _ {items bytes : List ℕ} {count : ℕ} (product : Product rule state items count) (le : count ≤ maxProduct) where
     pub terms-sorted : count ≤ length items → count ≤ length bytes → Sorted items bytes count
@@ -66,7 +68,7 @@ module _ (rule : List ℕ) (passed : sizesChecked rule ≡ fine) (state : ℕ) w
       unfolding transitions
       left-are =
           rw (sifted .are, product .terms le, undominated-packed rule (stateTerms rule state) terms-bytes)
-          (unpack-each (transitions rule state) transitions-bytes)
+          (unpack-all (transitions rule state) transitions-bytes)
 
       pub left-told : Told rule items′ bytes′ n
       left-told = sifted .told ∙ sym (map-map (fulfilment rule) unpack (take n items′))

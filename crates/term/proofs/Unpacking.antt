@@ -1,12 +1,14 @@
 -- A number is one term, and a term whose must and mustNot are bytes is read back from its number.
 -- Assumes nothing.
 use mathlib.Core.Path.{_≡_, refl}
-use mathlib.Core.List.{List, map}
+use mathlib.Core.Logic.{inl, inr}
+use mathlib.Core.List.{List, [], _∷_, map}
 use Prim.Native.Nat.{ℕ, _/_, _%_}
 use native.Mathlib.Omega.{arith}
 use Rattle.term.specs.Term.{Term}
 use Rattle.term.specs.Memory.{pack, obligationsN, unpack}
-use Rattle.term.proofs.Packing.{Numbers, none, more, Bytes, of-terms}
+use Rattle.sets.proofs.Members.{All}
+use Rattle.term.proofs.Packing.{Bytes}
 
 pub pack-unpack : (t : ℕ) → pack (unpack t) ≡ t
 pack-unpack t = omega arith
@@ -21,6 +23,6 @@ unpack-pack t bytes =
     let c : obligationsN (pack t) ≡ t .obligations = omega (arith, bytes .must, bytes .mustNot) in
     rw (a, b, c)
 
-pub unpack-all : {ts : List Term} {ns : List ℕ} → Numbers of-terms ts ns → map unpack ns ≡ ts
-unpack-all none = refl
-unpack-all (more t bytes rest) = rw (unpack-pack t bytes, unpack-all rest)
+pub unpack-all : (ts : List Term) → All Bytes ts → map unpack (map pack ts) ≡ ts
+unpack-all [] bytes = refl
+unpack-all (t ∷ ts) bytes = rw (unpack-pack t (bytes t (inl refl)), unpack-all ts (λ u m. bytes u (inr m)))

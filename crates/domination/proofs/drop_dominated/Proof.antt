@@ -95,7 +95,8 @@ module _ (ts₀ bytes₀ : List ℕ) (count : ℕ) where
             ≡ cond b (take kept ts) (take kept ts ++ (getD ts i 0 ∷ []))
         unfolding filter
         next-are b e =
-            rw (take-suc xs i 0 (omega (arith, count-is)), filter-append (stays (dominatesN untils) xs), e, s .are, here-is)
+            rw
+            (take-suc xs i 0 (omega (arith, count-is)), filter-append (stays (dominatesN untils) xs), e, s .are, here-is)
             (go b)
           where
             front : List ℕ
@@ -219,6 +220,6 @@ drop-dominated-spec =
     tie.close
     (tie.spec Inv-loop μ-loop loop-holds (λ c. search needs) slice-read-t slice-read-byte
     slice-reshare-prefix-dominated slice-aggregate-dominated slice-reshare-prefix-dominated-2
-    slice-aggregate-dominated-2 dominated-requires (λ c. search needs) (λ c. search needs) (λ c. search needs) (λ c. search needs)
-    (λ c κs. search needs) (λ c. search needs) (λ c. search needs) loop-again (λ c. search needs) (λ c. search needs)
-    returns)
+    slice-aggregate-dominated-2 dominated-requires (λ c. search needs) (λ c. search needs) (λ c. search needs)
+    (λ c. search needs) (λ c κs. search needs) (λ c. search needs) (λ c. search needs) loop-again (λ c. search needs)
+    (λ c. search needs) returns)
