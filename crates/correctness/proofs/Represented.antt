@@ -11,7 +11,7 @@ use Rattle.term.specs.Term.{Term}
 use Rattle.acceptance.specs.Acceptance.{fulfilment}
 use Rattle.acceptance.proofs.Bits.{fulfilment-has}
 use Rattle.domination.specs.Domination.{dominates, stays, undominated}
-use Rattle.domination.proofs.Undominated.{in-filter, dominated-above}
+use Rattle.domination.proofs.Undominated.{in-sift, dominated-above}
 use Rattle.domination.proofs.Packed.{rank, term-parts, term-falls, term-follows}
 use Rattle.generalized.specs.Generalized.{stateTerms, transitions}
 use Rattle.generalized.proofs.Sifting.{transitions-terms}
@@ -60,4 +60,4 @@ module _ (rule : List ℕ) where
           dominated-above (dominates rule) rank (term-falls rule) (term-follows rule) (stateTerms rule e) t q in
           (up .above, up .listed, dominates-says (up .above) t (up .holds))
       go e t m false q =
-          (t, in-filter (stays (dominates rule) (stateTerms rule e)) t (stateTerms rule e) m (ap not q), dominates-self t)
+          (t, in-sift (stays (dominates rule) (stateTerms rule e)) t (stateTerms rule e) m (ap not q), dominates-self t)

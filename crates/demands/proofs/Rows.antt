@@ -18,7 +18,7 @@ use Rattle.term.specs.Term.{cover, terms}
 use Rattle.term.specs.Size.{sizeCheck, sizesChecked}
 use Rattle.generalized.specs.Explore.{find, meet, meetAll, explore}
 use Rattle.acceptance.specs.Acceptance.{shows, fulfils, bitsOf, fulfilment}
-use Rattle.domination.specs.Domination.{dominates, filter}
+use Rattle.domination.specs.Domination.{dominates, sift}
 use Rattle.generalized.specs.Generalized.{partialProduct, transitions, productCheck, targets, generalized}
 use Rattle.generalized.specs.Memory.{allTransitions}
 use Rattle.automaton.specs.Automaton.{Transition, State, Automaton}
@@ -169,13 +169,13 @@ table = p1 ∷ p2 ∷ p3 ∷ p4 ∷ p5 ∷ p6 ∷ p7 ∷ p8 ∷ p9 ∷ []
 
 walks : map (λ row. generalized (row .rule)) table ≡ map (λ row. accepted (row .sets)) table
 unfolding on state transition table p1 p2 p3 p4 p5 p6 p7 p8 p9 insert union insertJoin insertJoins insertProduct any
-    lowest untils trees tree formula cover terms shows fulfils bitsOf fulfilment dominates filter find meet meetAll
+    lowest untils trees tree formula cover terms shows fulfils bitsOf fulfilment dominates sift find meet meetAll
     explore partialProduct transitions productCheck targets generalized allTransitions
 walks = refl
 
 counts : map (λ row. length (allTransitions (row .rule) (row .sets))) table ≡ map (λ row. row .count) table
 unfolding on state transition table p1 p2 p3 p4 p5 p6 p7 p8 p9 insert union insertJoin insertJoins insertProduct any
-    lowest untils trees tree formula cover terms shows fulfils bitsOf fulfilment dominates filter find meet meetAll
+    lowest untils trees tree formula cover terms shows fulfils bitsOf fulfilment dominates sift find meet meetAll
     explore partialProduct transitions productCheck targets generalized allTransitions
 counts = refl
 
@@ -183,7 +183,7 @@ translations : map (λ row. translation (row .rule)) table ≡ map (λ row. acce
 unfolding on state transition table p1 p2 p3 p4 p5 p6 p7 p8 p9 insert union insertJoin insertJoins insertProduct any
     lowest leftOperand rightOperand lengthCheck nodeCheck places placeCheck syntaxCheck untils untilCheck Rule.checked
     trees tree formula cover terms sizeCheck sizesChecked find meet meetAll explore partialProduct transitions
-    productCheck targets generalized shows fulfils bitsOf fulfilment dominates filter climb nextLevel numbers initialNumbers pairTransitions target
+    productCheck targets generalized shows fulfils bitsOf fulfilment dominates sift climb nextLevel numbers initialNumbers pairTransitions target
     degeneralized stateOf translation
 translations = refl
 

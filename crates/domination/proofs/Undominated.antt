@@ -11,7 +11,7 @@ use lib.ListN.{length, getD, take, drop, length-take, take-append-drop}
 use lib.Seq.{getD-take}
 use Rattle.sets.specs.Sets.{In, any}
 use Rattle.sets.proofs.Members.{any-iff, at-in, in-at, in-append}
-use Rattle.domination.specs.Domination.{filter, stays, undominated}
+use Rattle.domination.specs.Domination.{sift, stays, undominated}
 
 -- two tests of which each follows from the other are one
 same-answer : (a b : Bool) → (a ≡ true → b ≡ true) → (b ≡ true → a ≡ true) → a ≡ b
@@ -21,46 +21,46 @@ same-answer false false there back = refl
 
 -- ---- the members of which a test holds
 module _ {A : Type 0} (test : A → Bool) where
-  pub filter-in : (x : A) (xs : List A) → In x (filter test xs) → In x xs × (test x ≡ true)
-  unfolding filter
-  filter-in x [] h = absurd h
-  filter-in x (y ∷ ys) h = go (test y) refl h (filter-in x ys)
+  pub sift-in : (x : A) (xs : List A) → In x (sift test xs) → In x xs × (test x ≡ true)
+  unfolding sift
+  sift-in x [] h = absurd h
+  sift-in x (y ∷ ys) h = go (test y) refl h (sift-in x ys)
     where
-      go : (b : Bool) → test y ≡ b → In x (cond b (y ∷ filter test ys) (filter test ys))
-          → (In x (filter test ys) → In x ys × (test x ≡ true)) → In x (y ∷ ys) × (test x ≡ true)
+      go : (b : Bool) → test y ≡ b → In x (cond b (y ∷ sift test ys) (sift test ys))
+          → (In x (sift test ys) → In x ys × (test x ≡ true)) → In x (y ∷ ys) × (test x ≡ true)
       go true e (inl q) ih = (inl q, subst (λ (z : A). test z ≡ true) (sym q) e)
       go true e (inr m) ih = let (n, t) = ih m in (inr n, t)
       go false e m ih = let (n, t) = ih m in (inr n, t)
 
-  pub in-filter : (x : A) (xs : List A) → In x xs → test x ≡ true → In x (filter test xs)
-  unfolding filter
-  in-filter x [] h e = absurd h
-  in-filter x (y ∷ ys) h e = go (test y) refl h (λ m. in-filter x ys m e)
+  pub in-sift : (x : A) (xs : List A) → In x xs → test x ≡ true → In x (sift test xs)
+  unfolding sift
+  in-sift x [] h e = absurd h
+  in-sift x (y ∷ ys) h e = go (test y) refl h (λ m. in-sift x ys m e)
     where
-      go : (b : Bool) → test y ≡ b → In x (y ∷ ys) → (In x ys → In x (filter test ys))
-          → In x (cond b (y ∷ filter test ys) (filter test ys))
+      go : (b : Bool) → test y ≡ b → In x (y ∷ ys) → (In x ys → In x (sift test ys))
+          → In x (cond b (y ∷ sift test ys) (sift test ys))
       go true f (inl q) ih = inl q
       go true f (inr m) ih = inr (ih m)
       go false f (inl q) ih = absurd (false≢true (sym f ∙ sym (ap test q) ∙ e))
       go false f (inr m) ih = ih m
 
-  pub filter-append : (xs ys : List A) → filter test (xs ++ ys) ≡ filter test xs ++ filter test ys
-  unfolding filter
-  filter-append [] ys = refl
-  filter-append (x ∷ xs) ys = rw (filter-append xs ys) (go (test x))
+  pub sift-append : (xs ys : List A) → sift test (xs ++ ys) ≡ sift test xs ++ sift test ys
+  unfolding sift
+  sift-append [] ys = refl
+  sift-append (x ∷ xs) ys = rw (sift-append xs ys) (go (test x))
     where
-      go : (b : Bool) → cond b (x ∷ (filter test xs ++ filter test ys)) (filter test xs ++ filter test ys)
-          ≡ cond b (x ∷ filter test xs) (filter test xs) ++ filter test ys
+      go : (b : Bool) → cond b (x ∷ (sift test xs ++ sift test ys)) (sift test xs ++ sift test ys)
+          ≡ cond b (x ∷ sift test xs) (sift test xs) ++ sift test ys
       go true = refl
       go false = refl
 
-  pub filter-short : (xs : List A) → length (filter test xs) ≤ length xs
-  unfolding filter
-  filter-short [] = omega arith
-  filter-short (x ∷ xs) = go (test x) (filter-short xs)
+  pub sift-short : (xs : List A) → length (sift test xs) ≤ length xs
+  unfolding sift
+  sift-short [] = omega arith
+  sift-short (x ∷ xs) = go (test x) (sift-short xs)
     where
-      go : (b : Bool) → length (filter test xs) ≤ length xs
-          → length (cond b (x ∷ filter test xs) (filter test xs)) ≤ suc (length xs)
+      go : (b : Bool) → length (sift test xs) ≤ length xs
+          → length (cond b (x ∷ sift test xs) (sift test xs)) ≤ suc (length xs)
       go true le = omega arith
       go false le = omega arith
 
@@ -72,14 +72,14 @@ module _ {A B : Type 0} (g : A → B) where
   any-map p q [] same = refl
   any-map p q (x ∷ xs) same = rw (same x (inl refl), any-map p q xs (λ y m. same y (inr m)))
 
-  filter-map : (p : B → Bool) (q : A → Bool) (xs : List A) → ((x : A) → In x xs → p (g x) ≡ q x)
-      → filter p (map g xs) ≡ map g (filter q xs)
-  unfolding filter
-  filter-map p q [] same = refl
-  filter-map p q (x ∷ xs) same = rw (same x (inl refl), filter-map p q xs (λ y m. same y (inr m))) (go (q x))
+  sift-map : (p : B → Bool) (q : A → Bool) (xs : List A) → ((x : A) → In x xs → p (g x) ≡ q x)
+      → sift p (map g xs) ≡ map g (sift q xs)
+  unfolding sift
+  sift-map p q [] same = refl
+  sift-map p q (x ∷ xs) same = rw (same x (inl refl), sift-map p q xs (λ y m. same y (inr m))) (go (q x))
     where
-      go : (b : Bool) → cond b (g x ∷ map g (filter q xs)) (map g (filter q xs))
-          ≡ map g (cond b (x ∷ filter q xs) (filter q xs))
+      go : (b : Bool) → cond b (g x ∷ map g (sift q xs)) (map g (sift q xs))
+          ≡ map g (cond b (x ∷ sift q xs) (sift q xs))
       go true = refl
       go false = refl
 
@@ -87,7 +87,7 @@ module _ {A B : Type 0} (g : A → B) where
       → ((y x : A) → In y xs → In x xs → by (g y) (g x) ≡ dominates y x)
       → undominated by (map g xs) ≡ map g (undominated dominates xs)
   undominated-map by dominates xs same =
-      filter-map _ _ xs (λ x m. ap not (any-map _ (λ y. dominates y x) xs (λ y n. same y x n m)))
+      sift-map _ _ xs (λ x m. ap not (any-map _ (λ y. dominates y x) xs (λ y n. same y x n m)))
 
 -- ---- by any domination
 module _ {A : Type 0} (dominates : A → A → Bool) (rank : A → ℕ)
@@ -108,7 +108,7 @@ module _ {A : Type 0} (dominates : A → A → Bool) (rank : A → ℕ)
       go true q further =
           let (z, m′, d) = any-iff (λ z. dominates z y) xs .0 q in
           further z (omega (arith, falls z y d)) m′ (follows z y x d e)
-      go false q further = record { above = y; listed = in-filter (stays dominates xs) y xs m (ap not q); holds = e }
+      go false q further = record { above = y; listed = in-sift (stays dominates xs) y xs m (ap not q); holds = e }
 
   -- what one of xs dominates, one of the undominated dominates
   pub dominated-above : (x : A) → any (λ y. dominates y x) xs ≡ true → Above x
@@ -118,7 +118,7 @@ module _ {A : Type 0} (dominates : A → A → Bool) (rank : A → ℕ)
   -- where ranks rise along xs, the undominated before place i tell whether the one at i is dominated
   module _ (none : A) (rises : (i j : ℕ) → i < j → j < length xs → rank (getD xs i none) < rank (getD xs j none)) where
     pub dominated-before : (i : ℕ) → i < length xs
-        → any (λ y. dominates y (getD xs i none)) (filter (stays dominates xs) (take i xs))
+        → any (λ y. dominates y (getD xs i none)) (sift (stays dominates xs) (take i xs))
         ≡ any (λ y. dominates y (getD xs i none)) xs
     dominated-before i lt = same-answer _ _ there back
       where
@@ -126,12 +126,12 @@ module _ {A : Type 0} (dominates : A → A → Bool) (rank : A → ℕ)
         here = getD xs i none
 
         before : List A
-        before = filter (stays dominates xs) (take i xs)
+        before = sift (stays dominates xs) (take i xs)
 
         there : any (λ y. dominates y here) before ≡ true → any (λ y. dominates y here) xs ≡ true
         there e =
             let (y, m, d) = any-iff (λ y. dominates y here) before .0 e in
-            let n = in-append y (take i xs) (drop i xs) (inl (filter-in (stays dominates xs) y (take i xs) m .0)) in
+            let n = in-append y (take i xs) (drop i xs) (inl (sift-in (stays dominates xs) y (take i xs) m .0)) in
             any-iff (λ y. dominates y here) xs .1 (y, subst (In y) (take-append-drop i xs) n, d)
 
         earlier : (j : ℕ) → j < length xs → rank (getD xs j none) < rank here → j < i
@@ -147,11 +147,11 @@ module _ {A : Type 0} (dominates : A → A → Bool) (rank : A → ℕ)
         back : any (λ y. dominates y here) xs ≡ true → any (λ y. dominates y here) before ≡ true
         back e =
             let up = dominated-above here e in
-            let (m, f) = filter-in (stays dominates xs) (up .above) xs (up .listed) in
+            let (m, f) = sift-in (stays dominates xs) (up .above) xs (up .listed) in
             let (j, l, q) = in-at none (up .above) xs m in
             let k = earlier j l (subst (λ (y : A). rank y < rank here) (sym q) (falls (up .above) here (up .holds))) in
             let n = at-in none (take i xs) j (omega (arith, length-take i xs)) in
             let is : getD (take i xs) j none ≡ up .above = getD-take i xs j none k ∙ q in
             let before-i = subst (λ (y : A). In y (take i xs)) is n in
             any-iff (λ y. dominates y here) before .1
-            (up .above, in-filter (stays dominates xs) (up .above) (take i xs) before-i f, up .holds)
+            (up .above, in-sift (stays dominates xs) (up .above) (take i xs) before-i f, up .holds)

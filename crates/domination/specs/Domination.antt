@@ -19,9 +19,9 @@ dominates rule u t =
     (within (u .obligations) (t .obligations) && within (fulfilment rule t) (fulfilment rule u))))
 
 -- those of xs of which a test holds, in their order
-unfoldable pub filter : {A : Type 0} → (A → Bool) → List A → List A
-filter test [] = []
-filter test (x ∷ xs) = cond (test x) (x ∷ filter test xs) (filter test xs)
+unfoldable pub sift : {A : Type 0} → (A → Bool) → List A → List A
+sift test [] = []
+sift test (x ∷ xs) = cond (test x) (x ∷ sift test xs) (sift test xs)
 
 -- whether x stays: none of xs dominates it
 abbrev pub stays : {A : Type 0} (dominates : A → A → Bool) (xs : List A) → A → Bool
@@ -30,4 +30,4 @@ stays dominates xs x = not (any (λ y. dominates y x) xs)
 -- those of xs that none of xs dominates, in their order: all of xs are looked at, the dropped ones too (R-1,
 -- sentences 2 and 4)
 abbrev pub undominated : {A : Type 0} (dominates : A → A → Bool) → List A → List A
-undominated dominates xs = filter (stays dominates xs) xs
+undominated dominates xs = sift (stays dominates xs) xs

@@ -19,7 +19,7 @@ use Rattle.term.specs.Term.{cover}
 use Rattle.term.specs.Size.{sizeCheck, sizesChecked}
 use Rattle.term.proofs.Sizes.{Few, few-fine, bytes-fine, sizes-fine}
 use Rattle.domination.specs.Domination.{dominates, stays}
-use Rattle.domination.proofs.Undominated.{filter-short}
+use Rattle.domination.proofs.Undominated.{sift-short}
 use Rattle.generalized.specs.Limits.{maxProduct}
 use Rattle.generalized.specs.Generalized.{partialProduct, stateTerms, transitions, productCheck}
 
@@ -51,4 +51,4 @@ module _ (rule : List ℕ) (passed : sizesChecked rule ≡ fine) where
       let fits = require-fine _ 21 place (lowest-each _ (nodeCount rule) e (root rule) (omega (arith, some-nodes))) in
       let terms : length (stateTerms rule state) ≤ maxProduct =
       rw (← last) (leb-true (length (partialProduct rule state (suc (root rule)))) maxProduct fits) in
-      omega (arith, filter-short (stays (dominates rule) (stateTerms rule state)) (stateTerms rule state))
+      omega (arith, sift-short (stays (dominates rule) (stateTerms rule state)) (stateTerms rule state))

@@ -20,7 +20,7 @@ use Rattle.term.proofs.Unpacking.{unpack-all}
 use Rattle.acceptance.specs.Acceptance.{fulfilment}
 use Rattle.domination.specs.Domination.{dominates, stays}
 use Rattle.domination.specs.Memory.{Sorted, Sifted, Drops}
-use Rattle.domination.proofs.Undominated.{filter-in}
+use Rattle.domination.proofs.Undominated.{sift-in}
 use Rattle.domination.proofs.Packed.{untilsN, undominated-packed}
 use Rattle.generalized.specs.Limits.{maxProduct}
 use Rattle.generalized.specs.Generalized.{stateTerms, transitions}
@@ -38,7 +38,7 @@ pub transitions-terms : (rule : List ℕ) (state : ℕ) (t : Term) → In t (tra
     → In t (stateTerms rule state)
 unfolding transitions
 transitions-terms rule state t m =
-    filter-in (stays (dominates rule) (stateTerms rule state)) t (stateTerms rule state) m .0
+    sift-in (stays (dominates rule) (stateTerms rule state)) t (stateTerms rule state) m .0
 
 module _ (rule : List ℕ) (passed : sizesChecked rule ≡ fine) (state : ℕ) where
   terms-bytes : All Bytes (stateTerms rule state)

@@ -35,8 +35,9 @@ stateTerms rule state = partialProduct rule state (nodeCount rule)
 unfoldable pub transitions : List ℕ → ℕ → List Term
 transitions rule state = undominated (dominates rule) (stateTerms rule state)
 
--- 21, at the state that is walked: its product, or a partial one on the way, has more than maxProduct terms, those that
--- will be dropped too (01, First walk and second walk, sentence 4; Numbers that come from the state, 21; R-1, sentence 5)
+-- 21, at the state that is walked: its product, or a partial one on the way, has more than maxProduct terms, counted
+-- before any is dropped (01, First walk and second walk, sentence 4; Numbers that come from the state, 21; R-1,
+-- sentence 5)
 unfoldable pub productCheck : List ℕ → (place state : ℕ) → Check
 productCheck rule place state =
     lowest (λ n. require (leb (length (partialProduct rule state (suc n))) maxProduct) 21 place) (nodeCount rule)

@@ -11,9 +11,9 @@ use lib.ListN.{length, getD, take, set, length-set}
 use lib.Seq.{getD-take, getD-set-other, length-take-le, take-all, take-suc, take-set-le, take-suc-set}
 use Rattle.sets.specs.Sets.{any}
 use Rattle.sets.proofs.Members.{map-at}
-use Rattle.domination.specs.Domination.{filter, stays}
+use Rattle.domination.specs.Domination.{sift, stays}
 use Rattle.domination.specs.Memory.{dominatesN, Sorted, Drops}
-use Rattle.domination.proofs.Undominated.{filter-append, dominated-before}
+use Rattle.domination.proofs.Undominated.{sift-append, dominated-before}
 use Rattle.domination.proofs.Packed.{number-falls, number-follows}
 use Rattle.domination.proofs.drop_dominated.Statement.{statement}
 use Rattle.domination.proofs.drop_dominated.Tie as tie
@@ -25,7 +25,7 @@ module _ (ts₀ bytes₀ : List ℕ) (count : ℕ) where
 
   -- of those before i the ones kept are the first of ts, each with its byte; from i on nothing has moved
   record Sifting (untils : ℕ → ℕ) (ts bytes : List ℕ) (kept i : ℕ) : Type 0 where
-    are : take kept ts ≡ filter (stays (dominatesN untils) xs) (take i xs)
+    are : take kept ts ≡ sift (stays (dominatesN untils) xs) (take i xs)
     told : take kept bytes ≡ map untils (take kept ts)
     rest : (j : ℕ) → i ≤ j → j < count → getD ts j 0 ≡ getD xs j 0
     rest-told : (j : ℕ) → i ≤ j → j < count → getD bytes j 0 ≡ untils (getD xs j 0)
@@ -42,7 +42,7 @@ module _ (ts₀ bytes₀ : List ℕ) (count : ℕ) where
     count-is = length-take-le count ts₀ (sorted .inside)
 
     begins : Loop ts₀ bytes₀ 0 0
-    unfolding filter
+    unfolding sift
     begins = record {
       within = omega arith;
       few = omega arith;
@@ -91,16 +91,16 @@ module _ (ts₀ bytes₀ : List ℕ) (count : ℕ) where
 
         -- the terms before i + 1 that are kept
         next-are : (b : Bool) → any (λ u. dominatesN untils u (getD xs i 0)) xs ≡ b
-            → filter (stays (dominatesN untils) xs) (take (suc i) xs)
+            → sift (stays (dominatesN untils) xs) (take (suc i) xs)
             ≡ cond b (take kept ts) (take kept ts ++ (getD ts i 0 ∷ []))
-        unfolding filter
+        unfolding sift
         next-are b e =
             rw
-            (take-suc xs i 0 (omega (arith, count-is)), filter-append (stays (dominatesN untils) xs), e, s .are, here-is)
+            (take-suc xs i 0 (omega (arith, count-is)), sift-append (stays (dominatesN untils) xs), e, s .are, here-is)
             (go b)
           where
             front : List ℕ
-            front = filter (stays (dominatesN untils) xs) (take i xs)
+            front = sift (stays (dominatesN untils) xs) (take i xs)
 
             go : (b : Bool) → front ++ cond (not b) (getD xs i 0 ∷ []) []
                 ≡ cond b front (front ++ (getD xs i 0 ∷ []))
@@ -113,7 +113,7 @@ module _ (ts₀ bytes₀ : List ℕ) (count : ℕ) where
         -- the first n after the term at i is put behind those kept
         Front : ℕ → Type 0
         Front n =
-            (take n ts-after ≡ filter (stays (dominatesN untils) xs) (take (suc i) xs))
+            (take n ts-after ≡ sift (stays (dominatesN untils) xs) (take (suc i) xs))
             × (take n bytes-after ≡ map untils (take n ts-after))
 
         fronts : (b : Bool) → any (λ u. dominatesN untils u (getD xs i 0)) xs ≡ b → Front (cond b kept (suc kept))
