@@ -139,25 +139,33 @@ def crowded(rng):
 
 
 def clauses(rng):
-    """One to four clauses in one conjunction, most of them with an "always" or an "eventually" in the other: rules whose
-    states have transitions that dominate each other."""
+    """One to four clauses joined, mostly by and, most of them with an "always" or an "eventually" in the other: rules whose
+    states have transitions that dominate each other. A leaf is there only where a clause uses it, so that no constant
+    decides the whole."""
     b = Builder()
-    true, false = b.add(TRUE), b.add(FALSE)
-    leaves = [b.add(rng.choice((PROPOSITION, PROPOSITION, NEGATION)), p) for p in range(rng.randrange(1, 5))]
+    signs = [rng.choice((PROPOSITION, PROPOSITION, NEGATION)) for _ in range(rng.randrange(1, 5))]
+    made = {}
+
+    def leaf(kind, number=0):
+        if (kind, number) not in made:
+            made[kind, number] = b.add(kind, number)
+        return made[kind, number]
+
+    def proposition():
+        number = rng.randrange(len(signs))
+        return leaf(signs[number], number)
 
     def clause(depth):
         pick = rng.randrange(6) if depth else 5
         if pick < 2:
-            return b.add(RELEASE, false, clause(depth - 1))
+            return b.add(RELEASE, leaf(FALSE), clause(depth - 1))
         if pick < 4:
-            return b.add(UNTIL, true, clause(depth - 1))
+            return b.add(UNTIL, leaf(TRUE), clause(depth - 1))
         if pick < 5:
-            return b.add(rng.choice((AND, OR, UNTIL, RELEASE)), clause(depth - 1), rng.choice(leaves))
-        return rng.choice(leaves)
+            return b.add(rng.choice((AND, OR, UNTIL, RELEASE)), clause(depth - 1), proposition())
+        return proposition()
 
-    parts = [clause(rng.randrange(1, 4)) for _ in range(rng.randrange(1, 5))]
-    used = {c for kind, *children in b.nodes if kind > NEGATION for c in children}
-    b.joined(rng.choice((AND, AND, AND, OR)), parts + [n for n in (true, false, *leaves) if n not in used and n not in parts])
+    b.joined(rng.choice((AND, AND, AND, OR)), [clause(rng.randrange(1, 4)) for _ in range(rng.randrange(1, 5))])
     return b.bytes()
 
 
