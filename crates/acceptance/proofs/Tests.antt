@@ -7,11 +7,11 @@ use Prim.Native.Nat.{ℕ}
 use native.Mathlib.Omega.{arith}
 use lib.Dec.{eqb}
 use borrow.Author.Tests.{eq-eqb, ne-eqb, eqb-true, eqb-false}
-use Rattle.sets.specs.Sets.{any}
+use Rattle.sets.proofs.Members.{any-map}
 use Rattle.formula.specs.Formula.{tree, InRange}
 use Rattle.term.specs.Term.{Term, joined, terms}
 use Rattle.term.specs.Memory.{pack, obligationsN, unpack}
-use Rattle.term.proofs.Packing.{Numbers, none, more, Bytes, of-terms, terms-numbers}
+use Rattle.term.proofs.Packing.{Bytes, of-terms, numbers-bytes, terms-numbers}
 use Rattle.term.proofs.Unpacking.{pack-unpack, unpack-bytes}
 use Rattle.acceptance.specs.Acceptance.{shows, fulfils}
 use Rattle.acceptance.specs.Memory.{showsN, fulfilsN}
@@ -35,14 +35,13 @@ unfolding shows
 shows-packed f t u g h =
     rw (of-terms .joins u t h g, equal-parts (joined u t) t (of-terms .good u t h g) g, pack-obligations u h) (simp and-assoc)
 
-any-packed : (f : ℕ) (t : Term) → Bytes t → {us : List Term} {ns : List ℕ} → Numbers of-terms us ns → any (showsN f (pack t)) ns ≡ any (shows f t) us
-unfolding any
-any-packed f t g none = refl
-any-packed f t g (more u h r) = rw (shows-packed f t u g h, any-packed f t g r)
-
 fulfils-packed : (rule : List ℕ) (f : ℕ) (t : Term) → InRange (tree rule f) → Bytes t → fulfilsN f (map pack (terms (tree rule f))) (pack t) ≡ fulfils rule f t
 unfolding fulfils
-fulfils-packed rule f t range g = rw (pack-obligations t g, any-packed f t g (terms-numbers (tree rule f) range))
+fulfils-packed rule f t range g =
+    let bytes = numbers-bytes (terms-numbers (tree rule f) range) in
+    let same = any-map pack (showsN f (pack t)) (shows f t) (terms (tree rule f))
+    (λ u m. shows-packed f t u g (bytes u m)) in
+    rw (pack-obligations t g, same)
 
 pub fulfils-number : (rule : List ℕ) (f t : ℕ) → InRange (tree rule f) → fulfilsN f (map pack (terms (tree rule f))) t ≡ fulfils rule f (unpack t)
 fulfils-number rule f t range = rw (pack-unpack t) at (fulfils-packed rule f (unpack t) range (unpack-bytes t))

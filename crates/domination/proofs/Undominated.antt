@@ -10,7 +10,7 @@ use native.Mathlib.Decide.{decLt}
 use lib.ListN.{length, getD, take, drop, length-take, take-append-drop}
 use lib.Seq.{getD-take}
 use Rattle.sets.specs.Sets.{In, any}
-use Rattle.sets.proofs.Members.{any-iff, at-in, in-at, in-append}
+use Rattle.sets.proofs.Members.{any-iff, any-map, at-in, in-at, in-append}
 use Rattle.domination.specs.Domination.{sift, stays, undominated}
 
 -- two tests of which each follows from the other are one
@@ -66,12 +66,6 @@ module _ {A : Type 0} (test : A → Bool) where
 
 -- ---- through a map under which a test stays the same
 module _ {A B : Type 0} (g : A → B) where
-  any-map : (p : B → Bool) (q : A → Bool) (xs : List A) → ((x : A) → In x xs → p (g x) ≡ q x)
-      → any p (map g xs) ≡ any q xs
-  unfolding any
-  any-map p q [] same = refl
-  any-map p q (x ∷ xs) same = rw (same x (inl refl), any-map p q xs (λ y m. same y (inr m)))
-
   sift-map : (p : B → Bool) (q : A → Bool) (xs : List A) → ((x : A) → In x xs → p (g x) ≡ q x)
       → sift p (map g xs) ≡ map g (sift q xs)
   unfolding sift
@@ -87,7 +81,7 @@ module _ {A B : Type 0} (g : A → B) where
       → ((y x : A) → In y xs → In x xs → by (g y) (g x) ≡ dominates y x)
       → undominated by (map g xs) ≡ map g (undominated dominates xs)
   undominated-map by dominates xs same =
-      sift-map _ _ xs (λ x m. ap not (any-map _ (λ y. dominates y x) xs (λ y n. same y x n m)))
+      sift-map _ _ xs (λ x m. ap not (any-map g _ (λ y. dominates y x) xs (λ y n. same y x n m)))
 
 -- ---- by any domination
 module _ {A : Type 0} (dominates : A → A → Bool) (rank : A → ℕ)

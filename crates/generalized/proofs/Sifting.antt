@@ -1,7 +1,6 @@
 -- What dropping leaves of a state's terms, as numbers with their bytes, are the state's transitions.
 -- Assumes that 1 to 7 and 20 let the rule pass.
-use mathlib.Core.Path.{_≡_, sym, subst, _∙_}
-use mathlib.Core.Logic.{inl, inr}
+use mathlib.Core.Path.{_≡_, sym, _∙_}
 use mathlib.Core.List.{List, map, map-map}
 use Prim.Native.Nat.{ℕ, _≤_}
 use native.Mathlib.Omega.{arith}
@@ -15,7 +14,7 @@ use Rattle.sets.proofs.Rising.{Consistent, rising-at}
 use Rattle.term.specs.Term.{Term}
 use Rattle.term.specs.Size.{sizesChecked}
 use Rattle.term.specs.Memory.{unpack}
-use Rattle.term.proofs.Packing.{Numbers, none, more, Bytes, of-terms}
+use Rattle.term.proofs.Packing.{Bytes, numbers-bytes}
 use Rattle.term.proofs.Unpacking.{unpack-all}
 use Rattle.acceptance.specs.Acceptance.{fulfilment}
 use Rattle.domination.specs.Domination.{dominates, stays}
@@ -27,11 +26,6 @@ use Rattle.generalized.specs.Generalized.{stateTerms, transitions}
 use Rattle.generalized.specs.Memory.{Product, Told}
 use Rattle.generalized.proofs.Passed.{in-range}
 use Rattle.generalized.proofs.Products.{partial-packed, partial-rises}
-
-numbers-bytes : {ts : List Term} {ns : List ℕ} → Numbers of-terms ts ns → All Bytes ts
-numbers-bytes none t h = absurd h
-numbers-bytes (more u own rest) t (inl e) = subst Bytes (sym e) own
-numbers-bytes (more u own rest) t (inr h) = numbers-bytes rest t h
 
 -- a state's transitions are terms of it
 pub transitions-terms : (rule : List ℕ) (state : ℕ) (t : Term) → In t (transitions rule state)

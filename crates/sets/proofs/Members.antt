@@ -77,3 +77,10 @@ any-iff {A} test (u ∷ us) = (there (any-iff test us), back (any-iff test us))
     back : any test us ≡ true ↔ Some us → Some (u ∷ us) → (test u || any test us) ≡ true
     back ih (v, inl p, e) = or-iff (test u) (any test us) .1 (inl (subst (λ (x : A). test x ≡ true) p e))
     back ih (v, inr m, e) = or-iff (test u) (any test us) .1 (inr (ih .1 (v, m, e)))
+
+-- a test through a map under which it stays the same
+pub any-map : {A B : Type 0} (g : A → B) (p : B → Bool) (q : A → Bool) (xs : List A)
+    → ((x : A) → In x xs → p (g x) ≡ q x) → any p (map g xs) ≡ any q xs
+unfolding any
+any-map g p q [] same = refl
+any-map g p q (x ∷ xs) same = rw (same x (inl refl), any-map g p q xs (λ y m. same y (inr m)))

@@ -1,6 +1,7 @@
 -- The bridge from terms and cover sets to their numbers: the numbers rise as the terms do, and each operation on lists
 -- goes over. Assumes nothing.
-use mathlib.Core.Path.{_≡_, refl, sym, ap}
+use mathlib.Core.Path.{_≡_, refl, sym, ap, subst}
+use mathlib.Core.Logic.{inl, inr}
 use mathlib.Core.List.{List, [], _∷_, map}
 use mathlib.Core.Bool.{Bool, true, false, cond}
 use Prim.Native.Nat.{ℕ, _+_, _*_, _^_, _/_, _%_, _≤_, _<_}
@@ -10,6 +11,7 @@ use lib.Bits.{bitAnd, bitOr, or-block, and-block, or-lt, and-zero-r}
 use lib.Pow.{pow-lt}
 use borrow.Author.Tests.{lt-ltb, le-ltb, ltb-true, ltb-false}
 use Rattle.sets.specs.Sets.{insert, union, insertJoin, insertJoins, insertProduct, consistentN, insertN, unionN, insertJoinN, insertJoinsN, insertProductN}
+use Rattle.sets.proofs.Members.{All}
 use Rattle.formula.specs.Limits.{propositions}
 use Rattle.formula.specs.Formula.{Formula, bottom, top, proposition, negatedProposition, conjunction, disjunction, next, until, release, InRange}
 use Rattle.term.specs.Term.{Term, term, lessThen, less, joined, consistent, product, unions, cover, terms}
@@ -119,6 +121,12 @@ of-terms = record {
   drops = pack-drops;
   good = λ x y g h. record { must = or-lt 8 (x .must) (y .must) (g .must) (h .must); mustNot = or-lt 8 (x .mustNot) (y .mustNot) (g .mustNot) (h .mustNot) };
 }
+
+-- terms that have numbers are such
+pub numbers-bytes : {ts : List Term} {ns : List ℕ} → Numbers of-terms ts ns → All Bytes ts
+numbers-bytes none t h = absurd h
+numbers-bytes (more u own rest) t (inl e) = subst Bytes (sym e) own
+numbers-bytes (more u own rest) t (inr h) = numbers-bytes rest t h
 
 -- ---- cover sets
 set-joins : (c d : ℕ) → bitOr (packSet c) (packSet d) ≡ packSet (bitOr c d)
