@@ -53,6 +53,8 @@ def responses(n):
     return b.bytes()
 
 
+MOST = second.max_slots()
+
 # rules that no letters keep or break: their runs never end, and none comes to rest
 UNDECIDED = [fairness(n) for n in (1, 2, 3, 4)] + [responses(n) for n in (1, 2, 3)]
 
@@ -66,6 +68,11 @@ def full_image(states=96, row=128):
     rows = [(q == states - 1, [(rng.choice((0, 0, 1, 2)), rng.choice((0, 4)), rng.randrange(states)) for _ in range(row)])
             for q in range(states)]
     return second.write(second.Watcher(rows, [0]))
+
+
+def long_word():
+    """As many letters as a plan may have, any of them."""
+    return random.Random(5).randbytes(MOST)
 
 
 def framed(kind, *slices):
@@ -98,7 +105,7 @@ def groups():
     random_rules = accepted_rules(7, 200)
     letters = random.Random(3)
     images = [second.write(second.translate(rule)) for rule in random_rules]
-    full = full_image()
+    full, word = full_image(), long_word()
     return [
         ("translate: rows P1 to P9", translations(bytes.fromhex(r.replace(" ", "")) for _, r, _ in second.ROWS)),
         ("translate: limits", translations(rule for _, rule, _ in rules.LIMITS)),
@@ -107,22 +114,22 @@ def groups():
         ("translate: 200 random rules", translations(random_rules)),
         ("judge: 200 random images, 12 slots",
          plans((image, lassos.letters(letters, 4), lassos.letters(letters, 8)) for image in images)),
-        ("judge: 200 random images, 128 slots",
-         plans((image, lassos.letters(letters, 64), lassos.letters(letters, 64)) for image in images)),
-        ("judge: 7 undecided rules on 20 plans of 128 slots each",
-         plans((image, lassos.letters(letters, 64), lassos.letters(letters, 64))
+        (f"judge: 200 random images, {MOST} slots",
+         plans((image, lassos.letters(letters, MOST // 2), lassos.letters(letters, MOST // 2)) for image in images)),
+        (f"judge: 7 undecided rules on 20 plans of {MOST} slots each",
+         plans((image, lassos.letters(letters, MOST // 2), lassos.letters(letters, MOST // 2))
                for image in map(second.write, map(second.translate, UNDECIDED)) for _ in range(20))),
-        ("judge: a full image, 128 slots", plans([(full, b"", lassos.letters(letters, 128))])),
+        ("judge: a full image, 128 slots", plans([(full, b"", word[:128])])),
+        (f"judge: a full image, {MOST} slots", plans([(full, b"", word)])),
     ]
 
 
 def by_letters():
-    """A full image on plans of more and more slots."""
-    full, letters = full_image(), random.Random(5)
-    return [(n, plans([(full, b"", lassos.letters(letters, n))])) for n in (1, 8, 16, 32, 64, 96, 128)]
+    """A full image on plans of more and more slots, each the beginning of the next."""
+    full, word = full_image(), long_word()
+    return [(n, plans([(full, b"", word[:n])])) for n in (1, 16, 32, 64, 128, 192, 256, MOST)]
 
 
 def by_transitions():
-    """128 slots on images with more and more transitions."""
-    letters = random.Random(6)
-    return [(96 * row, plans([(full_image(96, row), b"", lassos.letters(letters, 128))])) for row in (1, 8, 16, 32, 64, 96, 128)]
+    """The same slots on images with more and more transitions."""
+    return [(96 * row, plans([(full_image(96, row), b"", long_word())])) for row in (1, 8, 16, 32, 64, 96, 128)]

@@ -483,7 +483,7 @@ fn answer(kind: u8, slices: &[&[u8]], tables: &mut Tables) -> u64 {
     match read(slices[0]) {
         Err(r) => refused(r),
         Ok(_) if slices[2].is_empty() => 8,
-        Ok(_) if slices[1].len() + slices[2].len() > 128 => 9,
+        Ok(_) if slices[1].len() + slices[2].len() > 336 => 9,
         Ok(a) => 256 * judge(&a, slices[1], slices[2]) as u64,
     }
 }

@@ -16,7 +16,7 @@ extern "C" {
 #endif
 
 /* The limits of a lasso (stem and cycle together), a rule and an automaton. Every size below follows from these. */
-#define ZIMBORALO_MAX_LETTERS 128
+#define ZIMBORALO_MAX_LETTERS 336
 #define ZIMBORALO_MAX_NODES 32
 #define ZIMBORALO_MAX_UNTILS 8
 #define ZIMBORALO_MAX_STATES 96
@@ -130,7 +130,7 @@ struct zimboralo_image {
     size_t length;
 };
 
-/* All that a decision fills, over 100 KB: better static or allocated than on a small stack. */
+/* All that a decision fills, over 130 KB: better static or allocated than on a small stack. */
 struct zimboralo_buffers {
     struct zimboralo_tables tables;
     struct zimboralo_image image;

@@ -71,6 +71,38 @@ def plan_input(image, stem, cycle):
     return second.u16(len(image)) + image + second.u16(len(stem)) + stem + cycle
 
 
+EVENTUALLY, ALWAYS = (second.write(second.translate(bytes.fromhex(rule)))
+                      for rule in ("010000020000070001", "000000020000080001"))
+
+
+def changed(image, at, byte):
+    return image[:at] + bytes((byte,)) + image[at + 1:]
+
+
+# an image with each of its faults, and the refusal's number and place
+FAULTS = [(EVENTUALLY[:-1], (10, 0)), (changed(EVENTUALLY, 24, 2), (11, 1)), (changed(EVENTUALLY, 36, 2), (12, 2)),
+          (changed(EVENTUALLY, 38, 2), (13, 0))]
+
+# how many letters stem and cycle have, at the limit of 336 together: within it, and past it or empty with the refusal; the
+# last ones are the longest stem that two bytes can say, and longer cycles than are read
+WITHIN = [(0, 336), (1, 335), (168, 168), (335, 1)]
+PAST = [(0, 337, 9), (1, 336, 9), (168, 169, 9), (169, 168, 9), (336, 1, 9), (337, 1, 9), (336, 336, 9), (337, 337, 9),
+        (336, 0, 8), (337, 0, 8), (65535, 0, 8), (65535, 1, 9), (0, 65536, 9), (65535, 65536, 9), (65535, 200000, 9)]
+
+
+def limits():
+    """Lassos at the limit of letters: name, what judgeplan reads, its answer. Within the limit the last letter alone decides.
+    An image's own refusal comes before 8, and 8 before 9."""
+    for s, c in WITHIN:
+        for image, letter in ((EVENTUALLY, b"\0"), (ALWAYS, b"\1")):
+            for last, answer in ((b"\0", "broken\n"), (b"\1", "kept\n")):
+                word = letter * (s + c - 1) + last
+                yield f"{s} | {c} letters", plan_input(image, word[:s], word[s:]), answer
+    for s, c, number in PAST:
+        for image, (first, place) in FAULTS + [(EVENTUALLY, (number, 0))]:
+            yield f"{s} | {c} letters", plan_input(image, bytes(s), bytes(c)), f"refused {first} place {place}\n"
+
+
 def any_image(rng):
     """An image of a rule or by hand, whole or damaged."""
     image = image_of_rule(rng)[1] if rng.random() < .6 else second.write(hand_made(rng))

@@ -6,7 +6,7 @@ import sys
 sys.path.insert(0, os.path.join(os.path.dirname(os.path.abspath(__file__)), "second"))
 import second  # noqa: E402  (the second translator, by another author)
 
-second.UPTO = 1  # the requests that have landed: R-1
+second.UPTO = 2  # the requests that have landed
 
 FALSE, TRUE, PROPOSITION, NEGATION, AND, OR, NEXT, UNTIL, RELEASE = range(9)
 

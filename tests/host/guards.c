@@ -89,11 +89,19 @@ static uint64_t read_image(const uint8_t *image, size_t length, int shorter)
                           size_of(TRANSITIONS, shorter), lent(INITIAL), size_of(INITIAL, shorter));
 }
 
-static uint64_t decide(const uint8_t *rule, size_t length, const uint8_t *cycle, size_t letters, int shorter)
+static uint64_t judge(const uint8_t *image, size_t length, const uint8_t *stem, size_t stem_letters,
+                      const uint8_t *cycle, size_t cycle_letters, int shorter)
 {
-    return zimboralo_decide(rule, length, cycle, 0, cycle, letters, lent(STATES), size_of(STATES, shorter),
-                            lent(TRANSITIONS), size_of(TRANSITIONS, shorter), lent(INITIAL), size_of(INITIAL, shorter),
-                            lent(IMAGE), size_of(IMAGE, shorter), lent(WORK), size_of(WORK, shorter));
+    return zimboralo_judge(image, length, stem, stem_letters, cycle, cycle_letters, lent(WORK), size_of(WORK, shorter));
+}
+
+static uint64_t decide(const uint8_t *rule, size_t length, const uint8_t *stem, size_t stem_letters,
+                       const uint8_t *cycle, size_t cycle_letters, int shorter)
+{
+    return zimboralo_decide(rule, length, stem, stem_letters, cycle, cycle_letters, lent(STATES),
+                            size_of(STATES, shorter), lent(TRANSITIONS), size_of(TRANSITIONS, shorter), lent(INITIAL),
+                            size_of(INITIAL, shorter), lent(IMAGE), size_of(IMAGE, shorter), lent(WORK),
+                            size_of(WORK, shorter));
 }
 
 /* Whether n bytes of a buffer are zero. */
@@ -114,34 +122,29 @@ static void in_a_row(const uint8_t *rule, size_t length)
     uint64_t written = write_image(translate(rule, length, BUFFERS), BUFFERS);
     static uint8_t copy[ZIMBORALO_IMAGE_BYTES];
     memcpy(copy, lent(IMAGE), zimboralo_length(written));
-    uint64_t judged = zimboralo_judge(copy, zimboralo_length(written), cycle, 0, cycle, sizeof cycle, lent(WORK),
-                                      SIZES[WORK]);
+    uint64_t judged = judge(copy, zimboralo_length(written), cycle, 0, cycle, sizeof cycle, BUFFERS);
     for (int b = 0; b < BUFFERS; b++)
         memcpy(after[b], blocks[b], SIZES[b] + 2 * GUARD);
     refill();
-    expect(decide(rule, length, cycle, sizeof cycle, BUFFERS) == judged, "decide and judge differ", "verdict");
+    expect(decide(rule, length, cycle, 0, cycle, sizeof cycle, BUFFERS) == judged, "decide and judge differ",
+           "verdict");
     for (int b = 0; b < BUFFERS; b++)
         expect(memcmp(after[b], blocks[b], SIZES[b] + 2 * GUARD) == 0, "decide and the calls differ", NAMES[b]);
     for (int shorter = 0; shorter < BUFFERS; shorter++) {
         refill();
-        expect(decide(rule, length, cycle, sizeof cycle, shorter) == ZIMBORALO_TABLE_TOO_SHORT, "decide took a short",
-               NAMES[shorter]);
+        expect(decide(rule, length, cycle, 0, cycle, sizeof cycle, shorter) == ZIMBORALO_TABLE_TOO_SHORT,
+               "decide took a short", NAMES[shorter]);
         expect_untouched("decide touched a buffer");
     }
 }
 
-/* The refusals of decide: 1 to 9 touch nothing, 8 comes after the rule's own and before 24, and 24 leaves zero tables. */
+/* By 24 decide leaves zero tables, and the other buffers as they were. */
 static void refused(void)
 {
-    const uint8_t cycle[ZIMBORALO_MAX_LETTERS + 1] = {0};
+    const uint8_t cycle[] = {0};
     refill();
-    expect(decide(unknown, sizeof unknown, cycle, 0, BUFFERS) == ZIMBORALO_UNKNOWN_KIND, "decide took", "a kind");
-    expect(decide(pairs, sizeof pairs, cycle, 0, BUFFERS) == ZIMBORALO_EMPTY_CYCLE, "decide took", "an empty cycle");
-    expect(decide(pairs, sizeof pairs, cycle, sizeof cycle, BUFFERS) == ZIMBORALO_TOO_MANY_LETTERS, "decide took",
-           "a letter too many");
-    expect_untouched("a refusal touched a buffer");
-    expect(zimboralo_number(decide(pairs, sizeof pairs, cycle, 1, BUFFERS)) == ZIMBORALO_TOO_MANY_PAIRS, "decide took",
-           "a pair too many");
+    expect(zimboralo_number(decide(pairs, sizeof pairs, cycle, 0, cycle, 1, BUFFERS)) == ZIMBORALO_TOO_MANY_PAIRS,
+           "decide took", "a pair too many");
     expect_guards("decide touched a guard");
     for (int b = STATES; b <= INITIAL; b++)
         expect(zero(b, SIZES[b]), "not zero after 24", NAMES[b]);
@@ -167,8 +170,7 @@ static void whole(const uint8_t *rule, size_t length)
         behind = behind && lent(IMAGE)[i] == pattern(GUARD + i);
     expect(behind, "write touched a byte behind the image", "image");
     memcpy(copy, lent(IMAGE), zimboralo_length(written));
-    expect(zimboralo_number(zimboralo_judge(copy, zimboralo_length(written), cycle, 1, cycle, sizeof cycle, lent(WORK),
-                                            SIZES[WORK])) == 0,
+    expect(zimboralo_number(judge(copy, zimboralo_length(written), cycle, 1, cycle, sizeof cycle, BUFFERS)) == 0,
            "judge refused", "a plan");
     expect_guards("judge touched a guard");
     expect(read_image(copy, zimboralo_length(written), BUFFERS) == made, "read and translate differ", "counts");
@@ -187,8 +189,7 @@ static void whole(const uint8_t *rule, size_t length)
         expect_untouched("write touched a buffer");
     }
     refill();
-    expect(zimboralo_judge(copy, zimboralo_length(written), cycle, 0, cycle, 1, lent(WORK), SIZES[WORK] - 1)
-               == ZIMBORALO_TABLE_TOO_SHORT,
+    expect(judge(copy, zimboralo_length(written), cycle, 0, cycle, 1, WORK) == ZIMBORALO_TABLE_TOO_SHORT,
            "judge took a short", NAMES[WORK]);
     expect_untouched("judge touched a buffer");
 }
@@ -272,21 +273,21 @@ static void over_structs(const uint8_t *rule, size_t rule_length)
     size_t length = accepted(made) ? image_over_structs(made) : NOT_SET;
     for (size_t i = 0; i < sizeof letters / sizeof *letters; i++) {
         refill_both();
-        uint64_t plain = decide(rule, rule_length, cycle, letters[i], BUFFERS);
+        uint64_t plain = decide(rule, rule_length, cycle, 0, cycle, letters[i], BUFFERS);
         uint64_t answer = zimboralo_decide_plan(rule, rule_length, cycle, 0, cycle, letters[i], &guarded.buffers);
         expect_same("decide_plan", plain, answer, made, accepted(answer) ? length : NOT_SET);
         if (!accepted(answer))
             continue;
-        plain = zimboralo_judge(lent(IMAGE), length, cycle, 1, cycle, 2, lent(WORK), SIZES[WORK]);
+        plain = judge(lent(IMAGE), length, cycle, 1, cycle, 2, BUFFERS);
         expect_same("judge_plan", plain, zimboralo_judge_plan(cycle, 1, cycle, 2, &guarded.buffers), made, length);
     }
 }
 
 /* The header's limits are the library's: what is as large is taken, and what is one larger is not. The sizes of the
- * tables are those of `whole`, the states those of `refused`. */
+ * tables are those of `whole`, the states those of `refused`, the letters those of `lassos`. */
 static void limits(void)
 {
-    static const uint8_t zero_nodes[ZIMBORALO_RULE_BYTES + 1] = {0}, letters[ZIMBORALO_MAX_LETTERS + 1] = {0};
+    static const uint8_t zero_nodes[ZIMBORALO_RULE_BYTES + 1] = {0};
     /* true, mark 0, and eventually of the node before, over and over */
     uint8_t nested[3 * (ZIMBORALO_MAX_UNTILS + 3)] = {1, 0, 0, 2, 0, 0};
     for (uint8_t n = 2; n < ZIMBORALO_MAX_UNTILS + 3; n++) {
@@ -298,11 +299,55 @@ static void limits(void)
     expect(translate(zero_nodes, sizeof zero_nodes, BUFFERS) == ZIMBORALO_TOO_LONG, "taken", "a byte too many");
     expect(accepted(translate(nested, sizeof nested - 3, BUFFERS)), "not taken", "untils");
     expect(translate(nested, sizeof nested, BUFFERS) == ZIMBORALO_TOO_MANY_UNTILS, "taken", "an until too many");
-    expect(accepted(decide(never, sizeof never, letters, ZIMBORALO_MAX_LETTERS, BUFFERS)), "not taken", "letters");
-    expect(decide(never, sizeof never, letters, sizeof letters, BUFFERS) == ZIMBORALO_TOO_MANY_LETTERS, "taken",
-           "a letter too many");
     expect(zimboralo_length(write_image(translate(never, sizeof never, BUFFERS), BUFFERS)) == ZIMBORALO_CONTENTS_BYTES,
            "another size", "contents");
+}
+
+/* A lasso of so many letters, which judge and decide refuse by this number, or call broken if it is ZIMBORALO_ACCEPTED.
+ * Before it come 25, in judge the image's numbers, in decide the rule's 1 to 7; after it comes 24. */
+static void lasso(size_t stem_letters, size_t cycle_letters, unsigned number)
+{
+    static const uint8_t stem[ZIMBORALO_MAX_LETTERS + 1] = {0}, cycle[ZIMBORALO_MAX_LETTERS + 1] = {0};
+    static const uint8_t no_states[] = {1, 0, 0, 0, 18, 0, 2, 0, 0, 0, 18, 0, 3, 0, 0, 0, 18, 0};
+    refill();
+    expect(judge(no_states, 0, stem, stem_letters, cycle, cycle_letters, WORK) == ZIMBORALO_TABLE_TOO_SHORT,
+           "judge took a lasso before", "the working space");
+    expect(judge(no_states, sizeof no_states - 1, stem, stem_letters, cycle, cycle_letters, BUFFERS)
+               == ZIMBORALO_BAD_CONTENTS,
+           "judge took a lasso before", "the image");
+    expect(decide(unknown, sizeof unknown, stem, stem_letters, cycle, cycle_letters, WORK) == ZIMBORALO_TABLE_TOO_SHORT,
+           "decide took a lasso before", "the working space");
+    expect(decide(unknown, sizeof unknown, stem, stem_letters, cycle, cycle_letters, BUFFERS) == ZIMBORALO_UNKNOWN_KIND,
+           "decide took a lasso before", "the rule");
+    expect_untouched("an earlier refusal touched a buffer");
+    expect(judge(no_states, sizeof no_states, stem, stem_letters, cycle, cycle_letters, BUFFERS) == number,
+           "judge on a lasso", "another answer");
+    expect(decide(never, sizeof never, stem, stem_letters, cycle, cycle_letters, BUFFERS) == number,
+           "decide on a lasso", "another answer");
+    uint64_t order = decide(pairs, sizeof pairs, stem, stem_letters, cycle, cycle_letters, BUFFERS);
+    if (number == ZIMBORALO_ACCEPTED) {
+        expect(zimboralo_number(order) == ZIMBORALO_TOO_MANY_PAIRS, "decide took", "a pair too many");
+        expect_guards("judge or decide touched a guard");
+    } else {
+        expect(order == number, "decide took a lasso after", "the pairs");
+        expect_untouched("a refused lasso touched a buffer");
+    }
+}
+
+/* No letter; as many as a lasso may have, and one more: in the cycle, in both, and in the stem. */
+static void lassos(void)
+{
+    const size_t most = ZIMBORALO_MAX_LETTERS;
+    lasso(0, 0, ZIMBORALO_EMPTY_CYCLE);
+    lasso(most, 0, ZIMBORALO_EMPTY_CYCLE);
+    lasso(most + 1, 0, ZIMBORALO_EMPTY_CYCLE);
+    lasso(0, most, ZIMBORALO_ACCEPTED);
+    lasso(most / 2, most - most / 2, ZIMBORALO_ACCEPTED);
+    lasso(most - 1, 1, ZIMBORALO_ACCEPTED);
+    lasso(0, most + 1, ZIMBORALO_TOO_MANY_LETTERS);
+    lasso(most / 2 + 1, most - most / 2, ZIMBORALO_TOO_MANY_LETTERS);
+    lasso(most, 1, ZIMBORALO_TOO_MANY_LETTERS);
+    lasso(most + 1, most + 1, ZIMBORALO_TOO_MANY_LETTERS);
 }
 
 int main(void)
@@ -320,6 +365,7 @@ int main(void)
     over_structs(unknown, sizeof unknown);
     over_structs(pairs, sizeof pairs);
     limits();
+    lassos();
     printf("guards: %d looked at, %d wrong\n", looked, wrong);
     for (int b = 0; b < BUFFERS; b++)
         free(blocks[b]);

@@ -30,8 +30,8 @@ judgeAnswer Kept = accepted kept
 judgeAnswer Broken = accepted broken
 judgeAnswer (Refused number place) = refused number place
 
--- the working bytes that judging asks for, one for each state that an automaton may have and each letter (01, Numbers
--- that come from the state, 25)
+-- the working bytes that judging asks for, one for each state that an automaton may have and each letter: 96 times 336
+-- (01, Numbers that come from the state, 25, with the figure of 02, R-2)
 abbrev pub workBytes : ℕ
 workBytes = maxStates * maxLetters
 

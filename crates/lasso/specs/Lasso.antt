@@ -13,9 +13,10 @@ unfoldable pub letter : (stem cycle : List ℕ) → ℕ → ℕ
 letter stem cycle i =
     cond (ltb i (length stem)) (getD stem i 0) (getD cycle ((i - length stem) % length cycle) 0)
 
--- the most letters that a lasso may have, stem and cycle together (01, Numbers that come from the input, 9)
+-- the most letters that a lasso may have, stem and cycle together: one for each half hour of a week (01, Numbers that
+-- come from the input, 9, with the figure of 02, R-2)
 abbrev pub maxLetters : ℕ
-maxLetters = 128
+maxLetters = 336
 
 -- 8: the cycle has no letter; then 9: stem and cycle have over the limit together
 unfoldable pub lassoCheck : (stem cycle : List ℕ) → Check

@@ -12,7 +12,7 @@ pub const EMPTY_CYCLE: u8 = 8;
 pub const TOO_MANY_LETTERS: u8 = 9;
 
 // A lasso has at most so many letters, stem and cycle together (`maxLetters` of specs/).
-pub const MAX_LETTERS: usize = 128;
+pub const MAX_LETTERS: usize = 336;
 
 // Whether a lasso with so many letters in its stem and its cycle is within the limit.
 fn letters_fit(stem: usize, cycle: usize) -> bool
