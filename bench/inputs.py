@@ -71,8 +71,8 @@ def full_image(states=96, row=128):
 
 
 def long_word():
-    """As many letters as a plan may have, any of them."""
-    return random.Random(5).randbytes(MOST)
+    """As many letters as a plan may have, with few propositions."""
+    return lassos.sparse(random.Random(5), MOST)
 
 
 def framed(kind, *slices):

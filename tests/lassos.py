@@ -3,10 +3,14 @@ import rules
 from rules import second
 
 
+def sparse(rng, count):
+    """Random letters with few propositions."""
+    return bytes(rng.choice((0, 1, 2, 3, 4, 8)) for _ in range(count))
+
+
 def letters(rng, count):
     """Random letters, most of them with few propositions, so that rules are kept and broken about as often."""
-    wide = rng.random() < .5
-    return bytes(rng.randrange(256) if wide else rng.choice((0, 1, 2, 3, 4, 8)) for _ in range(count))
+    return bytes(rng.randrange(256) for _ in range(count)) if rng.random() < .5 else sparse(rng, count)
 
 
 def lasso(rng):
@@ -79,12 +83,12 @@ def changed(image, at, byte):
     return image[:at] + bytes((byte,)) + image[at + 1:]
 
 
-# an image with each of its faults, and the refusal's number and place
-FAULTS = [(EVENTUALLY[:-1], (10, 0)), (changed(EVENTUALLY, 24, 2), (11, 1)), (changed(EVENTUALLY, 36, 2), (12, 2)),
-          (changed(EVENTUALLY, 38, 2), (13, 0))]
+# images that are wrong, with the refusal's number and place; the second is as long as two bytes can say
+FAULTS = [(EVENTUALLY[:-1], (10, 0)), (EVENTUALLY.ljust(65535, b"\0"), (10, 0)), (changed(EVENTUALLY, 24, 2), (11, 1)),
+          (changed(EVENTUALLY, 36, 2), (12, 2)), (changed(EVENTUALLY, 38, 2), (13, 0))]
 
 # how many letters stem and cycle have, at the limit of 336 together: within it, and past it or empty with the refusal; the
-# last ones are the longest stem that two bytes can say, and longer cycles than are read
+# last stems are as long as two bytes can say, and the last cycles longer than what is read
 WITHIN = [(0, 336), (1, 335), (168, 168), (335, 1)]
 PAST = [(0, 337, 9), (1, 336, 9), (168, 169, 9), (169, 168, 9), (336, 1, 9), (337, 1, 9), (336, 336, 9), (337, 337, 9),
         (336, 0, 8), (337, 0, 8), (65535, 0, 8), (65535, 1, 9), (0, 65536, 9), (65535, 65536, 9), (65535, 200000, 9)]
