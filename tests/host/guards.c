@@ -304,7 +304,8 @@ static void limits(void)
 }
 
 /* A lasso of so many letters, which judge and decide refuse by this number, or call broken if it is ZIMBORALO_ACCEPTED.
- * Before it come 25, in judge the image's numbers, in decide the rule's 1 to 7; after it comes 24. */
+ * Before it come 25, in judge the image's numbers, in decide the rule's 1 to 7; after it comes 24. A verdict leaves the
+ * working space zero, a refusal leaves every buffer as it was. */
 static void lasso(size_t stem_letters, size_t cycle_letters, unsigned number)
 {
     static const uint8_t stem[ZIMBORALO_MAX_LETTERS + 1] = {0}, cycle[ZIMBORALO_MAX_LETTERS + 1] = {0};
@@ -322,12 +323,19 @@ static void lasso(size_t stem_letters, size_t cycle_letters, unsigned number)
     expect_untouched("an earlier refusal touched a buffer");
     expect(judge(no_states, sizeof no_states, stem, stem_letters, cycle, cycle_letters, BUFFERS) == number,
            "judge on a lasso", "another answer");
+    if (number == ZIMBORALO_ACCEPTED) {
+        expect(zero(WORK, SIZES[WORK]), "not zero after a verdict of judge", NAMES[WORK]);
+        expect_guards("judge touched a guard");
+        refill();
+    }
     expect(decide(never, sizeof never, stem, stem_letters, cycle, cycle_letters, BUFFERS) == number,
            "decide on a lasso", "another answer");
+    if (number == ZIMBORALO_ACCEPTED)
+        expect(zero(WORK, SIZES[WORK]), "not zero after a verdict of decide", NAMES[WORK]);
     uint64_t order = decide(pairs, sizeof pairs, stem, stem_letters, cycle, cycle_letters, BUFFERS);
     if (number == ZIMBORALO_ACCEPTED) {
         expect(zimboralo_number(order) == ZIMBORALO_TOO_MANY_PAIRS, "decide took", "a pair too many");
-        expect_guards("judge or decide touched a guard");
+        expect_guards("decide touched a guard");
     } else {
         expect(order == number, "decide took a lasso after", "the pairs");
         expect_untouched("a refused lasso touched a buffer");
