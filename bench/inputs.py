@@ -7,7 +7,9 @@ import sys
 sys.path.insert(0, os.path.join(os.path.dirname(os.path.abspath(__file__)), "..", "tests"))
 import lassos  # noqa: E402
 import rules  # noqa: E402
-from rules import AND, FALSE, NEGATION, OR, PROPOSITION, RELEASE, TRUE, UNTIL, Builder, second  # noqa: E402
+import written  # noqa: E402
+from nodes import (ALWAYS, AND, EVENTUALLY, FALSE, IMPLIES, NEGATION, NOT, OR, PROPOSITION, RELEASE, TRUE,  # noqa: E402
+                   UNTIL, Builder, second)
 
 
 def theta(n):
@@ -53,6 +55,15 @@ def responses(n):
     return b.bytes()
 
 
+def theta_written(n):
+    """theta(n) as it is written: not, implies, always and eventually."""
+    b = Builder()
+    fair = b.joined(AND, [b.below([EVENTUALLY, ALWAYS], b.add(PROPOSITION, i)) for i in range(n)])
+    response = b.add(IMPLIES, b.add(PROPOSITION, n), b.add(EVENTUALLY, b.add(PROPOSITION, n + 1)))
+    b.add(NOT, b.add(IMPLIES, fair, b.add(ALWAYS, response)))
+    return b.bytes()
+
+
 MOST = second.max_slots()
 
 # rules that no letters keep or break: their runs never end, and none comes to rest
@@ -87,11 +98,11 @@ def plans(cases):
     return b"".join(framed(b"J", *case) for case in cases)
 
 
-def accepted_rules(seed, count):
-    """Random rules that are accepted, and not only small ones."""
+def accepted_rules(draw, seed, count):
+    """Random rules that are accepted, and not only small ones; drawn by the function given."""
     rng, out = random.Random(seed), []
     while len(out) < count:
-        rule = rules.well_formed(rng)
+        rule = draw(rng)
         try:
             second.translate(rule)
             out.append(rule)
@@ -101,14 +112,14 @@ def accepted_rules(seed, count):
 
 
 def groups():
-    """Name and cases of each group: first those to translate, then those to judge."""
-    random_rules = accepted_rules(7, 200)
+    """Name and cases of each group: first those to translate, all of kinds 0 to 8, then those to judge."""
+    random_rules = accepted_rules(rules.first_edition, 7, 200)
     letters = random.Random(3)
     images = [second.write(second.translate(rule)) for rule in random_rules]
     full, word = full_image(), long_word()
     return [
         ("translate: rows P1 to P9", translations(bytes.fromhex(r.replace(" ", "")) for _, r, _ in second.ROWS)),
-        ("translate: limits", translations(rule for _, rule, _ in rules.LIMITS)),
+        ("translate: limits", translations(rule for _, rule, _ in rules.FIRST_EDITION_LIMITS)),
         ("translate: theta_1 to theta_3", translations(rule for name, rule, _ in FORMULAS if name.startswith("theta"))),
         ("translate: phi_2 to phi_5", translations(rule for name, rule, _ in FORMULAS if name.startswith("phi"))),
         ("translate: 200 random rules", translations(random_rules)),
@@ -122,6 +133,13 @@ def groups():
         ("judge: a full image, 128 slots", plans([(full, b"", word[:128])])),
         (f"judge: a full image, {MOST} slots", plans([(full, b"", word)])),
     ]
+
+
+def editions():
+    """Name of each group of written rules, with its cases as written and in negation normal form."""
+    for name, cases in (("theta_1 to theta_3", [theta_written(n) for n in (1, 2, 3)]),
+                        ("200 random rules", accepted_rules(written.random_rule, 7, 200))):
+        yield name, translations(cases), translations(map(written.normal_form, cases))
 
 
 def by_letters():

@@ -24,7 +24,7 @@ extern "C" {
 #define ZIMBORALO_MAX_INITIAL 96
 #define ZIMBORALO_MAX_TRANSITIONS (ZIMBORALO_MAX_STATES * ZIMBORALO_MAX_OF_STATE)
 
-/* The longest rule in bytes. */
+/* The longest rule in bytes, and the smallest buffer for a rule in negation normal form. */
 #define ZIMBORALO_RULE_BYTES (3 * ZIMBORALO_MAX_NODES)
 
 /* The smallest tables, image buffer and working space that a call takes; shorter ones are refused by 25. */
@@ -68,12 +68,21 @@ enum zimboralo_number {
     ZIMBORALO_TOO_MANY_PAIRS = 24,
 
     /* a lent slice */
-    ZIMBORALO_TABLE_TOO_SHORT = 25
+    ZIMBORALO_TABLE_TOO_SHORT = 25,
+
+    /* a written rule that becomes too long in negation normal form; looked at after 6 and before 7 */
+    ZIMBORALO_TOO_MANY_NODES = 26
 };
 
 /* ---- the calls */
 
-/* The automaton of a rule, as records in three tables. Its counts, or a refusal. */
+/* A written rule, with not, implies, always and eventually, in negation normal form, the first edition's kinds: at the
+ * buffer's start, with zeros behind it to the buffer's end. Its length, or the first refusal of 25, 1 to 6 and 26 in
+ * this order, by which the buffer is as it was. */
+uint64_t zimboralo_normalize(const uint8_t *rule, size_t rule_len, uint8_t *first_edition, size_t first_edition_len);
+
+/* The automaton of a written rule, as records in three tables. Its counts, or the first refusal of 25, 1 to 6, 26, 7
+ * and 20 to 24 in this order; 7 and 20 are about the rule in negation normal form. */
 uint64_t zimboralo_translate(const uint8_t *rule, size_t rule_len, uint8_t *states, size_t states_len,
                              uint8_t *transitions, size_t transitions_len, uint8_t *initial, size_t initial_len);
 
@@ -90,10 +99,10 @@ uint64_t zimboralo_read(const uint8_t *image, size_t image_len, uint8_t *states,
 uint64_t zimboralo_judge(const uint8_t *image, size_t image_len, const uint8_t *stem, size_t stem_len,
                          const uint8_t *cycle, size_t cycle_len, uint8_t *work, size_t work_len);
 
-/* A lasso against a rule, in one call: translate, write and judge in a row. The verdict, or the first refusal of 25, 1 to
- * 7, 8, 9 and 20 to 24 in this order. By 25 and 1 to 9 every buffer is as it was; by 20 to 24 the tables are zero and the
- * rest is as it was; with a verdict the tables have the automaton, the buffer begins with its image, and the working
- * bytes are zero. */
+/* A lasso against a written rule, in one call: translate, write and judge in a row. The verdict, or the first refusal
+ * of 25, 1 to 6, 26, 7, 8, 9 and 20 to 24 in this order. By 20 to 24 the tables are zero and the rest is as it was; by
+ * any other refusal every buffer is as it was; with a verdict the tables have the automaton, the buffer begins with its
+ * image, and the working bytes are zero. */
 uint64_t zimboralo_decide(const uint8_t *rule, size_t rule_len, const uint8_t *stem, size_t stem_len,
                           const uint8_t *cycle, size_t cycle_len, uint8_t *states, size_t states_len,
                           uint8_t *transitions, size_t transitions_len, uint8_t *initial, size_t initial_len,
@@ -110,11 +119,18 @@ static inline unsigned zimboralo_states(uint64_t answer) { return (unsigned)(ans
 static inline unsigned zimboralo_transitions(uint64_t answer) { return (unsigned)(answer >> 16 & 0xffff); }
 static inline unsigned zimboralo_initial(uint64_t answer) { return (unsigned)(answer >> 32 & 0xff); }
 
-/* Of an accepted write: the image's length. Of an accepted judge or decide: whether the lasso is kept. */
+/* Of an accepted normalize or write: the rule's or the image's length. Of an accepted judge or decide: whether the
+ * lasso is kept. */
 static inline size_t zimboralo_length(uint64_t answer) { return (size_t)(answer >> 8 & 0xffffffff); }
 static inline int zimboralo_kept(uint64_t answer) { return (int)(answer >> 8 & 1); }
 
 /* ---- the calls over structs of the right sizes */
+
+/* A rule, as normalize gives it, and how many of its bytes are used. */
+struct zimboralo_rule {
+    uint8_t bytes[ZIMBORALO_RULE_BYTES];
+    size_t length;
+};
 
 /* An automaton: three tables, and how many records of each are used. */
 struct zimboralo_tables {
@@ -136,6 +152,16 @@ struct zimboralo_buffers {
     struct zimboralo_image image;
     uint8_t work[ZIMBORALO_WORK_BYTES];
 };
+
+/* zimboralo_normalize into a struct, with the length; a refusal leaves the struct as it was. */
+static inline uint64_t zimboralo_normalize_rule(const uint8_t *rule, size_t rule_len,
+                                                struct zimboralo_rule *first_edition)
+{
+    uint64_t answer = zimboralo_normalize(rule, rule_len, first_edition->bytes, sizeof first_edition->bytes);
+    if (zimboralo_number(answer) == ZIMBORALO_ACCEPTED)
+        first_edition->length = zimboralo_length(answer);
+    return answer;
+}
 
 /* Whether a refusal leaves the tables all zero; every other one leaves them as they were. */
 static inline int zimboralo_clears(unsigned number)

@@ -1,4 +1,5 @@
-/* What to tell an adviser about a refusal, in the words that advisers use: mark, slot, plan, loop. */
+/* What to tell an adviser about a refusal, in the words that advisers use: mark, slot, plan, loop, and for a rule in
+ * negation normal form its first-edition form. */
 #ifndef ZIMBORALO_TEXT_H
 #define ZIMBORALO_TEXT_H
 
@@ -28,7 +29,7 @@ static inline const char *zimboralo_text(unsigned number)
         return "a node of the rule has no parent, or is above kind 3 and a child at two places; the place is the "
                "lowest such node";
     case ZIMBORALO_TOO_MANY_UNTILS:
-        return "the rule has over " ZIMBORALO_DIGITS(ZIMBORALO_MAX_UNTILS) " untils";
+        return "the rule has over " ZIMBORALO_DIGITS(ZIMBORALO_MAX_UNTILS) " untils in its first-edition form";
     case ZIMBORALO_EMPTY_CYCLE:
         return "the plan's loop is empty";
     case ZIMBORALO_TOO_MANY_LETTERS:
@@ -44,7 +45,8 @@ static inline const char *zimboralo_text(unsigned number)
     case ZIMBORALO_BAD_INITIAL:
         return "an initial number is no state's or not above the one before; the place is the lowest such entry";
     case ZIMBORALO_TOO_MANY_TERMS:
-        return "the rule is too large: a node has too many terms; the place is the lowest such node";
+        return "the rule is too large: a node of its first-edition form has too many terms; the place is the lowest "
+               "such node there";
     case ZIMBORALO_PRODUCT_TOO_LARGE:
         return "the rule is too large: it has too large a product; the place is the state of the first walk";
     case ZIMBORALO_TOO_MANY_TRANSITIONS:
@@ -56,6 +58,9 @@ static inline const char *zimboralo_text(unsigned number)
                " pairs; the place is the pair being walked";
     case ZIMBORALO_TABLE_TOO_SHORT:
         return "a lent table, buffer or working space is too short";
+    case ZIMBORALO_TOO_MANY_NODES:
+        return "the rule is too large: its first-edition form needs over " ZIMBORALO_DIGITS(ZIMBORALO_MAX_NODES)
+               " nodes";
     }
     return "unknown refusal";
 }

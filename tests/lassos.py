@@ -1,6 +1,6 @@
 """Lassos and images for the comparisons: of random rules, made by hand, damaged."""
 import rules
-from rules import second
+from nodes import second
 
 
 def sparse(rng, count):
@@ -133,8 +133,8 @@ NO_STATES = second.write(second.Watcher([], []))
 
 
 def decided(rule, stem, cycle):
-    """What decide answers, by the calls of the second translator: 1 to 7 of the rule, 8 and 9 of the lasso, 20 to 24 of the
-    rule, then the verdict."""
+    """What decide answers, by the calls of the second translator: 1 to 6, 26 and 7 of the rule, 8 and 9 of the lasso, 20 to
+    24 of the rule, then the verdict."""
     second.accepted_form(rule)
     second.judge(NO_STATES, stem, cycle)
     return second.judge(second.write(second.translate(rule)), stem, cycle)

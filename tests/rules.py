@@ -1,34 +1,8 @@
-"""Rules for the comparisons: document 01's rows and limits, random well-formed rules, damaged ones."""
-import os
+"""Rules for the comparisons: document 01's rows and limits, random well-formed rules of both editions, damaged ones."""
 import random
-import sys
 
-sys.path.insert(0, os.path.join(os.path.dirname(os.path.abspath(__file__)), "second"))
-import second  # noqa: E402  (the second translator, by another author)
-
-second.UPTO = 2  # the requests that have landed: R-1 and R-2
-
-FALSE, TRUE, PROPOSITION, NEGATION, AND, OR, NEXT, UNTIL, RELEASE = range(9)
-
-
-class Builder:
-    """A rule built node by node; leaves may be shared."""
-
-    def __init__(self):
-        self.nodes = []
-
-    def add(self, kind, left=0, right=0):
-        self.nodes.append((kind, left, right))
-        return len(self.nodes) - 1
-
-    def joined(self, kind, parts):
-        node = parts[0]
-        for part in parts[1:]:
-            node = self.add(kind, node, part)
-        return node
-
-    def bytes(self):
-        return bytes(x for node in self.nodes for x in node)
+import written
+from nodes import AND, FALSE, NEGATION, NEXT, OR, PROPOSITION, RELEASE, TRUE, UNTIL, Builder, second
 
 
 def choices(count):
@@ -76,7 +50,7 @@ def nested_eventually(count):
 
 
 # name, rule, what document 01 with the landed requests says of it: the refusal's number and place, or None
-LIMITS = [
+FIRST_EDITION_LIMITS = [
     ("64 terms", choices(6), None),
     ("128 terms", choices(7), (20, 26)),
     ("next-eventually 0 to 6", next_eventually(7), (23, 1)),
@@ -86,6 +60,7 @@ LIMITS = [
     ("nine nested eventually", nested_eventually(9), (7, 0)),
     ("eight nested eventually", nested_eventually(8), None),
 ]
+LIMITS = FIRST_EDITION_LIMITS + written.LIMITS
 
 # a list of 65 that belongs to no node: both are accepted
 SIXTY_FIVE = [bytes.fromhex(text) for text in (
@@ -96,8 +71,9 @@ SIXTY_FIVE = [bytes.fromhex(text) for text in (
 
 
 def fixed():
-    rows = [bytes.fromhex(rule.replace(" ", "")) for _, rule, _ in second.ROWS]
-    return rows + [rule for _, rule, _ in LIMITS] + SIXTY_FIVE + [b"", bytes(1), bytes(96), bytes(97), bytes(99), bytes([255] * 97)]
+    rows = [bytes.fromhex(rule.replace(" ", "")) for _, rule, _ in second.ROWS] + written.ROWS
+    lengths = [b"", bytes(1), bytes(96), bytes(97), bytes(99), bytes([255] * 97)]
+    return rows + [rule for _, rule, _ in LIMITS] + SIXTY_FIVE + lengths
 
 
 def damaged(rng, rule):
@@ -105,10 +81,10 @@ def damaged(rng, rule):
     out = bytearray(rule)
     way = rng.randrange(6)
     if way == 0:
-        out[rng.randrange(len(out))] = rng.choice((0, 1, 7, 8, 9, len(out) // 3, rng.randrange(256)))
+        out[rng.randrange(len(out))] = rng.choice((0, 1, 7, 8, 9, 12, 13, len(out) // 3, rng.randrange(256)))
     elif way == 1:
         at = 3 * rng.randrange(len(out) // 3)
-        out[at] = rng.randrange(10)
+        out[at] = rng.randrange(15)
     elif way == 2:
         at = 3 * rng.randrange(len(out) // 3) + rng.randrange(1, 3)
         out[at] = rng.randrange(len(out) // 3 + 1)
@@ -144,23 +120,17 @@ def clauses(rng):
     decides the whole."""
     b = Builder()
     signs = [rng.choice((PROPOSITION, PROPOSITION, NEGATION)) for _ in range(rng.randrange(1, 5))]
-    made = {}
-
-    def leaf(kind, number=0):
-        if (kind, number) not in made:
-            made[kind, number] = b.add(kind, number)
-        return made[kind, number]
 
     def proposition():
         number = rng.randrange(len(signs))
-        return leaf(signs[number], number)
+        return b.leaf(signs[number], number)
 
     def clause(depth):
         pick = rng.randrange(6) if depth else 5
         if pick < 2:
-            return b.add(RELEASE, leaf(FALSE), clause(depth - 1))
+            return b.add(RELEASE, b.leaf(FALSE), clause(depth - 1))
         if pick < 4:
-            return b.add(UNTIL, leaf(TRUE), clause(depth - 1))
+            return b.add(UNTIL, b.leaf(TRUE), clause(depth - 1))
         if pick < 5:
             return b.add(rng.choice((AND, OR, UNTIL, RELEASE)), clause(depth - 1), proposition())
         return proposition()
@@ -173,13 +143,19 @@ def clauses(rng):
 FLAVOURS = ((AND, OR, NEXT, UNTIL, RELEASE), (NEXT, UNTIL, UNTIL))
 
 
-def well_formed(rng):
+def first_edition(rng):
+    """A well-formed rule of kinds 0 to 8."""
     pick = rng.random()
     if pick < .15:
         return crowded(rng)
     if pick < .35:
         return clauses(rng)
     return second.random_rule(rng, rng.randrange(1, 18), marks=rng.choice((2, 4, 8)), kinds=rng.choice(FLAVOURS))
+
+
+def well_formed(rng):
+    """A well-formed rule of either edition."""
+    return first_edition(rng) if rng.random() < .4 else written.random_rule(rng)
 
 
 def any_rule(rng):

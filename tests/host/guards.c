@@ -1,13 +1,15 @@
 /* Every lent buffer at its exact smallest size between guard bytes that must stay as they were; and one byte shorter,
- * which is refused by 25 with every byte as it was. The functions over structs against the plain calls, and the
- * header's limits against what the library takes. Prints one line and exits 1 where something is wrong. */
+ * which is refused by 25 with every byte as it was. The functions over structs against the plain calls, the header's
+ * limits against what the library takes, and the bytes of rules in negation normal form. Prints one line and exits 1
+ * where something is wrong. */
 #include <stdio.h>
 #include <stdlib.h>
 #include <string.h>
 
 #include "zimboralo.h"
 
-enum { GUARD = 64, BUFFERS = 5 };
+/* The bytes of a guard, the buffers that decide is lent, and a buffer longer than normalize needs. */
+enum { GUARD = 64, BUFFERS = 5, LONGER = 3 * ZIMBORALO_RULE_BYTES };
 
 static const size_t SIZES[BUFFERS] = {ZIMBORALO_STATES_BYTES, ZIMBORALO_TRANSITIONS_BYTES, ZIMBORALO_INITIAL_BYTES,
                                       ZIMBORALO_IMAGE_BYTES, ZIMBORALO_WORK_BYTES};
@@ -16,11 +18,38 @@ enum buffer { STATES, TRANSITIONS, INITIAL, IMAGE, WORK };
 
 static const uint8_t always_eventually[] = {1, 0, 0, 2, 0, 0, 7, 0, 1, 0, 0, 0, 8, 3, 2};
 static const uint8_t never[] = {0, 0, 0};
-static const uint8_t unknown[] = {9, 0, 0};
+static const uint8_t unknown[] = {13, 0, 0};
+/* always (0 implies 1) */
+static const uint8_t if_then[] = {2, 0, 0, 2, 1, 0, 10, 0, 1, 11, 2, 0};
 /* eventually 0 to 4 and next next 5: 97 pairs */
 static const uint8_t pairs[] = {1, 0, 0, 2, 0, 0, 7, 0, 1, 2, 1, 0, 7, 0, 3, 2, 2, 0, 7, 0, 5, 2, 3, 0, 7, 0, 7, 2, 4,
                                 0, 7, 0, 9, 2, 5, 0, 6, 11, 0, 6, 12, 0, 4, 2, 4, 4, 14, 6, 4, 15, 8, 4, 16, 10, 4, 17,
                                 13};
+
+/* Kinds of node: until and release of two operands; always and eventually, which only a written rule has. */
+enum { UNTIL = 7, RELEASE = 8, ALWAYS = 11, EVENTUALLY = 12 };
+
+/* Proposition 0 below so many operators of one kind. In negation normal form it has a constant besides. */
+static struct zimboralo_rule stacked(uint8_t kind, uint8_t count)
+{
+    struct zimboralo_rule rule = {{2, 0, 0}, 3 * ((size_t)count + 1)};
+    for (uint8_t n = 1; n <= count; n++) {
+        rule.bytes[3 * n] = kind;
+        rule.bytes[3 * n + 1] = n - 1;
+    }
+    return rule;
+}
+
+/* The same in negation normal form: the constant, proposition 0, then the operators. */
+static struct zimboralo_rule stacked_normal(uint8_t kind, uint8_t count)
+{
+    struct zimboralo_rule rule = {{kind == EVENTUALLY, 0, 0, 2, 0, 0}, 3 * ((size_t)count + 2)};
+    for (uint8_t n = 2; n < count + 2; n++) {
+        rule.bytes[3 * n] = kind == EVENTUALLY ? UNTIL : RELEASE;
+        rule.bytes[3 * n + 2] = n - 1;
+    }
+    return rule;
+}
 
 static uint8_t *blocks[BUFFERS];
 static int wrong, looked;
@@ -299,13 +328,143 @@ static void limits(void)
     expect(translate(zero_nodes, sizeof zero_nodes, BUFFERS) == ZIMBORALO_TOO_LONG, "taken", "a byte too many");
     expect(accepted(translate(nested, sizeof nested - 3, BUFFERS)), "not taken", "untils");
     expect(translate(nested, sizeof nested, BUFFERS) == ZIMBORALO_TOO_MANY_UNTILS, "taken", "an until too many");
+    struct zimboralo_rule most = stacked(ALWAYS, ZIMBORALO_MAX_NODES - 2);
+    expect(accepted(translate(most.bytes, most.length, BUFFERS)), "not taken", "nodes in normal form");
     expect(zimboralo_length(write_image(translate(never, sizeof never, BUFFERS), BUFFERS)) == ZIMBORALO_CONTENTS_BYTES,
            "another size", "contents");
 }
 
+/* A rule with a node too many in negation normal form, all of always or all of eventually, which are untils: 26 comes
+ * after 25 and before 7, 8 and 9, and leaves every buffer as it was. With a node less, so many untils are 7, before 8
+ * and 9. */
+static void node_too_many(uint8_t kind)
+{
+    static const uint8_t letters[ZIMBORALO_MAX_LETTERS + 1] = {0};
+    static const size_t cycles[] = {0, 1, ZIMBORALO_MAX_LETTERS + 1};
+    const struct zimboralo_rule over = stacked(kind, ZIMBORALO_MAX_NODES - 1);
+    const struct zimboralo_rule most = stacked(kind, ZIMBORALO_MAX_NODES - 2);
+    refill();
+    expect(translate(over.bytes, over.length, BUFFERS) == ZIMBORALO_TOO_MANY_NODES, "translate took",
+           "a node too many");
+    for (int shorter = STATES; shorter <= INITIAL; shorter++)
+        expect(translate(over.bytes, over.length, shorter) == ZIMBORALO_TABLE_TOO_SHORT,
+               "translate took a node too many before a short", NAMES[shorter]);
+    if (kind == EVENTUALLY)
+        expect(translate(most.bytes, most.length, BUFFERS) == ZIMBORALO_TOO_MANY_UNTILS, "translate took", "untils");
+    for (size_t i = 0; i < sizeof cycles / sizeof *cycles; i++) {
+        expect(decide(over.bytes, over.length, letters, 0, letters, cycles[i], BUFFERS) == ZIMBORALO_TOO_MANY_NODES,
+               "decide took", "a node too many");
+        for (int shorter = 0; shorter < BUFFERS; shorter++)
+            expect(decide(over.bytes, over.length, letters, 0, letters, cycles[i], shorter)
+                       == ZIMBORALO_TABLE_TOO_SHORT,
+                   "decide took a node too many before a short", NAMES[shorter]);
+        if (kind == EVENTUALLY)
+            expect(decide(most.bytes, most.length, letters, 0, letters, cycles[i], BUFFERS)
+                       == ZIMBORALO_TOO_MANY_UNTILS,
+                   "decide took", "untils");
+    }
+    expect_untouched("26, 25 or 7 touched a buffer");
+}
+
+/* normalize into so many bytes, which stand between guards: this answer, and `normal` at their start with zeros behind
+ * it, or if that is NULL every byte as it was. */
+static void normalize_into(size_t lent_bytes, const uint8_t *rule, size_t length, uint64_t answer,
+                           const uint8_t *normal)
+{
+    static uint8_t block[GUARD + LONGER + GUARD];
+    for (size_t i = 0; i < sizeof block; i++)
+        block[i] = pattern(i);
+    expect(zimboralo_normalize(rule, length, block + GUARD, lent_bytes) == answer, "normalize", "another answer");
+    int ok = 1;
+    for (size_t i = 0; i < sizeof block; i++) {
+        int filled = normal && i >= GUARD && i < GUARD + lent_bytes;
+        uint8_t want = !filled ? pattern(i) : i - GUARD < zimboralo_length(answer) ? normal[i - GUARD] : 0;
+        ok = ok && block[i] == want;
+    }
+    expect(ok, "normalize", "another byte");
+}
+
+/* normalize into the smallest buffer, longer ones and a struct; into shorter ones it is 25, whatever the rule. */
+static void normalize(const uint8_t *rule, size_t length, uint64_t answer, const uint8_t *normal)
+{
+    struct zimboralo_rule made = {{0}, NOT_SET}, want = {{0}, NOT_SET};
+    normalize_into(ZIMBORALO_RULE_BYTES, rule, length, answer, normal);
+    normalize_into(ZIMBORALO_RULE_BYTES + 1, rule, length, answer, normal);
+    normalize_into(LONGER, rule, length, answer, normal);
+    normalize_into(ZIMBORALO_RULE_BYTES - 1, rule, length, ZIMBORALO_TABLE_TOO_SHORT, NULL);
+    normalize_into(0, rule, length, ZIMBORALO_TABLE_TOO_SHORT, NULL);
+    if (normal) {
+        want.length = zimboralo_length(answer);
+        memcpy(want.bytes, normal, want.length);
+    }
+    expect(zimboralo_normalize_rule(rule, length, &made) == answer, "normalize_rule", "another answer");
+    expect(made.length == want.length && memcmp(made.bytes, want.bytes, sizeof made.bytes) == 0, "normalize_rule",
+           "another struct");
+}
+
+/* Written rules and their negation normal forms. */
+static const struct {
+    struct zimboralo_rule written, normal;
+} FORMS[] = {
+    /* always (0 implies 1): false release (not 0 or 1) */
+    {{{2, 0, 0, 2, 1, 0, 10, 0, 1, 11, 2, 0}, 12}, {{0, 0, 0, 3, 0, 0, 2, 1, 0, 5, 1, 2, 8, 0, 3}, 15}},
+    /* not (0 implies next 0): 0 and next not 0, the leaf in both senses, plain before negated */
+    {{{2, 0, 0, 6, 0, 0, 10, 0, 1, 9, 2, 0}, 12}, {{2, 0, 0, 3, 0, 0, 6, 1, 0, 4, 0, 2}, 12}},
+    /* not always eventually 0: true until (false release not 0), false before true */
+    {{{2, 0, 0, 12, 0, 0, 11, 1, 0, 9, 2, 0}, 12}, {{0, 0, 0, 1, 0, 0, 3, 0, 0, 8, 0, 2, 7, 1, 3}, 15}},
+    /* not (0 until (not 1 release 0)): not 0 release (1 until not 0) */
+    {{{2, 0, 0, 3, 1, 0, 8, 1, 0, 7, 0, 2, 9, 3, 0}, 15}, {{3, 0, 0, 2, 1, 0, 7, 1, 0, 8, 0, 2}, 12}},
+    /* not (0 or (1 and true)): not 0 and (not 1 or false) */
+    {{{2, 0, 0, 2, 1, 0, 1, 0, 0, 4, 1, 2, 5, 0, 3, 9, 4, 0}, 18}, {{0, 0, 0, 3, 0, 0, 3, 1, 0, 5, 2, 0, 4, 1, 3}, 15}},
+    /* not not not true: false */
+    {{{1, 0, 0, 9, 0, 0, 9, 1, 0, 9, 2, 0}, 12}, {{0, 0, 0}, 3}},
+    /* a rule of the first edition whose constants stand elsewhere, twice: false release (true until 0) and true */
+    {{{1, 0, 0, 2, 0, 0, 7, 0, 1, 0, 0, 0, 8, 3, 2, 1, 0, 0, 4, 4, 5}, 21},
+     {{0, 0, 0, 1, 0, 0, 2, 0, 0, 7, 1, 2, 8, 0, 3, 4, 4, 1}, 18}},
+};
+
+/* Rules that normalize refuses, each also with the place. */
+static const struct {
+    struct zimboralo_rule written;
+    uint64_t number, place;
+} REFUSED[] = {
+    {{{0}, 0}, ZIMBORALO_BAD_LENGTH, 0},
+    {{{2, 0, 0, 9}, 4}, ZIMBORALO_BAD_LENGTH, 0},
+    {{{2, 0, 0, 13, 1, 1}, 6}, ZIMBORALO_UNKNOWN_KIND, 1},
+    {{{2, 0, 0, 9, 1, 1}, 6}, ZIMBORALO_BAD_BYTE, 1},
+    {{{2, 0, 0, 11, 0, 1}, 6}, ZIMBORALO_BAD_BYTE, 1},
+    {{{2, 0, 0, 12, 0, 1}, 6}, ZIMBORALO_BAD_BYTE, 1},
+    {{{2, 0, 0, 10, 0, 1}, 6}, ZIMBORALO_CHILD_NOT_BELOW, 1},
+    {{{2, 0, 0, 9, 0, 0, 10, 1, 1}, 9}, ZIMBORALO_BAD_PLACES, 1},
+};
+
+/* The forms and refusals above; as many nodes in normal form as there may be, also where all but two are untils, since
+ * 7 is not looked at; one more, which is 26, after 6; and a byte too many, which is 1, before 3. */
+static void normal_forms(void)
+{
+    static const uint8_t too_long[ZIMBORALO_RULE_BYTES + 1] = {13};
+    static const uint8_t kinds[] = {ALWAYS, EVENTUALLY};
+    for (size_t i = 0; i < sizeof FORMS / sizeof *FORMS; i++)
+        normalize(FORMS[i].written.bytes, FORMS[i].written.length, (uint64_t)FORMS[i].normal.length << 8,
+                  FORMS[i].normal.bytes);
+    for (size_t i = 0; i < sizeof REFUSED / sizeof *REFUSED; i++)
+        normalize(REFUSED[i].written.bytes, REFUSED[i].written.length, REFUSED[i].number | REFUSED[i].place << 8,
+                  NULL);
+    for (size_t i = 0; i < sizeof kinds; i++) {
+        struct zimboralo_rule most = stacked(kinds[i], ZIMBORALO_MAX_NODES - 2);
+        struct zimboralo_rule normal = stacked_normal(kinds[i], ZIMBORALO_MAX_NODES - 2);
+        normalize(most.bytes, most.length, (uint64_t)normal.length << 8, normal.bytes);
+        struct zimboralo_rule over = stacked(kinds[i], ZIMBORALO_MAX_NODES - 1);
+        normalize(over.bytes, over.length, ZIMBORALO_TOO_MANY_NODES, NULL);
+        over.bytes[over.length - 2] = 0; /* the root's operand is node 0: the node before the root has no parent */
+        normalize(over.bytes, over.length, ZIMBORALO_BAD_PLACES | (uint64_t)(ZIMBORALO_MAX_NODES - 2) << 8, NULL);
+    }
+    normalize(too_long, sizeof too_long, ZIMBORALO_TOO_LONG, NULL);
+}
+
 /* A lasso of so many letters, which judge and decide refuse by this number, or call broken if it is ZIMBORALO_ACCEPTED.
- * Before it come 25, in judge the image's numbers, in decide the rule's 1 to 7; after it comes 24. A verdict leaves the
- * working space zero, a refusal leaves every buffer as it was. */
+ * Before it come 25, in judge the image's numbers, in decide the rule's 1 to 7 and 26; after it comes 24. A verdict
+ * leaves the working space zero, a refusal leaves every buffer as it was. */
 static void lasso(size_t stem_letters, size_t cycle_letters, unsigned number)
 {
     static const uint8_t stem[ZIMBORALO_MAX_LETTERS + 1] = {0}, cycle[ZIMBORALO_MAX_LETTERS + 1] = {0};
@@ -360,19 +519,27 @@ static void lassos(void)
 
 int main(void)
 {
+    const struct zimboralo_rule over = stacked(ALWAYS, ZIMBORALO_MAX_NODES - 1);
     for (int b = 0; b < BUFFERS; b++)
         if (!(blocks[b] = malloc(SIZES[b] + 2 * GUARD)))
             return 1;
     whole(always_eventually, sizeof always_eventually);
     whole(never, sizeof never);
+    whole(if_then, sizeof if_then);
     in_a_row(always_eventually, sizeof always_eventually);
     in_a_row(never, sizeof never);
+    in_a_row(if_then, sizeof if_then);
     refused();
     over_structs(always_eventually, sizeof always_eventually);
     over_structs(never, sizeof never);
     over_structs(unknown, sizeof unknown);
     over_structs(pairs, sizeof pairs);
+    over_structs(if_then, sizeof if_then);
+    over_structs(over.bytes, over.length);
     limits();
+    node_too_many(ALWAYS);
+    node_too_many(EVENTUALLY);
+    normal_forms();
     lassos();
     printf("guards: %d looked at, %d wrong\n", looked, wrong);
     for (int b = 0; b < BUFFERS; b++)

@@ -1,6 +1,9 @@
-/* The office program: a rule and a lasso, from bytes to the verdict in words.
+/* The office program: a written rule and a lasso, from bytes to the verdict in words.
  *
  *     office RULE STEM CYCLE       each in hexadecimal, or @FILE for a file's bytes; - for none
+ *
+ * The rule may have every kind of FORMAT.md, among them not, implies, always and eventually. The place of 3 to 6 is a
+ * node of the rule as written, that of 20 a node of its negation normal form.
  *
  * Exits 0 for a kept lasso, 1 for a broken one, 2 for a refusal or bad words. */
 #include <ctype.h>

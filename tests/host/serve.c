@@ -1,7 +1,9 @@
 /* Answers a stream of cases in one process, for the soak: each case is a letter and its slices, each slice behind its
  * length in four bytes, low byte first.
  *
- *     T rule                   the image's bytes in hexadecimal, or `refused N place P`
+ *     N rule                   its negation normal form in hexadecimal, or `refused N place P`; `other` where the bytes
+ *                              behind it are not zero, or a refusal has touched one
+ *     T rule                   the image's bytes in hexadecimal, or the refusal
  *     J image stem cycle       `kept`, `broken` or the refusal
  *     R image                  `same` if read and then written it is the same bytes, `other` if not, or the refusal
  *     W counts and three tables   the image's bytes, or the refusal; the counts are three numbers of four bytes
@@ -16,7 +18,8 @@
 
 static struct zimboralo_buffers buffers;
 
-enum { LONGEST = 1 << 17 };
+/* The longest slice of a case; what the buffers are filled with before a call whose bytes are looked at. */
+enum { LONGEST = 1 << 17, UNSET = 0xa5 };
 
 static size_t number(const uint8_t *at)
 {
@@ -46,13 +49,35 @@ static int refused(uint64_t answer)
     return 1;
 }
 
+static void print_bytes(const uint8_t *bytes, size_t length)
+{
+    for (size_t i = 0; i < length; i++)
+        printf("%02x", bytes[i]);
+    puts("");
+}
+
 static void print_image(uint64_t answer)
 {
-    if (refused(answer))
-        return;
-    for (size_t i = 0; i < zimboralo_length(answer); i++)
-        printf("%02x", buffers.image.bytes[i]);
-    puts("");
+    if (!refused(answer))
+        print_bytes(buffers.image.bytes, zimboralo_length(answer));
+}
+
+static void normalize(void)
+{
+    struct zimboralo_rule normal = {{0}, 0};
+    memset(normal.bytes, UNSET, sizeof normal.bytes);
+    size_t n;
+    uint8_t *rule = slice(&n);
+    uint64_t answer = zimboralo_normalize_rule(rule, n, &normal);
+    uint8_t behind = zimboralo_number(answer) == ZIMBORALO_ACCEPTED ? 0 : UNSET;
+    int ok = normal.length <= sizeof normal.bytes;
+    for (size_t i = normal.length; ok && i < sizeof normal.bytes; i++)
+        ok = normal.bytes[i] == behind;
+    if (!ok)
+        puts("other");
+    else if (!refused(answer))
+        print_bytes(normal.bytes, normal.length);
+    free(rule);
 }
 
 static void translate(void)
@@ -100,7 +125,7 @@ static void write_tables(void)
     free(first);
 }
 
-/* The buffers as translate, write and judge leave them, where the answer is neither 25 nor 1 to 9. */
+/* The buffers as translate, write and judge leave them, where the answer is a verdict or 20 to 24. */
 static void in_a_row(struct zimboralo_buffers *b, const uint8_t *rule, size_t n)
 {
     if (zimboralo_number(zimboralo_translate_rule(rule, n, &b->tables)) != ZIMBORALO_ACCEPTED)
@@ -129,8 +154,8 @@ static void decide(void)
     static struct zimboralo_buffers want;
     size_t n, s, c;
     uint8_t *rule = slice(&n), *stem = slice(&s), *cycle = slice(&c);
-    memset(&buffers, 0xa5, sizeof buffers);
-    memset(&want, 0xa5, sizeof want);
+    memset(&buffers, UNSET, sizeof buffers);
+    memset(&want, UNSET, sizeof want);
     uint64_t answer = zimboralo_decide_plan(rule, n, stem, s, cycle, c, &buffers);
     unsigned number = zimboralo_number(answer);
     if (number == ZIMBORALO_ACCEPTED || zimboralo_clears(number))
@@ -147,7 +172,9 @@ static void decide(void)
 int main(void)
 {
     for (int letter; (letter = getchar()) != EOF;) {
-        if (letter == 'T')
+        if (letter == 'N')
+            normalize();
+        else if (letter == 'T')
             translate();
         else if (letter == 'J')
             judge();

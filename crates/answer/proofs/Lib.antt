@@ -3,3 +3,4 @@ pub mod Lowest
 pub mod Results
 pub mod Storing
 pub mod Zeros
+pub mod Filling

@@ -77,3 +77,9 @@ lowest-below check (suc n) e k le =
     pick : Dec (k ≡ suc n) → (k ≤ n → lowest check k ≡ fine) → lowest check k ≡ fine
     pick (yes same) below = rw same e
     pick (no other) below = below (omega arith)
+
+-- checks that are fine each are fine together
+pub lowest-all : (check : ℕ → Check) (n : ℕ) → ((k : ℕ) → k < n → check k ≡ fine) → lowest check n ≡ fine
+unfolding lowest
+lowest-all check zero h = refl
+lowest-all check (suc n) h = rw (lowest-all check n (λ k l. h k (omega arith))) (h n (omega arith))

@@ -5,7 +5,7 @@ ghost use mathlib.Core.List.{_++_};
 ghost use Prim.Native.Nat.{_+_, _<_, _≤_};
 ghost use lib.ListN.{length, take, drop, replicate};
 ghost use lib.Seq.{sets};
-ghost use Rattle.answer.specs.Bytes.{twoBytes, number, numberAt};
+ghost use Rattle.answer.specs.Bytes.{twoBytes, number, numberAt, filled};
 
 // The number of document 01 for a lent table, image buffer or working bytes that are too short.
 pub const TABLE_TOO_SHORT: u8 = 25;
@@ -13,6 +13,12 @@ pub const TABLE_TOO_SHORT: u8 = 25;
 // The answer of a check: accepted, or a refusal's number and place.
 pub enum Checked {
     Accepted,
+    Refused(u8, usize),
+}
+
+// The answer of a call that stores bytes in a lent buffer: their length, or a refusal's number and place.
+pub enum Stored {
+    Accepted(usize),
     Refused(u8, usize),
 }
 
@@ -57,6 +63,14 @@ pub fn zero(table: &mut [u8])
         table[i] = 0;
         i += 1;
     }
+}
+
+// Zeros behind the first n bytes.
+pub fn zero_behind(table: &mut [u8], n: usize)
+    requires { ⌜ n ≤ length (now table) ⌝ }
+    ensures { λ _. ⌜ now (table .exit) ≡ filled (now (table .entry)) (take n (now (table .entry))) ⌝ }
+{
+    zero(&mut table[n..]);
 }
 
 // The first n bytes of source in the first bytes of target.

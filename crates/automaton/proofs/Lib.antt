@@ -1,5 +1,4 @@
 -- What is known of automata, their passes and their records, for the crates above. Assumes nothing.
-pub mod Positions
 pub mod Passes
 pub mod InRange
 pub mod WellFormed

@@ -11,7 +11,7 @@ use lib.ListN.{length}
 use Rattle.lasso.specs.Lasso.{letter}
 use Rattle.automaton.specs.Automaton.{Automaton, Step, Accepts, AcceptingPass}
 use Rattle.sets.specs.Sets.{In}
-use Rattle.automaton.proofs.Positions.{Again, pigeon}
+use Rattle.lasso.proofs.Positions.{Again, pigeon}
 
 -- an automaton over states X of any type: where it begins, what it may do on a letter, and which states accept
 pub record AutomatonOver (X : Type 0) : Type 1 where

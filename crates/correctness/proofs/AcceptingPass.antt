@@ -1,18 +1,23 @@
--- The correctness of the translation: the automaton of an accepted rule has an accepting pass on a lasso exactly when
--- the lasso satisfies the rule. That holds of any listing of a state's transitions which represents the state's terms,
--- and the first walk's transitions do. Assumes nothing.
+-- The correctness of the translation: the automaton of an accepted rule is that of its normal form, which says what the
+-- rule says; and a form's automaton has an accepting pass exactly on the lassos that satisfy the form, since the first
+-- walk's transitions represent each state's terms. Assumes nothing.
 use Prim.Native.Nat.{ℕ, _<_}
 use mathlib.Core.Path.{_≡_, sym, _∙_}
 use mathlib.Core.Logic.{_↔_, Iff·trans}
 use mathlib.Core.List.{List}
 use lib.ListN.{length}
 use Rattle.answer.specs.Result.{accepted}
+use Rattle.answer.proofs.Results.{then-accepted}
 use Rattle.lasso.specs.Lasso.{letter}
 use Rattle.formula.specs.Satisfaction.{Satisfies}
+use Rattle.normalform.specs.Written.{SatisfiesWritten}
+use Rattle.normalform.specs.NormalForm.{normalForm}
+use Rattle.normalform.proofs.Holds.{normal-form-holds}
 use Rattle.term.specs.Term.{Term}
 use Rattle.generalized.specs.Generalized.{transitions}
 use Rattle.automaton.specs.Automaton.{Automaton, AcceptingPass, Recognizes}
 use Rattle.translation.specs.Degeneralized.{translation}
+use Rattle.translation.specs.Translate.{writtenTranslation}
 use Rattle.lasso.proofs.Letters.{letter-round}
 use Rattle.automaton.proofs.Passes.{pass-iff}
 use Rattle.correctness.proofs.Runs.{Represents}
@@ -22,7 +27,7 @@ use Rattle.correctness.proofs.Listing.{Listed, automatonBy, translation
 use Rattle.correctness.proofs.Walks.{numbering}
 use Rattle.correctness.proofs.Represented.{transitions-represent}
 
--- the same of the translation by any listing that represents a state's terms
+-- a first-edition rule, as every normal form is, translated by any listing that represents a state's terms
 pub pass-iff-satisfied-by : (rule stem cycle : List ℕ) (listing : ℕ → List Term) → Represents rule (Listed listing)
     → (a : Automaton) → translationBy rule listing ≡ accepted a → 0 < length cycle
     → AcceptingPass a stem cycle ↔ Satisfies rule stem cycle
@@ -37,15 +42,26 @@ pass-iff-satisfied-by rule stem cycle listing represents a e pos =
     (endless-iff-holds rule (Listed listing) represents (letter stem cycle) (length stem) (length cycle) pos round)))
     a e
 
--- The demand on the translation: on a lasso of any length whose cycle is not empty, the automaton a of an accepted
--- rule has an accepting pass if and only if the lasso satisfies the rule. A rule is accepted if it has a translation:
--- none of 1 to 7 and 20 to 24 refuses it (01, Numbers that come from the input, last sentence).
-pub accepting-pass-iff-satisfied : (rule stem cycle : List ℕ) (a : Automaton) → translation rule ≡ accepted a → 0 < length cycle
+-- the same, translated by the first walk's transitions
+pub form-pass-iff-satisfied : (rule stem cycle : List ℕ) (a : Automaton) → translation rule ≡ accepted a → 0 < length cycle
     → AcceptingPass a stem cycle ↔ Satisfies rule stem cycle
-accepting-pass-iff-satisfied rule stem cycle a e pos =
+form-pass-iff-satisfied rule stem cycle a e pos =
     pass-iff-satisfied-by rule stem cycle (transitions rule) (transitions-represent rule) a
     (sym (translation-by rule) ∙ e) pos
 
+-- The demand on the translation: on a lasso of any length whose cycle is not empty, the automaton a of an accepted
+-- written rule has an accepting pass if and only if the lasso satisfies the rule as it is written. A rule is accepted if
+-- it has a translation: none of 1 to 7, 26 and 20 to 24 refuses it (01, Numbers that come from the input, last sentence;
+-- R-3).
+pub accepting-pass-iff-satisfied : (rule stem cycle : List ℕ) (a : Automaton) → writtenTranslation rule ≡ accepted a
+    → 0 < length cycle → AcceptingPass a stem cycle ↔ SatisfiesWritten rule stem cycle
+unfolding writtenTranslation
+accepting-pass-iff-satisfied rule stem cycle a e pos =
+    let (form, known, translates) = then-accepted (normalForm rule) translation e in
+    Iff·trans (form-pass-iff-satisfied form stem cycle a translates pos)
+    (normal-form-holds rule form stem cycle known pos)
+
 -- the same of all lassos at once
-pub translation-recognizes : (rule : List ℕ) (a : Automaton) → translation rule ≡ accepted a → Recognizes (Satisfies rule) a
-translation-recognizes rule a e stem cycle pos = accepting-pass-iff-satisfied rule stem cycle a e pos
+pub written-recognizes : (rule : List ℕ) (a : Automaton) → writtenTranslation rule ≡ accepted a
+    → Recognizes (SatisfiesWritten rule) a
+written-recognizes rule a e stem cycle pos = accepting-pass-iff-satisfied rule stem cycle a e pos

@@ -17,12 +17,12 @@ use Rattle.term.specs.Term.{Term, cover}
 use Rattle.sets.specs.Sets.{In}
 use Rattle.acceptance.specs.Acceptance.{fulfils, untilCount}
 use Rattle.translation.specs.Degeneralized.{nextLevel}
-use Rattle.automaton.proofs.Positions.{Again}
+use Rattle.lasso.proofs.Positions.{Again}
 use Rattle.sets.proofs.Members.{at-in, in-at, append-in, in-append}
 use Rattle.correctness.proofs.Runs.{Reads, Fulfilling, Known, Run, Fair, Represents}
 use Rattle.correctness.proofs.Trees.{kind-until, until-kind}
 use Rattle.correctness.proofs.Sound.{sound}
-use Rattle.correctness.proofs.Periodic.{holds-dec}
+use Rattle.formula.proofs.Periodic.{holds-dec}
 use Rattle.correctness.proofs.Complete.{complete}
 use Rattle.correctness.proofs.Tests.{fulfils-iff}
 use Rattle.correctness.proofs.Levels.{Over, level, last-again, fulfilled-again}

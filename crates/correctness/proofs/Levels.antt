@@ -11,7 +11,7 @@ use borrow.Author.Tests.{lt-ltb, le-ltb}
 use Rattle.term.specs.Term.{Term}
 use Rattle.acceptance.specs.Acceptance.{untilCount, fulfilsNext}
 use Rattle.translation.specs.Degeneralized.{climb, nextLevel}
-use Rattle.automaton.proofs.Positions.{Again}
+use Rattle.lasso.proofs.Positions.{Again}
 
 module _ (rule : List ℕ) where
   -- x fulfils the until after level k

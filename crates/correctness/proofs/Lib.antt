@@ -3,7 +3,6 @@ pub mod Members
 pub mod Runs
 pub mod Trees
 pub mod Sound
-pub mod Periodic
 pub mod Obligations
 pub mod Complete
 pub mod Levels

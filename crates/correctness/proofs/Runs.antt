@@ -13,7 +13,7 @@ use Rattle.sets.specs.Bits.{has, Has}
 use Rattle.term.specs.Term.{Term, less, joined, consistent, cover, terms}
 use Rattle.generalized.specs.Generalized.{times, partialProduct, stateTerms}
 use Rattle.sets.specs.Sets.{In}
-use Rattle.automaton.proofs.Positions.{Again}
+use Rattle.lasso.proofs.Positions.{Again}
 use Rattle.sets.proofs.Bits.{Sub, has-false, has-or-l, has-or-r}
 use Rattle.correctness.proofs.Members.{product-in}
 

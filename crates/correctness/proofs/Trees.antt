@@ -22,7 +22,7 @@ child fs n left = cond (ltb left n) (getD fs left bottom) bottom
 abbrev Built : List Formula → (kind left right n : ℕ) → Type 0
 Built fs kind left right n = getD fs n bottom ≡ build kind n left (child fs n left) (child fs n right)
 
-trees-length : (below : List Formula) (rest : List ℕ) → length (trees below rest) ≡ length below + length rest / 3
+trees-length : (below : List Formula) (rest : List ℕ) → length (trees bottom build below rest) ≡ length below + length rest / 3
 unfolding trees
 trees-length below [] = omega arith
 trees-length below (kind ∷ []) = omega arith
@@ -32,7 +32,7 @@ trees-length below (kind ∷ (left ∷ (right ∷ rest))) =
     omega (arith, trees-length (below ++ (f ∷ [])) rest, length-append below (f ∷ []))
 
 -- what is there stays there
-trees-keep : (below : List Formula) (rest : List ℕ) (i : ℕ) → i < length below → getD (trees below rest) i bottom ≡ getD below i bottom
+trees-keep : (below : List Formula) (rest : List ℕ) (i : ℕ) → i < length below → getD (trees bottom build below rest) i bottom ≡ getD below i bottom
 unfolding trees
 trees-keep below [] i h = refl
 trees-keep below (kind ∷ []) i h = refl
@@ -41,15 +41,15 @@ trees-keep below (kind ∷ (left ∷ (right ∷ rest))) i h =
     let f = build kind (length below) left (getD below left bottom) (getD below right bottom) in
     trees-keep (below ++ (f ∷ [])) rest i (omega (arith, length-append below (f ∷ []))) ∙ List·getD-append below (f ∷ []) bottom i h
 
-child-keep : (below : List Formula) (rest : List ℕ) (left : ℕ) → child (trees below rest) (length below) left ≡ getD below left bottom
+child-keep : (below : List Formula) (rest : List ℕ) (left : ℕ) → child (trees bottom build below rest) (length below) left ≡ getD below left bottom
 child-keep below rest left = go (ltb left (length below)) refl
   where
-    go : (b : Bool) → ltb left (length below) ≡ b → cond b (getD (trees below rest) left bottom) bottom ≡ getD below left bottom
+    go : (b : Bool) → ltb left (length below) ≡ b → cond b (getD (trees bottom build below rest) left bottom) bottom ≡ getD below left bottom
     go true q = trees-keep below rest left (ltb-true left (length below) q)
     go false q = sym (List·getD-eq-default below bottom (ltb-false left (length below) q))
 
 trees-built : (below : List Formula) (rest : List ℕ) (i : ℕ) → i < length rest / 3
-    → Built (trees below rest) (getD rest (i * 3) 0) (getD rest (i * 3 + 1) 0) (getD rest (i * 3 + 2) 0) (length below + i)
+    → Built (trees bottom build below rest) (getD rest (i * 3) 0) (getD rest (i * 3 + 1) 0) (getD rest (i * 3 + 2) 0) (length below + i)
 unfolding trees
 trees-built below [] i h = absurd (omega arith)
 trees-built below (kind ∷ []) i h = absurd (omega arith)
@@ -60,7 +60,7 @@ trees-built below (kind ∷ (left ∷ (right ∷ rest))) zero h = subst (Built f
     f = build kind (length below) left (getD below left bottom) (getD below right bottom)
 
     fs : List Formula
-    fs = trees below (kind ∷ (left ∷ (right ∷ rest)))
+    fs = trees bottom build below (kind ∷ (left ∷ (right ∷ rest)))
 
     here : Built fs kind left right (length below)
     here =
@@ -76,8 +76,8 @@ trees-built below (kind ∷ (left ∷ (right ∷ rest))) (suc i) h =
     rw (n, l, r, k) (trees-built (below ++ (f ∷ [])) rest i (omega arith))
 
 -- a node's tree is built from its bytes and the trees of its children
-tree-built : (rule : List ℕ) (n : ℕ) → n < nodeCount rule → Built (trees [] rule) (kindAt rule n) (leftAt rule n) (rightAt rule n) n
-tree-built rule n h = subst (Built (trees [] rule) (kindAt rule n) (leftAt rule n) (rightAt rule n)) {x = 0 + n} (omega arith) (trees-built [] rule n h)
+tree-built : (rule : List ℕ) (n : ℕ) → n < nodeCount rule → Built (trees bottom build [] rule) (kindAt rule n) (leftAt rule n) (rightAt rule n) n
+tree-built rule n h = subst (Built (trees bottom build [] rule) (kindAt rule n) (leftAt rule n) (rightAt rule n)) {x = 0 + n} (omega arith) (trees-built [] rule n h)
 
 -- ---- the trees fit the node table
 below-more : (j k : ℕ) → j ≤ k → (g : Formula) → Below j g → Below k g
@@ -125,10 +125,10 @@ module _ (rule : List ℕ) where
       subst (Placed (suc n)) (sym (tree-built rule n h))
       (built-placed (kindAt rule n) n (leftAt rule n) _ _ (h, tree-built rule n h) (children (trees-placed k) (leftAt rule n)) (children (trees-placed k) (rightAt rule n)))
     where
-      children : ((m : ℕ) → m < k → m < nodeCount rule → Placed (suc m) (tree rule m)) → (m : ℕ) → Placed n (child (trees [] rule) n m)
+      children : ((m : ℕ) → m < k → m < nodeCount rule → Placed (suc m) (tree rule m)) → (m : ℕ) → Placed n (child (trees bottom build [] rule) n m)
       children ih m = go (ltb m n) refl
         where
-          go : (b : Bool) → ltb m n ≡ b → Placed n (cond b (getD (trees [] rule) m bottom) bottom)
+          go : (b : Bool) → ltb m n ≡ b → Placed n (cond b (getD (trees bottom build [] rule) m bottom) bottom)
           go true q = let i = ltb-true m n q in placed-more (suc m) n i (tree rule m) (ih m (omega arith) (omega arith))
           go false q = record { fits = tt; low = tt }
 
@@ -138,13 +138,13 @@ module _ (rule : List ℕ) where
     where
       go : Dec (n < nodeCount rule) → Fits rule (tree rule n)
       go (yes h) = trees-placed (suc n) n (omega arith) h .fits
-      go (no h) = subst (Fits rule) (sym (List·getD-eq-default (trees [] rule) bottom {n = n} (omega (arith, trees-length [] rule)))) tt
+      go (no h) = subst (Fits rule) (sym (List·getD-eq-default (trees bottom build [] rule) bottom {n = n} (omega (arith, trees-length [] rule)))) tt
 
   -- ---- the untils are the nodes of kind 7
   pub kind-until : (n : ℕ) → n < nodeCount rule → kindAt rule n ≡ 7 → (a b : Formula) × Known rule n (until n a b)
   unfolding tree
   kind-until n h e =
-      (_, _, (h, tree-built rule n h ∙ ap (λ (kind : ℕ). build kind n (leftAt rule n) (child (trees [] rule) n (leftAt rule n)) (child (trees [] rule) n (rightAt rule n))) e))
+      (_, _, (h, tree-built rule n h ∙ ap (λ (kind : ℕ). build kind n (leftAt rule n) (child (trees bottom build [] rule) n (leftAt rule n)) (child (trees bottom build [] rule) n (rightAt rule n))) e))
 
   pub until-kind : (n : ℕ) (a b : Formula) → Known rule n (until n a b) → kindAt rule n ≡ 7
   unfolding tree

@@ -5,7 +5,9 @@ use mathlib.Core.List.{List, map}
 use native.Mathlib.Omega.{arith}
 use lib.ListN.{getD, length, length-map}
 use Rattle.answer.specs.Result.{accepted, fine}
+use Rattle.answer.proofs.Results.{then-accepted}
 use Rattle.formula.specs.Formula.{formula}
+use Rattle.normalform.specs.NormalForm.{normalForm}
 use Rattle.term.specs.Term.{Term, cover}
 use Rattle.term.specs.Size.{sizesChecked}
 use Rattle.generalized.specs.Generalized.{transitions, productCheck}
@@ -13,6 +15,7 @@ use Rattle.generalized.proofs.Passed.{in-range, initial-few, few-transitions}
 use Rattle.automaton.specs.Automaton.{Transition, State, Automaton}
 use Rattle.sets.specs.Sets.{In}
 use Rattle.translation.specs.Degeneralized.{Pair, pair, initialNumbers, transitionOf, translation}
+use Rattle.translation.specs.Translate.{writtenTranslation}
 use Rattle.translation.proofs.Codes.{numbers-length}
 use Rattle.automaton.proofs.WellFormed.{WellFormedState, WellFormed, Label}
 use Rattle.sets.proofs.Members.{in-at, at-in, map-in}
@@ -86,7 +89,14 @@ module _ (rule : List ℕ) (accepted-rule : sizesChecked rule ≡ fine)
       size : length (map state pairs) ≡ length pairs
       size = length-map pairs state
 
--- what document 01's limits make of every translated automaton
+-- the automaton of a first-edition rule, as every normal form is
 pub translation-well-formed : (rule : List ℕ) (a : Automaton) → translation rule ≡ accepted a → WellFormed a
 translation-well-formed rule a e =
     translated rule (transitions rule) WellFormed (formed rule) a (sym (translation-by rule) ∙ e)
+
+-- what document 01's limits make of every translated automaton, that of a written rule
+pub written-well-formed : (rule : List ℕ) (a : Automaton) → writtenTranslation rule ≡ accepted a → WellFormed a
+unfolding writtenTranslation
+written-well-formed rule a e =
+    let (form, known, translates) = then-accepted (normalForm rule) translation e in
+    translation-well-formed form a translates

@@ -9,27 +9,27 @@ use lib.ListN.{length, take, drop, length-append}
 use lib.Seq.{take-at}
 use borrow.Author.Tests.{leb-true, le-leb, lt-leb}
 use Rattle.answer.specs.Result.{Result, accepted, refused, fine}
-use Rattle.formula.specs.Rule
+use Rattle.normalform.specs.NormalForm.{writtenChecked}
 use Rattle.answer.proofs.Results.{require-fine, never-both, then-accepted}
 use Rattle.automaton.specs.Automaton.{Automaton}
-use Rattle.translation.specs.Degeneralized.{translation}
 use Rattle.automaton.specs.Records.{stateRecords, transitionRecords, initialRecords}
 use Rattle.automaton.specs.Tables.{Counts, counts, Outcome, outcome, lengthsFit, tableCheck, TablesRoom}
 use Rattle.automaton.proofs.Room.{tables-short, room-fine, fine-room, filled-room}
 use Rattle.answer.specs.Bytes.{zeros, filled}
-use Rattle.translation.specs.Translate.{stored, translated}
+use Rattle.translation.specs.Translate.{writtenTranslation, stored, translated}
 use Rattle.image.specs.Image.{imageBytes, largestImage}
-use Rattle.image.specs.Calls.{Buffer, buffer, bufferCheck, writes}
+use Rattle.image.specs.Calls.{bufferCheck, writes}
+use Rattle.answer.specs.Buffer.{Buffer, buffer}
 use Rattle.judge.specs.Judge.{workBytes, Verdict, verdict, judgement, judged}
 use Rattle.lasso.specs.Lasso.{lassoCheck}
 use Rattle.judge.proofs.VerdictIff.{image-judged}
-use Rattle.correctness.proofs.WellFormed.{translation-well-formed}
+use Rattle.correctness.proofs.WellFormed.{written-well-formed}
 use Rattle.demands.specs.Demand.{roomCheck, inputCheck, Decision, decision, concluded, decided}
 use Rattle.image.proofs.ImageAccepted.{counts-fit, tables-read}
 
 -- ---- buffers that are long enough, a rule and a lasso that are not refused
 
--- what 25 lets pass, and then 1 to 7, 8 and 9
+-- what 25 lets pass, and then 1 to 7, 26, 8 and 9
 pub record Room (states transitions initial image work : List ℕ) : Type 0 where
   pub tables : TablesRoom states transitions initial
   pub buffer : largestImage ≤ length image
@@ -37,7 +37,7 @@ pub record Room (states transitions initial image work : List ℕ) : Type 0 wher
 
 record Passed (rule stem cycle states transitions initial image work : List ℕ) : Type 0 where
   room : Room states transitions initial image work
-  bytes : Rule.checked rule ≡ fine
+  bytes : writtenChecked rule ≡ fine
   lasso : lassoCheck stem cycle ≡ fine
 
 -- ---- the three calls
@@ -49,7 +49,7 @@ module _ (rule stem cycle s t i image work : List ℕ) (passes : inputCheck rule
       let (_, room, after-room) = then-accepted (roomCheck s t i image work) _ passes in
       let (_, tables, after-tables) = then-accepted (tableCheck s t i) _ room in
       let (_, buffer, works) = then-accepted (bufferCheck image) _ after-tables in
-      let (_, bytes, lasso) = then-accepted (Rule.checked rule) _ after-room in
+      let (_, bytes, lasso) = then-accepted (writtenChecked rule) _ after-room in
       record {
         room = record {
           tables = room-fine s t i tables;
@@ -61,32 +61,32 @@ module _ (rule stem cycle s t i image work : List ℕ) (passes : inputCheck rule
       }
 
   -- translate stores what the translation comes to
-  translated-stored : translated rule s t i ≡ stored (translation rule) s t i
+  translated-stored : translated rule s t i ≡ stored (writtenTranslation rule) s t i
   unfolding translated
   translated-stored = rw (fine-room s t i (passed .room .tables), passed .bytes)
 
   -- the tables that it fills pass the writer's checks, and the image stands at the buffer's start
-  image-written : (a : Automaton) → translation rule ≡ accepted a
+  image-written : (a : Automaton) → writtenTranslation rule ≡ accepted a
       → writes (counts a) (filled s (stateRecords a)) (filled t (transitionRecords a)) (filled i (initialRecords a)) image ≡ buffer (accepted (length (imageBytes a))) (imageBytes a ++ drop (length (imageBytes a)) image)
   unfolding writes
   image-written a e =
-      let formed = translation-well-formed rule a e in
+      let formed = written-well-formed rule a e in
       let room =
       fine-room _ _ _
       (filled-room s t i (stateRecords a) (transitionRecords a) (initialRecords a) (passed .room .tables)) in
       rw (room, le-leb largestImage (length image) (passed .room .buffer), counts-fit a formed, tables-read a formed)
 
   module _ (s' t' i' : List ℕ) {told : Result Counts} (translates : outcome told s' t' i' ≡ translated rule s t i) where
-    is-stored : outcome told s' t' i' ≡ stored (translation rule) s t i
+    is-stored : outcome told s' t' i' ≡ stored (writtenTranslation rule) s t i
     is-stored = translates ∙ translated-stored
 
     -- 20 to 24
     pub rule-refused : {number place : ℕ} → told ≡ refused number place
-        → decision (refused number place) s' t' i' image work ≡ concluded (translation rule) stem cycle s t i image work
+        → decision (refused number place) s' t' i' image work ≡ concluded (writtenTranslation rule) stem cycle s t i image work
     unfolding stored
-    rule-refused {number} {place} e = go (translation rule) refl is-stored
+    rule-refused {number} {place} e = go (writtenTranslation rule) refl is-stored
       where
-        go : (r : Result Automaton) → translation rule ≡ r → outcome told s' t' i' ≡ stored r s t i
+        go : (r : Result Automaton) → writtenTranslation rule ≡ r → outcome told s' t' i' ≡ stored r s t i
             → decision (refused number place) s' t' i' image work ≡ concluded r stem cycle s t i image work
         go (accepted a) known is = never-both (sym e ∙ ap (λ (o : Outcome). o .answer) is)
         go (refused n p) known is =
@@ -101,16 +101,16 @@ module _ (rule stem cycle s t i image work : List ℕ) (passes : inputCheck rule
       -- the image of the rule's automaton is at the start of the buffer, and its records are in the tables
       record Stored : Type 0 where
         automaton : Automaton
-        translated-to : translation rule ≡ accepted automaton
+        translated-to : writtenTranslation rule ≡ accepted automaton
         tables : outcome told s' t' i' ≡ stored (accepted automaton) s t i
         answered : written ≡ accepted (length (imageBytes automaton))
         stored-in : image' ≡ imageBytes automaton ++ drop (length (imageBytes automaton)) image
 
       has-stored : Stored
       unfolding stored
-      has-stored = go (translation rule) refl is-stored
+      has-stored = go (writtenTranslation rule) refl is-stored
         where
-          go : (r : Result Automaton) → translation rule ≡ r → outcome told s' t' i' ≡ stored r s t i → Stored
+          go : (r : Result Automaton) → writtenTranslation rule ≡ r → outcome told s' t' i' ≡ stored r s t i → Stored
           go (accepted a) known tables =
               let same : c ≡ counts a = cc (ap (λ (o : Outcome). o .answer) tables) in
               let handed : writes c s' t' i' image ≡ writes (counts a) (filled s (stateRecords a)) (filled t (transitionRecords a)) (filled i (initialRecords a)) image =
@@ -121,7 +121,7 @@ module _ (rule stem cycle s t i image work : List ℕ) (passes : inputCheck rule
                 translated-to = known;
                 tables = tables;
                 answered = ap (λ (b : Buffer). b .answer) done;
-                stored-in = ap (λ (b : Buffer). b .image) done;
+                stored-in = ap (λ (b : Buffer). b .bytes) done;
               }
           go (refused n p) known tables = never-both (sym (ap (λ (o : Outcome). o .answer) tables) ∙ counted)
 
@@ -146,11 +146,11 @@ module _ (rule stem cycle s t i image work : List ℕ) (passes : inputCheck rule
 
         pub lasso-judged : {answer : Result Verdict} {work' : List ℕ}
             → judgement answer work' ≡ judged (take n image') stem cycle work
-            → decision answer s' t' i' image' work' ≡ concluded (translation rule) stem cycle s t i image work
+            → decision answer s' t' i' image' work' ≡ concluded (writtenTranslation rule) stem cycle s t i image work
         unfolding stored
         lasso-judged {answer} {work'} judges =
             let known : judgement answer work' ≡ judgement (accepted (verdict a stem cycle)) (zeros work) =
-            judges ∙ ap (λ (bytes : List ℕ). judged bytes stem cycle work) image-is ∙ image-judged a (translation-well-formed rule a (has-stored .translated-to)) stem cycle work (passed .lasso) (passed .room .working) in
+            judges ∙ ap (λ (bytes : List ℕ). judged bytes stem cycle work) image-is ∙ image-judged a (written-well-formed rule a (has-stored .translated-to)) stem cycle work (passed .lasso) (passed .room .working) in
             let tables = has-stored .tables in
             rw (has-stored .translated-to) (λ k. decision (known k .answer) (tables k .states) (tables k .transitions) (tables k .initial) (has-stored .stored-in k) (known k .work))
 
@@ -183,11 +183,11 @@ module _ (rule stem cycle s t i image work : List ℕ) where
         let buffer = le-leb largestImage (length image) (room .buffer) in
         rw (fine-room s t i (room .tables), buffer, le-leb workBytes (length work) (room .working))
 
-    pub bytes-refused : {number place : ℕ} → refused number place ≡ Rule.checked rule → Refuses number place
+    pub bytes-refused : {number place : ℕ} → refused number place ≡ writtenChecked rule → Refuses number place
     unfolding decided inputCheck
     bytes-refused e = rw (room-fits, ← e)
 
-    module _ (bytes : fine ≡ Rule.checked rule) where
+    module _ (bytes : fine ≡ writtenChecked rule) where
       pub lasso-refused : {number place : ℕ} → refused number place ≡ lassoCheck stem cycle → Refuses number place
       unfolding decided inputCheck
       lasso-refused e = rw (room-fits, ← bytes, ← e)
@@ -197,7 +197,7 @@ module _ (rule stem cycle s t i image work : List ℕ) where
         unfolding inputCheck
         input-fine = rw (room-fits, ← bytes, ← lasso)
 
-        pub concludes : {d : Decision} → d ≡ concluded (translation rule) stem cycle s t i image work
+        pub concludes : {d : Decision} → d ≡ concluded (writtenTranslation rule) stem cycle s t i image work
             → d ≡ decided rule stem cycle s t i image work
         unfolding decided
         concludes e = rw input-fine e

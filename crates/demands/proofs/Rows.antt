@@ -1,6 +1,5 @@
--- The table of 01, Watchers to hold against the definitions: the rows P1 to P9 under one theorem, each with its first
--- walk, its automaton, its image where the document has one, and what judging that image says. Computed from the
--- definitions. Assumes nothing.
+-- The rows P1 to P9 of 01, Watchers to hold against the definitions, and four of R-3 under one theorem: normal form,
+-- first walk, automaton, given images and verdicts of each, computed from the definitions. Assumes nothing.
 use Prim.Native.Nat.{ℕ, _≤_}
 use mathlib.Core.Path.{_≡_, refl, sym, _∙_, ap}
 use mathlib.Core.Logic.{inl, inr}
@@ -8,11 +7,14 @@ use mathlib.Core.List.{List, [], _∷_, map}
 use mathlib.Core.Bool.{Bool, true, false}
 use lib.ListN.{length}
 use Rattle.sets.specs.Sets.{insert, union, insertJoin, insertJoins, insertProduct, any, In}
-use Rattle.answer.specs.Result.{accepted, fine, lowest}
-use Rattle.formula.specs.Rule.{leftOperand, rightOperand, lengthCheck, nodeCheck, places, placeCheck, syntaxCheck}
-use Rattle.formula.specs.Rule.{untils, untilCheck}
+use Rattle.answer.specs.Result.{Result, accepted, andThen, fine, lowest}
+use Rattle.formula.specs.Rule.{leftOperand, oneChild, rightOperand, lengthCheck, nodeCheck, places, placeCheck}
+use Rattle.formula.specs.Rule.{syntaxCheck, untils, untilCheck}
 use Rattle.formula.specs.Rule
 use Rattle.formula.specs.Formula.{trees, tree, formula}
+use Rattle.normalform.specs.Written.{writtenCheck, writtenTree}
+use Rattle.normalform.specs.NormalForm.{code, below, member, rank, emit, size, result, normalForm}
+use Rattle.normalform.specs.NormalForm
 use Rattle.lasso.specs.Lasso.{letter, lassoCheck}
 use Rattle.term.specs.Term.{cover, terms}
 use Rattle.term.specs.Size.{sizeCheck, sizesChecked}
@@ -24,6 +26,7 @@ use Rattle.generalized.specs.Memory.{allTransitions}
 use Rattle.automaton.specs.Automaton.{Transition, State, Automaton}
 use Rattle.translation.specs.Degeneralized.{climb, nextLevel, numbers, initialNumbers, pairTransitions, target}
 use Rattle.translation.specs.Degeneralized.{degeneralized, stateOf, translation}
+use Rattle.translation.specs.Translate.{writtenTranslation}
 use Rattle.automaton.specs.Records.{records, numbered, stateRecord, transitionRecord, stateRecords, transitionRecords}
 use Rattle.automaton.specs.Records.{initialRecords}
 use Rattle.answer.specs.Bytes.{twoBytes}
@@ -33,7 +36,7 @@ use Rattle.image.specs.Image.{entry, contents, imageBytes}
 use Rattle.judge.specs.Search
 use Rattle.judge.specs.Judge.{workBytes, Verdict, kept, broken, verdict, Judgement, judged}
 use Rattle.judge.proofs.VerdictIff.{image-judged}
-use Rattle.correctness.proofs.WellFormed.{translation-well-formed}
+use Rattle.correctness.proofs.WellFormed.{written-well-formed}
 
 -- a lasso and its verdict
 pub record Case : Type 0 where
@@ -41,10 +44,11 @@ pub record Case : Type 0 where
   pub cycle : List ℕ
   pub verdict : Verdict
 
--- a rule, the obligation sets of its first walk and the count of its transitions, its automaton, its image if the
--- document gives one, and the verdicts that it gives
+-- a rule as it is written, its negation normal form, the obligation sets of the form's first walk and the count of its
+-- transitions, the automaton, its image if one is given, and the verdicts that it gives
 pub record Row : Type 0 where
   pub rule : List ℕ
+  pub form : List ℕ
   pub sets : List ℕ
   pub count : ℕ
   pub automaton : Automaton
@@ -53,9 +57,10 @@ pub record Row : Type 0 where
 
 -- what a row says; a verdict is the answer of judging the automaton's image, with working bytes enough
 pub record Right (row : Row) : Type 0 where
-  pub walked : generalized (row .rule) ≡ accepted (row .sets)
-  pub counted : length (allTransitions (row .rule) (row .sets)) ≡ row .count
-  pub translated : translation (row .rule) ≡ accepted (row .automaton)
+  pub formed : normalForm (row .rule) ≡ accepted (row .form)
+  pub walked : generalized (row .form) ≡ accepted (row .sets)
+  pub counted : length (allTransitions (row .form) (row .sets)) ≡ row .count
+  pub translated : writtenTranslation (row .rule) ≡ accepted (row .automaton)
   pub imaged : All (λ image. imageBytes (row .automaton) ≡ image) (row .images)
   pub judges : All (λ c. (work : List ℕ) → workBytes ≤ length work → judged (imageBytes (row .automaton)) (c .stem) (c .cycle) work .answer ≡ accepted (c .verdict)) (row .cases)
 
@@ -68,9 +73,24 @@ state accepting ts = record { accepting = accepting; transitions = ts }
 transition : (must mustNot target : ℕ) → Transition
 transition must mustNot target = record { must = must; mustNot = mustNot; target = target }
 
+-- the row of another rule with the same form, so with all else the same
+writtenAs : List ℕ → Row → Row
+writtenAs rule row = record {
+  rule = rule;
+  form = row .form;
+  sets = row .sets;
+  count = row .count;
+  automaton = row .automaton;
+  images = row .images;
+  cases = row .cases;
+}
+
+-- ---- P1 to P9: P1 to P8 are their own forms; P9 has its false at node 3, and in its form the false comes first
+
 p1 : Row
 p1 = record {
   rule = 0 ∷ 0 ∷ 0 ∷ [];
+  form = 0 ∷ 0 ∷ 0 ∷ [];
   sets = [];
   count = 0;
   automaton = record { states = []; initial = [] };
@@ -81,6 +101,7 @@ p1 = record {
 p2 : Row
 p2 = record {
   rule = 1 ∷ 0 ∷ 0 ∷ [];
+  form = 1 ∷ 0 ∷ 0 ∷ [];
   sets = 0 ∷ [];
   count = 1;
   automaton = record { states = state true (transition 0 0 0 ∷ []) ∷ []; initial = 0 ∷ [] };
@@ -91,6 +112,7 @@ p2 = record {
 p3 : Row
 p3 = record {
   rule = 2 ∷ 0 ∷ 0 ∷ [];
+  form = 2 ∷ 0 ∷ 0 ∷ [];
   sets = 1 ∷ 0 ∷ [];
   count = 2;
   automaton = record { states = state true (transition 1 0 1 ∷ []) ∷ state true (transition 0 0 1 ∷ []) ∷ []; initial = 0 ∷ [] };
@@ -101,6 +123,7 @@ p3 = record {
 p4 : Row
 p4 = record {
   rule = 1 ∷ 0 ∷ 0 ∷ 2 ∷ 0 ∷ 0 ∷ 7 ∷ 0 ∷ 1 ∷ [];
+  form = 1 ∷ 0 ∷ 0 ∷ 2 ∷ 0 ∷ 0 ∷ 7 ∷ 0 ∷ 1 ∷ [];
   sets = 4 ∷ 0 ∷ [];
   count = 3;
   automaton = record { states = state false (transition 1 0 1 ∷ transition 0 0 0 ∷ []) ∷ state true (transition 0 0 1 ∷ []) ∷ []; initial = 0 ∷ [] };
@@ -111,6 +134,7 @@ p4 = record {
 p5 : Row
 p5 = record {
   rule = 0 ∷ 0 ∷ 0 ∷ 2 ∷ 0 ∷ 0 ∷ 8 ∷ 0 ∷ 1 ∷ [];
+  form = 0 ∷ 0 ∷ 0 ∷ 2 ∷ 0 ∷ 0 ∷ 8 ∷ 0 ∷ 1 ∷ [];
   sets = 4 ∷ [];
   count = 1;
   automaton = record { states = state true (transition 1 0 0 ∷ []) ∷ []; initial = 0 ∷ [] };
@@ -121,6 +145,7 @@ p5 = record {
 p6 : Row
 p6 = record {
   rule = 2 ∷ 0 ∷ 0 ∷ 6 ∷ 0 ∷ 0 ∷ [];
+  form = 2 ∷ 0 ∷ 0 ∷ 6 ∷ 0 ∷ 0 ∷ [];
   sets = 2 ∷ 1 ∷ 0 ∷ [];
   count = 3;
   automaton = record { states = state true (transition 0 0 1 ∷ []) ∷ state true (transition 1 0 2 ∷ []) ∷ state true (transition 0 0 2 ∷ []) ∷ []; initial = 0 ∷ [] };
@@ -131,6 +156,7 @@ p6 = record {
 p7 : Row
 p7 = record {
   rule = 2 ∷ 0 ∷ 0 ∷ 2 ∷ 1 ∷ 0 ∷ 7 ∷ 0 ∷ 1 ∷ [];
+  form = 2 ∷ 0 ∷ 0 ∷ 2 ∷ 1 ∷ 0 ∷ 7 ∷ 0 ∷ 1 ∷ [];
   sets = 4 ∷ 0 ∷ [];
   count = 3;
   automaton = record { states = state false (transition 2 0 1 ∷ transition 1 0 0 ∷ []) ∷ state true (transition 0 0 1 ∷ []) ∷ []; initial = 0 ∷ [] };
@@ -141,6 +167,7 @@ p7 = record {
 p8 : Row
 p8 = record {
   rule = 2 ∷ 0 ∷ 0 ∷ 2 ∷ 1 ∷ 0 ∷ 8 ∷ 0 ∷ 1 ∷ [];
+  form = 2 ∷ 0 ∷ 0 ∷ 2 ∷ 1 ∷ 0 ∷ 8 ∷ 0 ∷ 1 ∷ [];
   sets = 4 ∷ 0 ∷ [];
   count = 3;
   automaton = record { states = state true (transition 3 0 1 ∷ transition 2 0 0 ∷ []) ∷ state true (transition 0 0 1 ∷ []) ∷ []; initial = 0 ∷ [] };
@@ -151,7 +178,8 @@ p8 = record {
 p9 : Row
 p9 = record {
   rule = 1 ∷ 0 ∷ 0 ∷ 2 ∷ 0 ∷ 0 ∷ 7 ∷ 0 ∷ 1 ∷ 0 ∷ 0 ∷ 0 ∷ 8 ∷ 3 ∷ 2 ∷ [];
-  sets = 16 ∷ 20 ∷ [];
+  form = 0 ∷ 0 ∷ 0 ∷ 1 ∷ 0 ∷ 0 ∷ 2 ∷ 0 ∷ 0 ∷ 7 ∷ 1 ∷ 2 ∷ 8 ∷ 0 ∷ 3 ∷ [];
+  sets = 16 ∷ 24 ∷ [];
   count = 4;
   automaton = record {
     states = state false (transition 1 0 1 ∷ transition 0 0 2 ∷ []) ∷ state true (transition 1 0 1 ∷ transition 0 0 2 ∷ [])
@@ -162,44 +190,82 @@ p9 = record {
   cases = [];
 }
 
+-- ---- rows of R-3: none is its own form
+
+-- eventually proposition 0, always it, and always eventually it
+p4Written : Row
+p4Written = writtenAs (2 ∷ 0 ∷ 0 ∷ 12 ∷ 0 ∷ 0 ∷ []) p4
+
+p5Written : Row
+p5Written = writtenAs (2 ∷ 0 ∷ 0 ∷ 11 ∷ 0 ∷ 0 ∷ []) p5
+
+p9Written : Row
+p9Written = writtenAs (2 ∷ 0 ∷ 0 ∷ 12 ∷ 0 ∷ 0 ∷ 11 ∷ 1 ∷ 0 ∷ []) p9
+
+-- always, if proposition 0 then proposition 1 (if open then padded): a false comes first, then proposition 0 negated,
+-- proposition 1 as it stands, their or, and the release
+ifOpenPadded : Row
+ifOpenPadded = record {
+  rule = 2 ∷ 0 ∷ 0 ∷ 2 ∷ 1 ∷ 0 ∷ 10 ∷ 0 ∷ 1 ∷ 11 ∷ 2 ∷ 0 ∷ [];
+  form = 0 ∷ 0 ∷ 0 ∷ 3 ∷ 0 ∷ 0 ∷ 2 ∷ 1 ∷ 0 ∷ 5 ∷ 1 ∷ 2 ∷ 8 ∷ 0 ∷ 3 ∷ [];
+  sets = 16 ∷ [];
+  count = 2;
+  automaton = record { states = state true (transition 0 1 0 ∷ transition 2 0 0 ∷ []) ∷ []; initial = 0 ∷ [] };
+  images = (1 ∷ 0 ∷ 1 ∷ 0 ∷ 18 ∷ 0 ∷ 2 ∷ 0 ∷ 2 ∷ 0 ∷ 22 ∷ 0 ∷ 3 ∷ 0 ∷ 1 ∷ 0 ∷ 30 ∷ 0
+      ∷ 2 ∷ 0 ∷ 1 ∷ 0 ∷ 0 ∷ 1 ∷ 0 ∷ 0 ∷ 2 ∷ 0 ∷ 0 ∷ 0 ∷ 0 ∷ 0 ∷ []) ∷ [];
+  cases = on [] (0 ∷ []) kept ∷ on (0 ∷ 3 ∷ []) (2 ∷ 0 ∷ []) kept ∷ on (1 ∷ []) (3 ∷ []) broken
+      ∷ on (0 ∷ []) (3 ∷ 1 ∷ []) broken ∷ [];
+}
+
 pub table : List Row
-table = p1 ∷ p2 ∷ p3 ∷ p4 ∷ p5 ∷ p6 ∷ p7 ∷ p8 ∷ p9 ∷ []
+table = p1 ∷ p2 ∷ p3 ∷ p4 ∷ p5 ∷ p6 ∷ p7 ∷ p8 ∷ p9 ∷ p4Written ∷ p5Written ∷ p9Written ∷ ifOpenPadded ∷ []
 
 -- ---- the whole table, computed
 
-walks : map (λ row. generalized (row .rule)) table ≡ map (λ row. accepted (row .sets)) table
-unfolding on state transition table p1 p2 p3 p4 p5 p6 p7 p8 p9 insert union insertJoin insertJoins insertProduct any
-    lowest untils trees tree formula cover terms shows fulfils bitsOf fulfilment dominates sift find meet meetAll
-    explore partialProduct transitions productCheck targets generalized allTransitions
+forms : map (λ row. normalForm (row .rule)) table ≡ map (λ row. accepted (row .form)) table
+unfolding on state transition writtenAs table p1 p2 p3 p4 p5 p6 p7 p8 p9 p4Written p5Written p9Written ifOpenPadded
+    lowest leftOperand oneChild rightOperand lengthCheck nodeCheck places placeCheck syntaxCheck trees writtenCheck
+    writtenTree code below NormalForm.entry member rank emit size result normalForm
+forms = refl
+
+walks : map (λ row. generalized (row .form)) table ≡ map (λ row. accepted (row .sets)) table
+unfolding on state transition writtenAs table p1 p2 p3 p4 p5 p6 p7 p8 p9 p4Written p5Written p9Written ifOpenPadded
+    insert union insertJoin insertJoins insertProduct any lowest untils trees tree formula cover terms shows fulfils
+    bitsOf fulfilment dominates sift find meet meetAll explore partialProduct transitions productCheck targets
+    generalized allTransitions
 walks = refl
 
-counts : map (λ row. length (allTransitions (row .rule) (row .sets))) table ≡ map (λ row. row .count) table
-unfolding on state transition table p1 p2 p3 p4 p5 p6 p7 p8 p9 insert union insertJoin insertJoins insertProduct any
-    lowest untils trees tree formula cover terms shows fulfils bitsOf fulfilment dominates sift find meet meetAll
-    explore partialProduct transitions productCheck targets generalized allTransitions
+counts : map (λ row. length (allTransitions (row .form) (row .sets))) table ≡ map (λ row. row .count) table
+unfolding on state transition writtenAs table p1 p2 p3 p4 p5 p6 p7 p8 p9 p4Written p5Written p9Written ifOpenPadded
+    insert union insertJoin insertJoins insertProduct any lowest untils trees tree formula cover terms shows fulfils
+    bitsOf fulfilment dominates sift find meet meetAll explore partialProduct transitions productCheck targets
+    generalized allTransitions
 counts = refl
 
-translations : map (λ row. translation (row .rule)) table ≡ map (λ row. accepted (row .automaton)) table
-unfolding on state transition table p1 p2 p3 p4 p5 p6 p7 p8 p9 insert union insertJoin insertJoins insertProduct any
-    lowest leftOperand rightOperand lengthCheck nodeCheck places placeCheck syntaxCheck untils untilCheck Rule.checked
-    trees tree formula cover terms sizeCheck sizesChecked find meet meetAll explore partialProduct transitions
-    productCheck targets generalized shows fulfils bitsOf fulfilment dominates sift climb nextLevel numbers initialNumbers pairTransitions target
-    degeneralized stateOf translation
+translations : map (λ row. translation (row .form)) table ≡ map (λ row. accepted (row .automaton)) table
+unfolding on state transition writtenAs table p1 p2 p3 p4 p5 p6 p7 p8 p9 p4Written p5Written p9Written ifOpenPadded
+    insert union insertJoin insertJoins insertProduct any lowest leftOperand oneChild rightOperand lengthCheck nodeCheck
+    places placeCheck syntaxCheck untils untilCheck Rule.checked trees tree formula cover terms sizeCheck sizesChecked
+    find meet meetAll explore partialProduct transitions productCheck targets generalized shows fulfils bitsOf
+    fulfilment dominates sift climb nextLevel numbers initialNumbers pairTransitions target degeneralized stateOf
+    translation
 translations = refl
 
 images : map (λ row. map (λ image. imageBytes (row .automaton)) (row .images)) table ≡ map (λ row. map (λ image. image) (row .images)) table
-unfolding on state transition table p1 p2 p3 p4 p5 p6 p7 p8 p9 transitionCount records numbered twoBytes stateRecord
-    transitionRecord stateRecords transitionRecords initialRecords entry contents imageBytes
+unfolding on state transition writtenAs table p1 p2 p3 p4 p5 p6 p7 p8 p9 p4Written p5Written p9Written ifOpenPadded
+    transitionCount records numbered twoBytes stateRecord transitionRecord stateRecords transitionRecords initialRecords
+    entry contents imageBytes
 images = refl
 
 fits : map (λ row. map (λ c. lassoCheck (c .stem) (c .cycle)) (row .cases)) table ≡ map (λ row. map (λ c. fine) (row .cases)) table
-unfolding on state transition table p1 p2 p3 p4 p5 p6 p7 p8 p9 lassoCheck
+unfolding on state transition writtenAs table p1 p2 p3 p4 p5 p6 p7 p8 p9 p4Written p5Written p9Written ifOpenPadded
+    lassoCheck
 fits = refl
 
 verdicts : map (λ row. map (λ c. verdict (row .automaton) (c .stem) (c .cycle)) (row .cases)) table ≡ map (λ row. map (λ c. c .verdict) (row .cases)) table
-unfolding on state transition table p1 p2 p3 p4 p5 p6 p7 p8 p9 letter any Search.visit Search.visitAll
-    Search.readTargets Search.after Search.onward Search.reach Search.reachedFrom Search.starts Search.hasAcceptingPass
-    verdict
+unfolding on state transition writtenAs table p1 p2 p3 p4 p5 p6 p7 p8 p9 p4Written p5Written p9Written ifOpenPadded
+    letter any Search.visit Search.visitAll Search.readTargets Search.after Search.onward Search.reach
+    Search.reachedFrom Search.starts Search.hasAcceptingPass verdict
 verdicts = refl
 
 -- ---- each row by itself
@@ -215,15 +281,20 @@ same-each f g (y ∷ ys) e x (inr m) =
 
 pub rows : All Right table
 rows row m = record {
+  formed = formed;
   walked = same-each _ _ table walks row m;
   counted = same-each _ _ table counts row m;
   translated = translated;
   imaged = same-each _ _ (row .images) (same-each _ _ table images row m);
   judges = λ c n work enough.
       let fit = same-each _ _ (row .cases) (same-each _ _ table fits row m) c n in
-      ap (λ (j : Judgement). j .answer) (image-judged (row .automaton) (translation-well-formed (row .rule) (row .automaton) translated) (c .stem) (c .cycle) work fit enough)
+      ap (λ (j : Judgement). j .answer) (image-judged (row .automaton) (written-well-formed (row .rule) (row .automaton) translated) (c .stem) (c .cycle) work fit enough)
       ∙ ap accepted (same-each _ _ (row .cases) (same-each _ _ table verdicts row m) c n);
 }
   where
-    translated : translation (row .rule) ≡ accepted (row .automaton)
-    translated = same-each _ _ table translations row m
+    formed : normalForm (row .rule) ≡ accepted (row .form)
+    formed = same-each _ _ table forms row m
+
+    translated : writtenTranslation (row .rule) ≡ accepted (row .automaton)
+    translated = unfold writtenTranslation in
+        ap (λ (form : Result (List ℕ)). andThen form translation) formed ∙ same-each _ _ table translations row m

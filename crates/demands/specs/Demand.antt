@@ -1,14 +1,14 @@
--- Deciding a lasso by a rule, translate, write and judge in a row: answer, place and every lent byte, for every input;
--- and what such an answer is to say (demand 3).
+-- Deciding a lasso by a written rule, translate, write and judge in a row: answer, place and every lent byte, for every
+-- input; and what such an answer is to say (demand 3).
 use Prim.Native.Nat.{ℕ}
 use mathlib.Core.Path.{_≡_}
 use mathlib.Core.List.{List, _++_}
 use lib.ListN.{length, drop}
 use Rattle.answer.specs.Result.{Result, accepted, refused, andThen, Check}
-use Rattle.formula.specs.Rule
-use Rattle.formula.specs.Satisfaction.{Satisfies}
+use Rattle.normalform.specs.Written.{SatisfiesWritten}
+use Rattle.normalform.specs.NormalForm.{writtenChecked}
 use Rattle.automaton.specs.Automaton.{Automaton}
-use Rattle.translation.specs.Degeneralized.{translation}
+use Rattle.translation.specs.Translate.{writtenTranslation}
 use Rattle.automaton.specs.Records.{stateRecords, transitionRecords, initialRecords}
 use Rattle.automaton.specs.Tables.{tableCheck}
 use Rattle.answer.specs.Bytes.{zeros, filled}
@@ -22,11 +22,11 @@ unfoldable pub roomCheck : (states transitions initial image work : List ℕ) �
 roomCheck states transitions initial image work =
     andThen (tableCheck states transitions initial) (λ _. andThen (bufferCheck image) (λ _. workCheck work))
 
--- what is refused before anything is stored: 25, the rule's 1 to 7, the lasso's 8 and 9
+-- what is refused before anything is stored: 25, the rule's 1 to 6, 26 and 7, the lasso's 8 and 9
 unfoldable pub inputCheck : (rule stem cycle states transitions initial image work : List ℕ) → Check
 inputCheck rule stem cycle states transitions initial image work =
     andThen (roomCheck states transitions initial image work)
-    (λ _. andThen (Rule.checked rule) (λ _. lassoCheck stem cycle))
+    (λ _. andThen (writtenChecked rule) (λ _. lassoCheck stem cycle))
 
 -- an answer, and the five lent buffers afterwards
 pub record Decision : Type 0 where
@@ -58,15 +58,15 @@ decidedBy (refused number place) rest s t i image work = decision (refused numbe
 
 unfoldable pub decided : (rule stem cycle states transitions initial image work : List ℕ) → Decision
 decided rule stem cycle s t i image work =
-    decidedBy (inputCheck rule stem cycle s t i image work) (concluded (translation rule) stem cycle s t i image work)
-    s t i image work
+    decidedBy (inputCheck rule stem cycle s t i image work)
+    (concluded (writtenTranslation rule) stem cycle s t i image work) s t i image work
 
 -- ---- what the answer says
 
--- every refusal in its order: 25, 1 to 7, 8 and 9, then the rule's 20 to 24
+-- every refusal in its order: 25, 1 to 6, 26 and 7, 8 and 9, then the rule's 20 to 24
 unfoldable pub decidable : (rule stem cycle states transitions initial image work : List ℕ) → Check
 decidable rule stem cycle s t i image work =
-    andThen (inputCheck rule stem cycle s t i image work) (λ _. andThen (translation rule) (λ _. accepted tt))
+    andThen (inputCheck rule stem cycle s t i image work) (λ _. andThen (writtenTranslation rule) (λ _. accepted tt))
 
 -- the first refusal where there is one, else kept exactly where P holds and broken exactly where it does not
 abbrev pub Answers : Result Verdict → Check → Type 0 → Type 0
@@ -76,4 +76,4 @@ Answers r (refused number place) P = r ≡ refused number place
 -- demand 3 of one answer: P is that the lasso satisfies the rule
 abbrev pub Decides : Result Verdict → (rule stem cycle states transitions initial image work : List ℕ) → Type 0
 Decides r rule stem cycle s t i image work =
-    Answers r (decidable rule stem cycle s t i image work) (Satisfies rule stem cycle)
+    Answers r (decidable rule stem cycle s t i image work) (SatisfiesWritten rule stem cycle)

@@ -1,10 +1,10 @@
-// From a rule and a lasso to the verdict: the calls translate, write and judge in a row.
+// From a written rule and a lasso to the verdict: the calls translate, write and judge in a row.
 use answer::Checked;
+use answer::Stored;
 use answer::TABLE_TOO_SHORT;
 use automaton::Counted;
 use automaton::tables_fit;
 use image::IMAGE_BYTES;
-use image::WrittenImage;
 use image::write;
 use judge::Judged;
 use judge::WORK_BYTES;
@@ -13,11 +13,11 @@ use lasso::check_lasso;
 use translation::translate;
 ghost use mathlib.Core.Path.{_≡_};
 ghost use Rattle.answer.specs.Result.{fine};
-ghost use Rattle.translation.specs.Degeneralized.{translation};
+ghost use Rattle.translation.specs.Translate.{writtenTranslation};
 ghost use Rattle.judge.specs.Judge.{judgeAnswer};
 ghost use Rattle.demands.specs.Demand.{inputCheck, decision, concluded, decided};
 
-// translate, write and judge in a row, where 25, 1 to 7, 8 and 9 refuse nothing.
+// translate, write and judge in a row, where 25, 1 to 7, 26, 8 and 9 refuse nothing.
 fn decide_checked(
     rule: &[u8],
     stem: &[u8],
@@ -32,21 +32,21 @@ fn decide_checked(
         (now states) (now transitions) (now initial) (now image) (now work) ≡ fine ⌝ }
     ensures { λ r. ⌜ decision (judgeAnswer r) (now (states .exit)) (now (transitions .exit)) (now (initial .exit))
         (now (image .exit)) (now (work .exit))
-        ≡ concluded (translation (now (rule .entry))) (now (stem .entry)) (now (cycle .entry))
+        ≡ concluded (writtenTranslation (now (rule .entry))) (now (stem .entry)) (now (cycle .entry))
         (now (states .entry)) (now (transitions .entry)) (now (initial .entry))
         (now (image .entry)) (now (work .entry)) ⌝ }
 {
     match translate(rule, states, transitions, initial) {
         Counted::Refused(number, place) => Judged::Refused(number, place),
         Counted::Accepted(counts) => match write(states, transitions, initial, counts, image) {
-            WrittenImage::Refused(number, place) => Judged::Refused(number, place),
-            WrittenImage::Accepted(length) => judge(&image[..length], stem, cycle, work),
+            Stored::Refused(number, place) => Judged::Refused(number, place),
+            Stored::Accepted(length) => judge(&image[..length], stem, cycle, work),
         },
     }
 }
 
 // Whether the lasso satisfies the rule: the rule's automaton, its image, and the verdict of judging that image. What is
-// known of the input alone, 25, 1 to 7, 8 and 9, is refused before anything is stored.
+// known of the input alone, 25, 1 to 7, 26, 8 and 9, is refused before anything is stored.
 pub fn decide(
     rule: &[u8],
     stem: &[u8],
@@ -72,7 +72,7 @@ pub fn decide(
     if work.len() < WORK_BYTES {
         return Judged::Refused(TABLE_TOO_SHORT, 0);
     }
-    let bytes = formula::check(rule);
+    let bytes = normalform::check(rule);
     if let Checked::Refused(number, place) = bytes {
         return Judged::Refused(number, place);
     }

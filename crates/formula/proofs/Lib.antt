@@ -6,3 +6,4 @@ pub mod Untils
 pub mod Accepted
 pub mod Parents
 pub mod Trees
+pub mod Periodic

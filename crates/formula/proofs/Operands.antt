@@ -1,10 +1,11 @@
 -- What the bytes of a node are, by its kind. Assumes nothing.
-use mathlib.Core.Path.{_≡_}
+use mathlib.Core.Path.{_≡_, sym, _∙_}
+use mathlib.Core.Bool.{true, false, false≢true}
 use Prim.Native.Nat.{ℕ, _≤_, _<_}
 use native.Mathlib.Omega.{arith}
-use borrow.Author.Tests.{lt-ltb, le-ltb, eq-eqb, ne-eqb}
+use borrow.Author.Tests.{lt-ltb, le-ltb}
 use Rattle.formula.specs.declared.Operand.the-variants.{Unused, Proposition, Child}
-use Rattle.formula.specs.Rule.{leftOperand, rightOperand}
+use Rattle.formula.specs.Rule.{leftOperand, oneChild, rightOperand}
 
 module _ (kind : ℕ) where
   pub left-unused : kind < 2 → Unused ≡ leftOperand kind
@@ -23,10 +24,18 @@ module _ (kind : ℕ) where
   unfolding rightOperand
   right-unused lt = rw (lt-ltb kind 4 lt)
 
-  pub right-next : kind ≡ 6 → Unused ≡ rightOperand kind
+  pub right-absent : 4 ≤ kind → oneChild kind ≡ true → Unused ≡ rightOperand kind
   unfolding rightOperand
-  right-next e = rw (le-ltb kind 4 (omega arith), eq-eqb kind 6 e)
+  right-absent le one = rw (le-ltb kind 4 le, one)
 
-  pub right-child : 4 ≤ kind → (kind ≡ 6 → ⊥) → Child ≡ rightOperand kind
+  pub right-child : 4 ≤ kind → oneChild kind ≡ false → Child ≡ rightOperand kind
   unfolding rightOperand
-  right-child le other = rw (le-ltb kind 4 le, ne-eqb kind 6 other)
+  right-child le two = rw (le-ltb kind 4 le, two)
+
+  -- a next has one child
+  pub next-one : kind ≡ 6 → oneChild kind ≡ true
+  unfolding oneChild
+  next-one e = rw e
+
+  pub two-no-next : oneChild kind ≡ false → kind ≡ 6 → ⊥
+  two-no-next two e = false≢true (sym two ∙ next-one e)

@@ -8,14 +8,14 @@ use native.Mathlib.Decide.{ℕ-discrete, decLt}
 use native.Mathlib.Omega.{arith}
 use lib.Dec.{eqb}
 use borrow.Author.Tests.{eqb-true}
-use Rattle.answer.specs.Result.{fine, lowest}
+use Rattle.answer.specs.Result.{fine}
 use Rattle.formula.specs.declared.Operand.{Operand}
 use Rattle.formula.specs.declared.Operand.the-variants.{Child}
-use Rattle.formula.specs.Rule.{nodeCount, root, kindAt, leftAt, rightAt, leftOperand, rightOperand, isChild}
-use Rattle.formula.specs.Rule.{places, placeCheck, lengthCheck, nodeCheck, syntaxCheck, releaseKind, checked}
-use Rattle.answer.proofs.Lowest.{not-fine, fine-first, fine-second, lowest-each}
-use Rattle.formula.proofs.Operands.{left-unused, left-proposition, left-child, right-unused, right-next}
-use Rattle.formula.proofs.Operands.{right-child}
+use Rattle.formula.specs.Rule.{nodeCount, root, kindAt, leftAt, rightAt, leftOperand, oneChild, rightOperand}
+use Rattle.formula.specs.Rule.{isChild, places, checked}
+use Rattle.answer.proofs.Lowest.{not-fine}
+use Rattle.formula.proofs.Operands.{left-unused, left-proposition, left-child, right-unused}
+use Rattle.formula.proofs.Operands.{right-absent, right-child, two-no-next}
 use Rattle.formula.proofs.Checks.{place-none}
 use Rattle.formula.proofs.Accepted.{Node, accepted-fine}
 
@@ -42,13 +42,14 @@ module _ (rule : List ℕ) (n k : ℕ) where
       pick (no leaf) (no constant) = absurd (counted (rw (← left-unused (kindAt rule n) (omega arith)) refl))
 
   right-parent : (isChild (rightOperand (kindAt rule n)) (rightAt rule n) k ≡ 0 → ⊥) → Parent rule n k
-  right-parent counted = pick (decLt 3 (kindAt rule n)) (ℕ-discrete (kindAt rule n) 6)
+  right-parent counted = pick (decLt 3 (kindAt rule n)) (oneChild (kindAt rule n)) refl
     where
-      pick : Dec (3 < kindAt rule n) → Dec (kindAt rule n ≡ 6) → Parent rule n k
-      pick (yes inner) (yes next) = absurd (counted (rw (← right-next (kindAt rule n) next) refl))
-      pick (yes inner) (no pair) =
-          by-right inner pair (child-is (rightAt rule n) k (right-child (kindAt rule n) (omega arith) pair) counted)
-      pick (no leaf) d = absurd (counted (rw (← right-unused (kindAt rule n) (omega arith)) refl))
+      pick : Dec (3 < kindAt rule n) → (one : Bool) → oneChild (kindAt rule n) ≡ one → Parent rule n k
+      pick (yes inner) true one = absurd (counted (rw (← right-absent (kindAt rule n) (omega arith) one) refl))
+      pick (yes inner) false two =
+          by-right inner (two-no-next (kindAt rule n) two)
+          (child-is (rightAt rule n) k (right-child (kindAt rule n) (omega arith) two) counted)
+      pick (no leaf) one e = absurd (counted (rw (← right-unused (kindAt rule n) (omega arith)) refl))
 
 -- one of the first n nodes, if k is a child at one of their places
 parent-among : (rule : List ℕ) (n k : ℕ) → (places rule n k ≡ 0 → ⊥) → (p : ℕ) × (p < n) × Parent rule p k
@@ -65,14 +66,6 @@ parent-among rule (suc n) k counted =
     pick (yes none) (yes other) ih = (n, omega arith, right-parent rule n k (λ e. counted (omega arith)))
 
 module _ (rule : List ℕ) (passed : checked rule ≡ fine) where
-  place-fine : (k : ℕ) → k < nodeCount rule → placeCheck rule k ≡ fine
-  unfolding checked syntaxCheck
-  place-fine k lt =
-      let syntax = fine-first (syntaxCheck releaseKind rule) _ passed in
-      lowest-each (placeCheck rule) (nodeCount rule)
-      (fine-second (lowest (nodeCheck releaseKind rule) (nodeCount rule)) _ (fine-second (lengthCheck rule) _ syntax)) k
-      lt
-
   node : (k : ℕ) → k < nodeCount rule → Node rule k
   node = accepted-fine rule passed .nodes
 
@@ -85,5 +78,5 @@ module _ (rule : List ℕ) (passed : checked rule ≡ fine) where
       → (p : ℕ) × (p < nodeCount rule) × (k < p) × Parent rule p k
   parent-of k lt other =
       let (p, inside, is) =
-      parent-among rule (nodeCount rule) k (λ none. not-fine (place-none rule k none other ∙ place-fine k lt)) in
+      parent-among rule (nodeCount rule) k (λ none. not-fine (place-none rule k none other ∙ accepted-fine rule passed .places k lt)) in
       (p, inside, parent-above p k inside is, is)

@@ -13,55 +13,70 @@ use Rattle.formula.specs.Rule.{nodeCount, kindAt, leftAt, rightAt, check
 use Rattle.formula.specs.Formula.{Formula, bottom, proposition, build, trees, tree, InRange}
 use Rattle.formula.proofs.Accepted.{Node, accepted-fine}
 
--- the trees below stay
-kept : (rest : List ℕ) (below : List Formula) → take (length below) (trees below rest) ≡ below
-unfolding trees
-kept [] below = take-all (length below) below (omega arith)
-kept (kind ∷ []) below = take-all (length below) below (omega arith)
-kept (kind ∷ (left ∷ [])) below = take-all (length below) below (omega arith)
-kept (kind ∷ (left ∷ (right ∷ rest))) below =
-    let f : Formula = build kind (length below) left (getD below left bottom) (getD below right bottom) in
-    sym (take-take (length below) (length (below ++ (f ∷ []))) (trees (below ++ (f ∷ [])) rest) (omega (arith, length-append below (f ∷ []))))
-    ∙ ap (take (length below)) (kept rest (below ++ (f ∷ [])))
-    ∙ take-append-le (length below) below (f ∷ []) (omega arith)
-    ∙ take-all (length below) below (omega arith)
+-- trees of any type, as `trees` makes them
+module _ {A : Type 0} (none : A) (builds : (kind n left : ℕ) (a b : A) → A) where
+  abbrev all : List A → List ℕ → List A
+  all = trees none builds
 
--- node m of all, if it is number n of the rest
-abbrev Built : List Formula → List ℕ → (m n : ℕ) → Type 0
-Built all rest m n =
-    getD all m bottom ≡ build (kindAt rest n) m (leftAt rest n) (getD (take m all) (leftAt rest n) bottom) (getD (take m all) (rightAt rest n) bottom)
+  abbrev next : List A → (kind left right : ℕ) → A
+  next below kind left right = builds kind (length below) left (getD below left none) (getD below right none)
 
-built : (n m : ℕ) (rest : List ℕ) (below : List Formula) → m ≡ length below + n → n * 3 + 2 < length rest
-    → Built (trees below rest) rest m n
-unfolding trees
-built n m [] below e lt = absurd (omega arith)
-built n m (kind ∷ []) below e lt = absurd (omega arith)
-built n m (kind ∷ (left ∷ [])) below e lt = absurd (omega arith)
-built zero m (kind ∷ (left ∷ (right ∷ rest))) below e lt =
-    let f : Formula = build kind (length below) left (getD below left bottom) (getD below right bottom) in
-    let all : List Formula = trees (below ++ (f ∷ [])) rest in
-    let q : m ≡ length below = omega arith in
-    let s : take (length below) all ≡ below = kept (kind ∷ (left ∷ (right ∷ rest))) below in
-    rw (q, s)
-    (sym (getD-take (length (below ++ (f ∷ []))) all (length below) bottom (omega (arith, length-append below (f ∷ []))))
-    ∙ ap (λ (xs : List Formula). getD xs (length below) bottom) (kept rest (below ++ (f ∷ [])))
-    ∙ getD-append-seam below f [] bottom)
-built (suc n) m (kind ∷ (left ∷ (right ∷ rest))) below e lt =
-    let f : Formula = build kind (length below) left (getD below left bottom) (getD below right bottom) in
-    let a : suc n * 3 ≡ suc (suc (suc (n * 3))) = omega arith in
-    let b : suc n * 3 + 1 ≡ suc (suc (suc (n * 3 + 1))) = omega arith in
-    let d : suc n * 3 + 2 ≡ suc (suc (suc (n * 3 + 2))) = omega arith in
-    rw (b, d, a) (built n m rest (below ++ (f ∷ [])) (omega (arith, length-append below (f ∷ []))) (omega arith))
+  -- the trees below stay
+  kept : (rest : List ℕ) (below : List A) → take (length below) (all below rest) ≡ below
+  unfolding trees
+  kept [] below = take-all (length below) below (omega arith)
+  kept (kind ∷ []) below = take-all (length below) below (omega arith)
+  kept (kind ∷ (left ∷ [])) below = take-all (length below) below (omega arith)
+  kept (kind ∷ (left ∷ (right ∷ rest))) below =
+      let f = next below kind left right in
+      sym (take-take (length below) (length (below ++ (f ∷ []))) (all (below ++ (f ∷ [])) rest) (omega (arith, length-append below (f ∷ []))))
+      ∙ ap (take (length below)) (kept rest (below ++ (f ∷ [])))
+      ∙ take-append-le (length below) below (f ∷ []) (omega arith)
+      ∙ take-all (length below) below (omega arith)
+
+  -- node m of all, if it is number n of the rest
+  abbrev Built : List A → List ℕ → (m n : ℕ) → Type 0
+  Built ts rest m n =
+      getD ts m none ≡ builds (kindAt rest n) m (leftAt rest n) (getD (take m ts) (leftAt rest n) none) (getD (take m ts) (rightAt rest n) none)
+
+  built : (n m : ℕ) (rest : List ℕ) (below : List A) → m ≡ length below + n → n * 3 + 2 < length rest
+      → Built (all below rest) rest m n
+  unfolding trees
+  built n m [] below e lt = absurd (omega arith)
+  built n m (kind ∷ []) below e lt = absurd (omega arith)
+  built n m (kind ∷ (left ∷ [])) below e lt = absurd (omega arith)
+  built zero m (kind ∷ (left ∷ (right ∷ rest))) below e lt =
+      let f = next below kind left right in
+      let ts : List A = all (below ++ (f ∷ [])) rest in
+      let q : m ≡ length below = omega arith in
+      let s : take (length below) ts ≡ below = kept (kind ∷ (left ∷ (right ∷ rest))) below in
+      rw (q, s)
+      (sym (getD-take (length (below ++ (f ∷ []))) ts (length below) none (omega (arith, length-append below (f ∷ []))))
+      ∙ ap (λ (xs : List A). getD xs (length below) none) (kept rest (below ++ (f ∷ [])))
+      ∙ getD-append-seam below f [] none)
+  built (suc n) m (kind ∷ (left ∷ (right ∷ rest))) below e lt =
+      let f = next below kind left right in
+      let a : suc n * 3 ≡ suc (suc (suc (n * 3))) = omega arith in
+      let b : suc n * 3 + 1 ≡ suc (suc (suc (n * 3 + 1))) = omega arith in
+      let d : suc n * 3 + 2 ≡ suc (suc (suc (n * 3 + 2))) = omega arith in
+      rw (b, d, a) (built n m rest (below ++ (f ∷ [])) (omega (arith, length-append below (f ∷ []))) (omega arith))
+
+  module _ (rule : List ℕ) (n : ℕ) (inside : n < nodeCount rule) where
+    abbrev lookup : ℕ → A
+    lookup k = getD (all [] rule) k none
+
+    -- the tree of node n, by what its children are among the trees below it
+    pub of-parts : lookup n ≡ builds (kindAt rule n) n (leftAt rule n) (getD (take n (all [] rule)) (leftAt rule n) none) (getD (take n (all [] rule)) (rightAt rule n) none)
+    of-parts = built n n rule [] (omega arith) (omega arith)
+
+    -- and by its children's trees
+    pub of-children : leftAt rule n < n → rightAt rule n < n
+        → lookup n ≡ builds (kindAt rule n) n (leftAt rule n) (lookup (leftAt rule n)) (lookup (rightAt rule n))
+    of-children l r =
+        of-parts
+        ∙ rw (getD-take n (all [] rule) (leftAt rule n) none l, getD-take n (all [] rule) (rightAt rule n) none r)
 
 module _ (rule : List ℕ) (n : ℕ) (inside : n < nodeCount rule) (node : Node rule n) where
-  of-parts : tree rule n ≡ build (kindAt rule n) n (leftAt rule n) (getD (take n (trees [] rule)) (leftAt rule n) bottom) (getD (take n (trees [] rule)) (rightAt rule n) bottom)
-  unfolding tree
-  of-parts = built n n rule [] (omega arith) (omega arith)
-
-  child : (k : ℕ) → k < n → getD (take n (trees [] rule)) k bottom ≡ tree rule k
-  unfolding tree
-  child k lt = getD-take n (trees [] rule) k bottom lt
-
   module _ (k : ℕ) (ek : k ≡ kindAt rule n) (inner : 3 < k) where
     pub left-below : (l : ℕ) → l ≡ leftAt rule n → l < n
     left-below l e = omega (arith, node .left (omega arith))
@@ -72,12 +87,14 @@ module _ (rule : List ℕ) (n : ℕ) (inside : n < nodeCount rule) (node : Node 
   -- P is what is said of a node's tree
   module _ (P : Formula → Type 0) (k : ℕ) (ek : k ≡ kindAt rule n) where
     pub leaf-in : (l : ℕ) → l ≡ leftAt rule n → ((f g : Formula) → P (build k n l f g)) → P (tree rule n)
-    leaf-in l el h = rw (of-parts, ← ek, ← el) (h _ _)
+    unfolding tree
+    leaf-in l el h = rw (of-parts bottom build rule n inside, ← ek, ← el) (h _ _)
 
     pub pair-in : (l r : ℕ) → l ≡ leftAt rule n → r ≡ rightAt rule n → 3 < k
         → P (build k n l (tree rule l) (tree rule r)) → P (tree rule n)
+    unfolding tree
     pair-in l r el er inner h =
-        rw (of-parts, ← el, ← er, child l (left-below k ek inner l el), child r (right-below k ek inner r er), ← ek) h
+        rw (of-children bottom build rule n inside (node .left (omega arith)) (node .right (omega arith)), ← el, ← er, ← ek) h
 
 in-range-build : (k n l : ℕ) (f g : Formula) → (1 < k → k < 4 → l < propositions) → (3 < k → InRange f)
     → (3 < k → InRange g) → InRange (build k n l f g)

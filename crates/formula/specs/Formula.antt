@@ -28,18 +28,19 @@ build (suc (suc (suc (suc (suc (suc (suc zero))))))) n left a b = until n a b
 build (suc (suc (suc (suc (suc (suc (suc (suc zero)))))))) n left a b = release n a b
 build (suc (suc (suc (suc (suc (suc (suc (suc (suc kind))))))))) n left a b = bottom
 
--- the trees of all nodes, from those below and the bytes of the rest: a child is looked up among the trees below its
--- parent
-unfoldable pub trees : List Formula → List ℕ → List Formula
-trees below [] = below
-trees below (kind ∷ []) = below
-trees below (kind ∷ (left ∷ [])) = below
-trees below (kind ∷ (left ∷ (right ∷ rest))) =
-    trees (below ++ (build kind (length below) left (getD below left bottom) (getD below right bottom) ∷ [])) rest
+-- the trees of all nodes, of any type that has a way to build a node's, from those below and the bytes of the rest: a
+-- child is looked up among the trees below its parent, and none stands for one that is not there
+module _ {A : Type 0} (none : A) (builds : (kind n left : ℕ) (a b : A) → A) where
+  unfoldable pub trees : List A → List ℕ → List A
+  trees below [] = below
+  trees below (kind ∷ []) = below
+  trees below (kind ∷ (left ∷ [])) = below
+  trees below (kind ∷ (left ∷ (right ∷ rest))) =
+      trees (below ++ (builds kind (length below) left (getD below left none) (getD below right none) ∷ [])) rest
 
 -- the tree of node n
 unfoldable pub tree : List ℕ → ℕ → Formula
-tree rule n = getD (trees [] rule) n bottom
+tree rule n = getD (trees bottom build [] rule) n bottom
 
 -- the formula of a rule: its root's tree
 unfoldable pub formula : List ℕ → Formula

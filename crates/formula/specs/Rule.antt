@@ -1,7 +1,7 @@
 -- The bytes of a rule, and refusals 1 to 7. A rule is here the byte string, and a formula is what it encodes.
 use Prim.Native.Nat.{ℕ, zero, suc, _+_, _-_, _*_, _/_, _%_, _<_}
 use mathlib.Core.Path.{_≡_}
-use mathlib.Core.Bool.{Bool, true, cond, not, _&&_}
+use mathlib.Core.Bool.{Bool, true, cond, not, _&&_, _||_}
 use mathlib.Core.List.{List, [], _∷_, _++_}
 use lib.ListN.{getD, length}
 use lib.Dec.{eqb, leb, ltb}
@@ -34,8 +34,13 @@ root rule = nodeCount rule - 1
 unfoldable pub leftOperand : ℕ → Operand
 leftOperand kind = cond (ltb kind 2) Unused (cond (ltb kind 4) Proposition Child)
 
+-- the kinds whose one child is on the left: next, and of the second edition not, always and eventually (01, Rules and
+-- when a plan keeps one, the table of kinds; R-3)
+unfoldable pub oneChild : ℕ → Bool
+oneChild kind = eqb kind 6 || eqb kind 9 || eqb kind 11 || eqb kind 12
+
 unfoldable pub rightOperand : ℕ → Operand
-rightOperand kind = cond (ltb kind 4) Unused (cond (eqb kind 6) Unused Child)
+rightOperand kind = cond (ltb kind 4) Unused (cond (oneChild kind) Unused Child)
 
 -- 1: a rule over the most bytes; 2: one with no bytes, or whose bytes do not come in threes; both at place 0 (01,
 -- Numbers that come from the input, 1 and 2)
@@ -70,9 +75,13 @@ leftChildFits rule n = childFits (leftOperand (kindAt rule n)) (leftAt rule n) n
 abbrev pub rightChildFits : List ℕ → ℕ → Bool
 rightChildFits rule n = childFits (rightOperand (kindAt rule n)) (rightAt rule n) n
 
--- the highest kind of a first-edition rule (01, Rules and when a plan keeps one, the table of kinds)
+-- the highest kind of a first-edition rule (01, Rules and when a plan keeps one, the table of kinds) and of a written
+-- rule, one of the second edition (R-3)
 abbrev pub releaseKind : ℕ
 releaseKind = 8
+
+abbrev pub eventuallyKind : ℕ
+eventuallyKind = 12
 
 -- node n against 3, a kind above the highest that is allowed, then against 4, then against 5; the place is n (01,
 -- Numbers that come from the input, 3 to 5)

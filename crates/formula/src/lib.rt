@@ -8,7 +8,8 @@ ghost use Prim.Native.Nat.{ℕ, _+_, _*_, _<_, _≤_};
 ghost use lib.ListN.{length, getD};
 ghost use Rattle.answer.specs.Result.{lowest, answer};
 ghost use Rattle.formula.specs.Limits.{maxNodes};
-ghost use Rattle.formula.specs.Rule.{nodeCount, kindAt, leftAt, rightAt, leftOperand, rightOperand};
+ghost use Rattle.formula.specs.Rule.{nodeCount, kindAt, leftAt, rightAt, leftOperand, oneChild};
+ghost use Rattle.formula.specs.Rule.{rightOperand};
 ghost use Rattle.formula.specs.Rule.{byteFits, childFits, nodeCheck, ChildrenBelow, isChild, places, placeCheck};
 ghost use Rattle.formula.specs.Rule.{syntaxCheck, untils, untilCheck, checked};
 
@@ -56,6 +57,15 @@ pub const UNTIL: u8 = 7;
 
 pub const RELEASE: u8 = 8;
 
+// The kinds of node that the second edition adds (R-3).
+pub const NOT: u8 = 9;
+
+pub const IMPLIES: u8 = 10;
+
+pub const ALWAYS: u8 = 11;
+
+pub const EVENTUALLY: u8 = 12;
+
 // What the left or the right byte of a node is.
 enum Operand {
     Unused,
@@ -96,13 +106,29 @@ fn left_operand(kind: u8) -> Operand
     Operand::Child
 }
 
+// Whether the one child of such a node is on the left.
+pub fn one_child(kind: u8) -> bool
+    ensures { λ r. ⌜ r ≡ oneChild kind ⌝ }
+{
+    if kind == NEXT {
+        return true;
+    }
+    if kind == NOT {
+        return true;
+    }
+    if kind == ALWAYS {
+        return true;
+    }
+    kind == EVENTUALLY
+}
+
 fn right_operand(kind: u8) -> Operand
     ensures { λ r. ⌜ r ≡ rightOperand kind ⌝ }
 {
     if kind < AND {
         return Operand::Unused;
     }
-    if kind == NEXT {
+    if one_child(kind) {
         return Operand::Unused;
     }
     Operand::Child
@@ -279,7 +305,7 @@ fn count_untils(rule: &[u8], n: usize) -> usize
 }
 
 // 7.
-fn check_untils(rule: &[u8], n: usize) -> Checked
+pub fn check_untils(rule: &[u8], n: usize) -> Checked
     requires { ⌜ n ≡ nodeCount (now rule) ⌝ }
     ensures { λ r. ⌜ answer r ≡ untilCheck (now (rule .entry)) ⌝ }
 {

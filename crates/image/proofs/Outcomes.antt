@@ -18,7 +18,8 @@ use Rattle.answer.specs.Bytes.{filled}
 use Rattle.image.specs.Image.{transitionsAt, initialAt, imageBytes, contentsBytes, largestImage}
 use Rattle.image.specs.Image.{statesBody, transitionsBody, initialBody}
 use Rattle.image.specs.Reader.{countsAt, countsFit, recordsCheck, readTables, bodiesCheck}
-use Rattle.image.specs.Calls.{Buffer, buffer, written, writes, loaded, readInto, checks}
+use Rattle.image.specs.Calls.{written, writes, loaded, readInto, checks}
+use Rattle.answer.specs.Buffer.{Buffer, buffer}
 use Rattle.image.specs.Memory.{joinedOver, HasRecords, Loads, Small}
 use Rattle.image.proofs.Tests.{small-fits}
 use Rattle.image.proofs.Tables.{Bytes, drop-bytes, Passed, counts-back, states-back, transitions-back, initial-back, image-back, image-length}
@@ -95,7 +96,7 @@ pub record Writes (r : Result Automaton) (n : ℕ) (before after : List ℕ) : T
 pub writes-of : (r : Result Automaton) (n : ℕ) (before after : List ℕ) → written r before ≡ buffer (accepted n) after → Writes r n before after
 writes-of (accepted a) n before after e =
     let same : accepted (length (imageBytes a)) ≡ accepted n = ap (λ (b : Buffer). b .answer) e in
-    record { automaton = a; answer = refl; size = cc; bytes = sym (ap (λ (b : Buffer). b .image) e) }
+    record { automaton = a; answer = refl; size = cc; bytes = sym (ap (λ (b : Buffer). b .bytes) e) }
 writes-of (refused number place) n before after e = never-both (ap (λ (b : Buffer). b .answer) e)
 
 pub written-front : {r : Result Automaton} {n : ℕ} {before after : List ℕ} (done : Writes r n before after) → take n after ≡ imageBytes (done .automaton)

@@ -13,7 +13,8 @@ use Rattle.automaton.specs.Tables.{Counts, counts, outcome, tableCheck}
 use Rattle.answer.specs.Bytes.{filled}
 use Rattle.image.specs.Image.{imageBytes}
 use Rattle.image.specs.Reader.{countsAt, countsFit, contentsCheck, recordsCheck, automatonFrom, readTables, readImage}
-use Rattle.image.specs.Calls.{buffer, bufferCheck, writes, readInto}
+use Rattle.image.specs.Calls.{bufferCheck, writes, readInto}
+use Rattle.answer.specs.Buffer.{buffer}
 use Rattle.image.proofs.Before.{follows, passes}
 use Rattle.image.proofs.Tests.{counts-small, small-fits}
 use Rattle.image.proofs.Contents.{read-of, contents-fine}

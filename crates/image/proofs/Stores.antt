@@ -12,7 +12,7 @@ use Rattle.answer.specs.Bytes.{twoBytes, filled}
 use Rattle.automaton.specs.Tables.{Counts}
 use Rattle.answer.specs.Result.{accepted}
 use Rattle.image.specs.Image.{entry, transitionsAt, initialAt, imageLength, contents, contentsBytes, entryBytes}
-use Rattle.image.specs.Calls.{buffer}
+use Rattle.answer.specs.Buffer.{buffer}
 use Rattle.image.specs.Memory.{joinedBodies, joinedOver}
 use Rattle.image.proofs.Sizes.{contents-size, row-size}
 

@@ -4,25 +4,11 @@ use mathlib.Core.List.{List, _++_}
 use lib.ListN.{length, drop}
 use lib.Dec.{leb}
 use Rattle.answer.specs.Result.{Result, accepted, refused, andThen, Check, require}
+use Rattle.answer.specs.Buffer.{Buffer, buffer}
 use Rattle.automaton.specs.Automaton.{Automaton}
 use Rattle.automaton.specs.Tables.{Counts, counts, Outcome, outcome, tabled, tableCheck}
-use Rattle.image.specs.declared.WrittenImage.{WrittenImage}
-use Rattle.image.specs.declared.WrittenImage.the-variants.{Accepted, Refused}
 use Rattle.image.specs.Image.{imageBytes, largestImage}
 use Rattle.image.specs.Reader.{countsFit, readTables, readImage}
-
--- what the answer of write says in document 01's numbers and values
-abbrev pub writeAnswer : WrittenImage → Result ℕ
-writeAnswer (Accepted n) = accepted n
-writeAnswer (Refused number place) = refused number place
-
--- an answer, and the lent buffer afterwards
-pub record Buffer : Type 0 where
-  pub answer : Result ℕ
-  pub image : List ℕ
-
-abbrev pub buffer : Result ℕ → List ℕ → Buffer
-buffer a image = record { answer = a; image = image }
 
 -- 25, at place 0: a buffer too small for the largest image (01, Numbers that come from the state, 25)
 abbrev pub bufferCheck : List ℕ → Check

@@ -10,7 +10,7 @@ use Rattle.answer.specs.Bytes.{filled}
 use Rattle.image.specs.declared.StateCount.{StateCount}
 use Rattle.image.specs.declared.StateCount.the-variants.{Accepted, Refused}
 use Rattle.image.specs.Image.{imageLength, contents, statesBody, transitionsBody, initialBody}
-use Rattle.image.specs.Calls.{Buffer, buffer}
+use Rattle.answer.specs.Buffer.{Buffer, buffer}
 
 -- the bytes of a written image: the contents, then the used bytes of three tables
 abbrev pub joinedBodies : Counts → (states transitions initial : List ℕ) → List ℕ

@@ -1,5 +1,6 @@
 // The image of an automaton: the calls write and read, and check, which looks at an image and stores nothing.
 use answer::Checked;
+use answer::Stored;
 use answer::TABLE_TOO_SHORT;
 use answer::copy;
 use answer::number_at;
@@ -23,10 +24,11 @@ ghost use Rattle.answer.specs.Result.{accepted, andThen, require, lowest, answe
 ghost use Rattle.automaton.specs.Limits.{maxStates};
 ghost use Rattle.automaton.specs.Tables.{told, outcome, TablesRoom};
 ghost use Rattle.answer.specs.Bytes.{filled, numberAt};
+ghost use Rattle.answer.specs.Buffer.{storedAnswer, buffer};
 ghost use Rattle.image.specs.Image.{entry, entryBytes, contentsBytes, largestImage};
 ghost use Rattle.image.specs.Reader.{countsAt, countsFit, entriesHave, contentsCheck, stateCheck, countSum};
 ghost use Rattle.image.specs.Reader.{transitionRecordCheck, initialCheck, recordsCheck, bodiesCheck};
-ghost use Rattle.image.specs.Calls.{writeAnswer, buffer, writes, readInto, checks};
+ghost use Rattle.image.specs.Calls.{writes, readInto, checks};
 ghost use Rattle.image.specs.Memory.{stateAnswer, joinedOver, HasRecords, Small, Sized, Loads};
 
 // The numbers of document 01 by which an image or tables are refused.
@@ -62,12 +64,6 @@ const OFFSET_AT: usize = 4;
 
 // The largest image.
 pub const IMAGE_BYTES: usize = CONTENTS_BYTES + STATES_BYTES + TRANSITIONS_BYTES + INITIAL_BYTES;
-
-// The answer of write: the image's length, or a refusal's number and place.
-pub enum WrittenImage {
-    Accepted(usize),
-    Refused(u8, usize),
-}
 
 // The transition count of a state record, or that the record is refused.
 enum StateCount {
@@ -381,23 +377,23 @@ pub fn write(
     initial: &[u8],
     counts: Counts,
     image: &mut [u8],
-) -> WrittenImage
-    ensures { λ r. ⌜ buffer (writeAnswer r) (now (image .exit))
+) -> Stored
+    ensures { λ r. ⌜ buffer (storedAnswer r) (now (image .exit))
         ≡ writes counts (now (states .entry)) (now (transitions .entry)) (now (initial .entry)) (now (image .entry)) ⌝ }
 {
     if !tables_fit(states.len(), transitions.len(), initial.len()) {
-        return WrittenImage::Refused(TABLE_TOO_SHORT, 0);
+        return Stored::Refused(TABLE_TOO_SHORT, 0);
     }
     if image.len() < IMAGE_BYTES {
-        return WrittenImage::Refused(TABLE_TOO_SHORT, 0);
+        return Stored::Refused(TABLE_TOO_SHORT, 0);
     }
     if !counts_fit(counts) {
-        return WrittenImage::Refused(BAD_CONTENTS, 0);
+        return Stored::Refused(BAD_CONTENTS, 0);
     }
     let records = check_records(states, transitions, initial, counts);
     if let Checked::Refused(number, place) = records {
-        return WrittenImage::Refused(number, place);
+        return Stored::Refused(number, place);
     }
     let n = write_image(states, transitions, initial, counts, image);
-    WrittenImage::Accepted(n)
+    Stored::Accepted(n)
 }

@@ -14,7 +14,7 @@ use lib.Dec.{eqb}
 use borrow.Author.Tests.{eqb-true, eq-eqb}
 use Rattle.sets.specs.Sets.{In}
 use Rattle.sets.proofs.Members.{All, at-in, in-at, in-append, append-in, any-iff}
-use Rattle.automaton.proofs.Positions.{pigeon}
+use Rattle.lasso.proofs.Positions.{pigeon}
 use Rattle.judge.specs.Search.{Point, point, samePoint, member, visit, visitAll}
 
 -- ---- members

@@ -1,3 +1,4 @@
 -- What is known of lassos, for the crates above. Assumes nothing.
 pub mod Letters
 pub mod Checking
+pub mod Positions

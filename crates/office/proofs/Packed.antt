@@ -5,7 +5,7 @@ use mathlib.Core.Path.{_≡_, ap, _∙_}
 use mathlib.Core.List.{List}
 use Rattle.answer.specs.Result.{Result}
 use Rattle.automaton.specs.Tables.{Counts, Outcome, outcome}
-use Rattle.image.specs.Calls.{Buffer, buffer}
+use Rattle.answer.specs.Buffer.{Buffer, buffer}
 use Rattle.judge.specs.Judge.{Verdict, Judgement, judgement}
 use Rattle.demands.specs.Demand.{Decision, decision}
 use Rattle.office.specs.Packing.{packCounts, packLength, packVerdict, packedTables, packOutcome, packedSlice}

@@ -14,13 +14,16 @@ use Rattle.formula.specs.Limits.{ruleBytes}
 use Rattle.formula.specs.Rule
 use Rattle.answer.proofs.Lowest.{fine-first}
 use Rattle.answer.proofs.Results.{never-both, require-fine, required}
+use Rattle.normalform.specs.Written.{writtenCheck}
+use Rattle.normalform.specs.NormalForm.{normalForm, writtenChecked}
+use Rattle.normalform.specs.Normalize.{formRoom, formStored, normalizes}
 use Rattle.term.specs.Size.{sizeCheck, sizesChecked}
 use Rattle.generalized.specs.Explore.{find, meet, Numbering, meetAll, Walk, explore}
 use Rattle.generalized.specs.Generalized.{productCheck, generalized}
 use Rattle.translation.specs.Degeneralized.{degeneralized, translation}
 use Rattle.automaton.specs.Limits.{maxTransitions}
 use Rattle.automaton.specs.Tables.{Counts, tableCheck}
-use Rattle.translation.specs.Translate.{stored, unless, translated}
+use Rattle.translation.specs.Translate.{writtenTranslation, stored, unless, translated}
 use Rattle.image.specs.Memory.{Small}
 use Rattle.image.specs.Reader.{countsAt, countsFit, contentsCheck, stateCheck, transitionRecordCheck, initialCheck}
 use Rattle.image.specs.Reader.{recordsCheck, readTables, readImage}
@@ -162,6 +165,27 @@ syntax-proper highest rule =
     then-proper (lengthCheck rule) _ (length-proper rule)
     (λ u e. let few : nodeCount rule ≤ maxTransitions = few-nodes rule e in search (proper, node-proper, place-proper) depth 7)
 
+-- 1 to 6 of a written rule, and 26
+form-proper : (rule : List ℕ) → Proper (normalForm rule)
+unfolding normalForm writtenCheck
+form-proper rule = search (proper, syntax-proper)
+
+-- and 7 of its normal form
+untils-proper : (rule : List ℕ) → Proper (untilCheck rule)
+unfolding untilCheck
+untils-proper rule = search proper
+
+written-proper : (rule : List ℕ) → Proper (writtenChecked rule)
+unfolding writtenChecked
+written-proper rule = then-proper (normalForm rule) untilCheck (form-proper rule) (λ form _. untils-proper form)
+
+-- 25, 1 to 6 and 26
+pub normalizes-proper : (rule form : List ℕ) → Proper (normalizes rule form .answer)
+unfolding normalizes
+normalizes-proper rule form =
+    cases-proper (λ r. formStored r form .answer) (andThen (formRoom form) (λ _. normalForm rule))
+    (search (proper, form-proper)) (λ bytes. accepts) (λ number place. refl)
+
 -- 1 to 7
 rule-proper : (rule : List ℕ) → Proper (Rule.checked rule)
 unfolding Rule.checked untilCheck
@@ -194,23 +218,29 @@ unfolding degeneralized
 degeneralized-proper rule states = search (proper, explore-proper)
 
 -- 1 to 7 and 20 to 24
-pub translation-proper : (rule : List ℕ) → Proper (translation rule)
+translation-proper : (rule : List ℕ) → Proper (translation rule)
 unfolding translation
 translation-proper rule = search (proper, sizes-proper, generalized-proper, degeneralized-proper) depth 7
+
+-- of a written rule: 1 to 7, 26 and 20 to 24
+writtenTranslation-proper : (rule : List ℕ) → Proper (writtenTranslation rule)
+unfolding writtenTranslation
+writtenTranslation-proper rule =
+    then-proper (normalForm rule) translation (form-proper rule) (λ form _. translation-proper form)
 
 -- 25, of three tables
 tables-proper : (s t i : List ℕ) → Proper (tableCheck s t i)
 unfolding tableCheck
 tables-proper s t i = search proper
 
--- 25, 1 to 7 and 20 to 24
+-- 25, 1 to 7, 26 and 20 to 24
 pub translated-proper : (rule s t i : List ℕ) → Proper (translated rule s t i .answer)
 unfolding translated stored
 translated-proper rule s t i =
-    let rest = cases-proper (λ r. stored r s t i .answer) (translation rule) (translation-proper rule)
+    let rest = cases-proper (λ r. stored r s t i .answer) (writtenTranslation rule) (writtenTranslation-proper rule)
     (λ a. accepts) (λ number place. refl) in
-    cases-proper (λ check. unless check (stored (translation rule) s t i) s t i .answer)
-    (andThen (tableCheck s t i) (λ _. Rule.checked rule)) (search (proper, tables-proper, rule-proper))
+    cases-proper (λ check. unless check (stored (writtenTranslation rule) s t i) s t i .answer)
+    (andThen (tableCheck s t i) (λ _. writtenChecked rule)) (search (proper, tables-proper, written-proper))
     (λ u. rest) (λ number place. refl)
 
 -- 11
@@ -282,14 +312,14 @@ judged-proper image stem cycle work =
     cases-proper (λ r. judgedBy r stem cycle work .answer) (judgeable image stem cycle work)
     (search (proper, image-proper, lasso-proper) depth 7) (λ a. accepts) (λ number place. refl)
 
--- 25, 1 to 9 and 20 to 24
+-- 25, 1 to 9, 26 and 20 to 24
 pub decided-proper : (rule stem cycle s t i image work : List ℕ)
     → Proper (decided rule stem cycle s t i image work .answer)
 unfolding decided inputCheck roomCheck tableCheck
 decided-proper rule stem cycle s t i image work =
-    let made = concluded (translation rule) stem cycle s t i image work in
-    let rest = cases-proper (λ r. concluded r stem cycle s t i image work .answer) (translation rule)
-    (translation-proper rule) (λ a. accepts) (λ number place. refl) in
+    let made = concluded (writtenTranslation rule) stem cycle s t i image work in
+    let rest = cases-proper (λ r. concluded r stem cycle s t i image work .answer) (writtenTranslation rule)
+    (writtenTranslation-proper rule) (λ a. accepts) (λ number place. refl) in
     cases-proper (λ check. decidedBy check made s t i image work .answer)
-    (inputCheck rule stem cycle s t i image work) (search (proper, rule-proper, lasso-proper) depth 7)
+    (inputCheck rule stem cycle s t i image work) (search (proper, written-proper, lasso-proper) depth 7)
     (λ u. rest) (λ number place. refl)

@@ -6,16 +6,21 @@ use mathlib.Core.List.{List}
 use native.Mathlib.Omega.{arith}
 use lib.ListN.{length}
 use Rattle.answer.specs.Result.{Result, accepted, refused, andThen, Check, require}
-use Rattle.formula.specs.Rule
+use Rattle.formula.specs.Limits.{ruleBytes}
+use Rattle.formula.specs.Rule.{releaseKind}
+use Rattle.formula.proofs.Accepted.{formed-fine}
+use Rattle.normalform.specs.NormalForm.{normalForm, writtenChecked}
+use Rattle.normalform.specs.Normalize.{formRoom, formStored, normalizes}
+use Rattle.normalform.proofs.Passes.{normal-form-passes}
 use Rattle.answer.proofs.Results.{never-both, require-fine}
 use Rattle.automaton.specs.Automaton.{Automaton}
-use Rattle.translation.specs.Degeneralized.{translation}
 use Rattle.automaton.specs.Tables.{Counts, counts, outcome, tableCheck}
-use Rattle.translation.specs.Translate.{stored, unless, translated}
+use Rattle.translation.specs.Translate.{writtenTranslation, stored, unless, translated}
 use Rattle.image.specs.Memory.{Small}
 use Rattle.image.specs.Image.{imageLength, largestImage}
 use Rattle.image.specs.Reader.{countsFit, recordsCheck, automatonFrom, readTables}
-use Rattle.image.specs.Calls.{buffer, bufferCheck, writes, readInto, checks}
+use Rattle.image.specs.Calls.{bufferCheck, writes, readInto, checks}
+use Rattle.answer.specs.Buffer.{buffer}
 use Rattle.image.proofs.Before.{follows, passes}
 use Rattle.image.proofs.Tests.{counts-small}
 use Rattle.image.proofs.Contents.{checks-sized}
@@ -25,8 +30,8 @@ use Rattle.image.proofs.Outcomes.{writes-of, reads-of}
 use Rattle.judge.specs.Judge.{Verdict, kept, broken, judged}
 use Rattle.demands.specs.Demand.{decided}
 use Rattle.automaton.proofs.WellFormed.{few-together}
-use Rattle.correctness.proofs.WellFormed.{translation-well-formed}
-use Rattle.office.proofs.Refusals.{Refusal, Proper, translated-proper, reads-proper, writes-proper}
+use Rattle.correctness.proofs.WellFormed.{written-well-formed}
+use Rattle.office.proofs.Refusals.{Refusal, Proper, normalizes-proper, translated-proper, reads-proper, writes-proper}
 use Rattle.office.proofs.Refusals.{judged-proper, decided-proper}
 use Rattle.office.specs.Packing.{packRefusal, packThree, packCounts, packLength, packVerdict}
 
@@ -62,23 +67,38 @@ keptOf answer = answer / 256 % 2
 
 -- ---- values that fit
 
+-- of an accepted normalize, the most bytes of a rule
+pub normalizes-small : (rule form : List ℕ) (n : ℕ) → normalizes rule form .answer ≡ accepted n → n ≤ ruleBytes
+unfolding normalizes
+normalizes-small rule form n e = first (formRoom form) e
+  where
+    second : (r : Result (List ℕ)) → normalForm rule ≡ r → formStored r form .answer ≡ accepted n → n ≤ ruleBytes
+    second (accepted bytes) known e =
+        let size : length bytes ≡ n = cc in
+        omega (arith, formed-fine releaseKind bytes (normal-form-passes rule bytes known) .most)
+    second (refused number place) known e = never-both e
+
+    first : (check : Check) → formStored (andThen check (λ _. normalForm rule)) form .answer ≡ accepted n → n ≤ ruleBytes
+    first (accepted u) e = second (normalForm rule) refl e
+    first (refused number place) e = never-both e
+
 -- of an accepted translate
 pub translated-small : (rule s t i : List ℕ) (c : Counts) → translated rule s t i .answer ≡ accepted c → Small c
 unfolding translated stored
 translated-small rule s t i c e =
-    first (andThen (tableCheck s t i) (λ _. Rule.checked rule)) e
+    first (andThen (tableCheck s t i) (λ _. writtenChecked rule)) e
   where
-    second : (r : Result Automaton) → translation rule ≡ r → stored r s t i .answer ≡ accepted c → Small c
+    second : (r : Result Automaton) → writtenTranslation rule ≡ r → stored r s t i .answer ≡ accepted c → Small c
     second (accepted a) known e =
-        let formed = translation-well-formed rule a known in
+        let formed = written-well-formed rule a known in
         let same : counts a ≡ c = cc in
         let together = few-together (length (a .states)) (a .states) (formed .each) in
         subst Small same
         (record { states = formed .states; transitions = omega (arith, formed .states); initial = formed .initial })
     second (refused number place) known e = never-both e
 
-    first : (check : Check) → unless check (stored (translation rule) s t i) s t i .answer ≡ accepted c → Small c
-    first (accepted u) e = second (translation rule) refl e
+    first : (check : Check) → unless check (stored (writtenTranslation rule) s t i) s t i .answer ≡ accepted c → Small c
+    first (accepted u) e = second (writtenTranslation rule) refl e
     first (refused number place) e = never-both e
 
 -- of an accepted read
@@ -96,8 +116,8 @@ pub writes-small : (c : Counts) (s t i image : List ℕ) (n : ℕ) → writes c 
     → n ≤ largestImage
 unfolding writes readTables
 writes-small c s t i image n e =
-    let done = writes-of _ n image (writes c s t i image .image)
-    (ap (λ (r : Result ℕ). buffer r (writes c s t i image .image)) e) in
+    let done = writes-of _ n image (writes c s t i image .bytes)
+    (ap (λ (r : Result ℕ). buffer r (writes c s t i image .bytes)) e) in
     let a = done .automaton in
     let tables = follows (tableCheck s t i) _ a (done .answer) in
     let room = follows (bufferCheck image) _ a (tables .answer) in
@@ -132,7 +152,7 @@ pub record CountsRead (packed : ℕ) (c : Counts) : Type 0 where
   pub transitions : transitionsOf packed ≡ c .transitions
   pub initial : initialOf packed ≡ c .initial
 
--- the image's length
+-- the length of what is stored
 abbrev pub LengthRead : (packed n : ℕ) → Type 0
 LengthRead packed n = lengthOf packed ≡ n
 
@@ -206,6 +226,13 @@ verdict-unpacks (accepted broken) p = unpacks-accepted 0 broken refl refl
 verdict-unpacks (refused number place) p = unpacks-refused number place (p .refusal number place refl)
 
 -- ---- the calls
+
+-- zimboralo_normalize
+pub normalize-unpacks : (rule form : List ℕ)
+    → Unpacks LengthRead (packLength (normalizes rule form .answer)) (normalizes rule form .answer)
+normalize-unpacks rule form =
+    length-unpacks (normalizes rule form .answer) (normalizes-proper rule form)
+    (λ n e. omega (arith, normalizes-small rule form n e))
 
 -- zimboralo_translate
 pub translate-unpacks : (rule s t i : List ℕ)

@@ -1,10 +1,10 @@
 -- An answer as one number of 64 bits. The lowest byte is the refusal's number, 0 where there is none. Above it stands
--- the refusal's place, or the values: the three counts, the image's length, or 1 for kept and 0 for broken.
+-- the refusal's place, or the values: the three counts, the length of what is stored, or 1 for kept and 0 for broken.
 use Prim.Native.Nat.{ℕ, _+_, _*_, _%_, _^_}
 use mathlib.Core.List.{List}
 use Rattle.answer.specs.Result.{Result, accepted, refused}
 use Rattle.automaton.specs.Tables.{Counts, Outcome}
-use Rattle.image.specs.Calls.{Buffer}
+use Rattle.answer.specs.Buffer.{Buffer}
 use Rattle.judge.specs.Judge.{Verdict, kept, broken, Judgement}
 use Rattle.demands.specs.Demand.{Decision}
 
@@ -51,7 +51,7 @@ packOutcome o = packedTables (packCounts (o .answer)) (o .states) (o .transition
 abbrev pub countsOf : (states transitions initial : ℕ) → Counts
 countsOf states transitions initial = record { states = states; transitions = transitions; initial = initial }
 
--- a packed answer with one lent slice afterwards: write's buffer, judge's working bytes
+-- a packed answer with one lent slice afterwards: the buffer of normalize or write, judge's working bytes
 pub record PackedSlice : Type 0 where
   pub answer : ℕ
   pub slice : List ℕ
@@ -60,7 +60,7 @@ abbrev pub packedSlice : ℕ → List ℕ → PackedSlice
 packedSlice a slice = record { answer = a; slice = slice }
 
 abbrev pub packBuffer : Buffer → PackedSlice
-packBuffer b = packedSlice (packLength (b .answer)) (b .image)
+packBuffer b = packedSlice (packLength (b .answer)) (b .bytes)
 
 abbrev pub packJudgement : Judgement → PackedSlice
 packJudgement j = packedSlice (packVerdict (j .answer)) (j .work)

@@ -1,16 +1,19 @@
 // The calls for C: numbers and byte slices, each slice a pointer and a length. An answer is packed into one number.
+use answer::Stored;
 use automaton::Counted;
 use automaton::Counts;
 use demands::decide;
-use image::WrittenImage;
 use image::read;
 use image::write;
 use judge::Judged;
 use judge::judge;
+use normalform::normalize;
 use translation::translate;
 ghost use mathlib.Core.Path.{_≡_};
+ghost use Rattle.normalform.specs.Normalize.{normalizes};
 ghost use Rattle.translation.specs.Translate.{translated};
-ghost use Rattle.image.specs.Calls.{readInto, writeAnswer, writes};
+ghost use Rattle.image.specs.Calls.{readInto, writes};
+ghost use Rattle.answer.specs.Buffer.{storedAnswer};
 ghost use Rattle.automaton.specs.Tables.{told};
 ghost use Rattle.judge.specs.Judge.{judgeAnswer, judged};
 ghost use Rattle.demands.specs.Demand.{decided};
@@ -34,7 +37,7 @@ fn pack_three(counts: Counts) -> u64
         + 4294967296 * ((counts.initial % 256) as u64)
 }
 
-// An image's length.
+// How many bytes are stored.
 fn pack_size(length: usize) -> u64
     ensures { λ r. ⌜ r ≡ packSize length ⌝ }
 {
@@ -51,13 +54,13 @@ fn pack_counted(counted: Counted) -> u64
     }
 }
 
-// The answer of write: the length, or the refusal.
-fn pack_written(written: WrittenImage) -> u64
-    ensures { λ r. ⌜ r ≡ packLength (writeAnswer written) ⌝ }
+// The answer of normalize or write: the length, or the refusal.
+fn pack_stored(stored: Stored) -> u64
+    ensures { λ r. ⌜ r ≡ packLength (storedAnswer stored) ⌝ }
 {
-    match written {
-        WrittenImage::Accepted(length) => pack_size(length),
-        WrittenImage::Refused(number, place) => pack_refusal(number, place),
+    match stored {
+        Stored::Accepted(length) => pack_size(length),
+        Stored::Refused(number, place) => pack_refusal(number, place),
     }
 }
 
@@ -72,7 +75,16 @@ fn pack_judged(judged: Judged) -> u64
     }
 }
 
-// The automaton of a rule, as records in the three tables. Its counts, or a refusal.
+// The normal form of a written rule, a first-edition rule, in the buffer. Its length, or a refusal.
+#[no_mangle]
+pub extern "C" fn zimboralo_normalize(rule: &[u8], first_edition: &mut [u8]) -> u64
+    ensures { λ r. ⌜ packedSlice r (now («first_edition» .exit))
+        ≡ packBuffer (normalizes (now (rule .entry)) (now («first_edition» .entry))) ⌝ }
+{
+    pack_stored(normalize(rule, first_edition))
+}
+
+// The automaton of a written rule, as records in the three tables. Its counts, or a refusal.
 #[no_mangle]
 pub extern "C" fn zimboralo_translate(
     rule: &[u8],
@@ -107,7 +119,7 @@ pub extern "C" fn zimboralo_write(
         transitions: transition_count,
         initial: initial_count,
     };
-    pack_written(write(states, transitions, initial, counts, image))
+    pack_stored(write(states, transitions, initial, counts, image))
 }
 
 // An image into three tables. Its counts, or a refusal.

@@ -1,16 +1,15 @@
--- A table that is filled with records from its front, then with zeros behind them.
--- Assumes nothing.
+-- A table that is filled with records from its front. Assumes nothing.
 use mathlib.Core.Path.{_≡_, refl, _∙_}
-use mathlib.Core.List.{List, [], _∷_, _++_, append-nil, append-assoc}
+use mathlib.Core.List.{List, [], _∷_, _++_, append-assoc}
 use mathlib.Core.Bool.{Bool, cond}
-use Prim.Native.Nat.{ℕ, suc, _+_, _-_, _*_, _≤_}
+use Prim.Native.Nat.{ℕ, suc, _+_, _*_, _≤_}
 use native.Mathlib.Numerals.{add-one}
 use native.Mathlib.Omega.{arith}
-use lib.ListN.{length, take, drop, set, replicate, length-append, length-drop, drop-of-length-le}
-use lib.Seq.{sets, sets-eq, take-at, take-all, length-take-le}
-use borrow.Rule.Slice.PartMut.{midOf, putMid}
+use lib.ListN.{length, take, set, length-append}
+use lib.Seq.{sets}
 use Rattle.automaton.specs.Records.{records, stateBytes, transitionBytes}
-use Rattle.answer.specs.Bytes.{twoBytes, filled}
+use Rattle.answer.specs.Bytes.{twoBytes}
+use Rattle.answer.proofs.Filling.{front-more}
 use Rattle.automaton.proofs.Records.{records-last}
 use Rattle.translation.specs.Memory.{AddsRecords}
 
@@ -19,11 +18,6 @@ unfolding twoBytes
 transition-length must mustNot target = refl
 
 -- ---- the front
-
--- bytes put right after the first at
-pub front-more : (table after : List ℕ) (at next : ℕ) (more : List ℕ) → next ≡ at + length more → next ≤ length table → after ≡ sets table at more → take next after ≡ take at table ++ more
-front-more table after at next more e fits put =
-    rw (put, sets-eq more table at (omega arith)) (take-at (take at table ++ more) (drop (at + length more) table) next (rw (length-append, length-take-le at table (omega arith)) (omega arith)))
 
 -- one record more
 pub front-record : {A : Type 0} (bytesOf : A → List ℕ) (xs : List A) (x : A) (table after : List ℕ) (at next : ℕ) → take at table ≡ records bytesOf xs → next ≡ at + length (bytesOf x) → next ≤ length table
@@ -51,16 +45,3 @@ adds-more before k bytes table m more after n a b = record {
   count = rw length-append (omega (arith, a .count, b .count));
   front = b .front ∙ rw (a .front) (append-assoc (take (k * 4) before) bytes more);
 }
-
--- ---- the zeros
-
--- zeros that came back in the place of the part from n on
-pub zeroed-behind : (xs ys : List ℕ) (n : ℕ) → n ≤ length xs → ys ≡ replicate (length (midOf n (length xs - n) xs)) 0 → putMid n (length xs - n) xs ys ≡ filled xs (take n xs)
-zeroed-behind xs ys n le e =
-    let part : take (length xs - n) (drop n xs) ≡ drop n xs = take-all (length xs - n) (drop n xs) (omega (arith, length-drop n xs)) in
-    let rest : drop (length xs - n) (drop n xs) ≡ [] = drop-of-length-le (drop n xs) {i = length xs - n} (omega (arith, length-drop n xs)) in
-    rw (e, part, rest, append-nil, length-drop n xs, length-take-le n xs le)
-
--- a table with these bytes in front, and zeros behind them
-pub filled-as : (before table after bytes : List ℕ) (n : ℕ) → take n table ≡ bytes → length table ≡ length before → after ≡ filled table (take n table) → after ≡ filled before bytes
-filled-as before table after bytes n front same e = e ∙ rw (front, same)

@@ -24,7 +24,8 @@ use Rattle.translation.specs.declared.Met.{Met}
 use Rattle.translation.specs.declared.Met.the-variants.{Number, Full}
 use Rattle.translation.specs.Memory.{codePlaces, targetN, codeNumbering, numberN, transitionN, PairsNumbered, NumberedPair, MeetsPair, AddsRecords, AddedRows}
 use Rattle.translation.proofs.Numbering.{seen, unseen, number-is}
-use Rattle.translation.proofs.Filling.{transition-length, front-more, adds-more}
+use Rattle.translation.proofs.Filling.{transition-length, adds-more}
+use Rattle.answer.proofs.Filling.{front-more}
 
 -- the pair at a place of those that are numbered
 module _ (pairs index : List ℕ) (n place : ℕ) (inv : PairsNumbered pairs index n) (lt : place < n) where

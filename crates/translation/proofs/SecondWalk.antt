@@ -43,7 +43,7 @@ use Rattle.translation.proofs.Mapped.{mapped, find-map, explore-map}
 use Rattle.translation.proofs.FirstWalk.{count-is, rows-of, row-is, parts-of, row-leads, initial-states}
 use Rattle.translation.proofs.Pairing.{targets-within}
 use Rattle.translation.proofs.Codes.{numbers-length, starts, starts-within}
-use Rattle.translation.proofs.Filling.{filled-as}
+use Rattle.answer.proofs.Filling.{filled-as}
 
 -- the state and the level of a code
 abbrev stateN : ℕ → ℕ

@@ -15,7 +15,8 @@ use Rattle.automaton.specs.Records.{records, numbered, numberedRecords, stateBy
 use Rattle.answer.specs.Bytes.{twoBytes, filled}
 use Rattle.translation.specs.Memory.{rowStart, rowCount, levelPlaces, pairBytes, InRows}
 use Rattle.translation.proofs.Within.{row-rises, row-few}
-use Rattle.translation.proofs.Filling.{front-record, filled-as}
+use Rattle.translation.proofs.Filling.{front-record}
+use Rattle.answer.proofs.Filling.{filled-as}
 use Rattle.automaton.proofs.Records.{numbered-last, number-length, state-length}
 
 -- ---- the initial numbers

@@ -1,13 +1,16 @@
 // The second walk, which makes the automaton of a rule, and the call translate: the automaton as records in three
 // tables that the caller lends.
 use answer::Checked;
+use answer::Stored;
 use answer::TABLE_TOO_SHORT;
 use answer::put_number;
 use answer::zero;
+use answer::zero_behind;
 use automaton::Counted;
 use automaton::Counts;
 use automaton::MAX_STATES;
 use automaton::tables_fit;
+use formula::MAX_BYTES;
 use generalized::GeneralizedNumber;
 use generalized::Walked;
 ghost use mathlib.Core.Path.{_≡_};
@@ -273,14 +276,6 @@ fn explore_pairs(
     Paired::Count(k, m)
 }
 
-// Zeros behind the first n bytes.
-fn zero_behind(table: &mut [u8], n: usize)
-    requires { ⌜ n ≤ length (now table) ⌝ }
-    ensures { λ _. ⌜ now (table .exit) ≡ filled (now (table .entry)) (take n (now (table .entry))) ⌝ }
-{
-    zero(&mut table[n..]);
-}
-
 // The byte of an accepting state, or of one that is not.
 fn flag(accepting: bool) -> u8
     ensures { λ r. ⌜ r ≡ cond accepting 1 0 ⌝ }
@@ -464,7 +459,7 @@ fn build_tabled(
     build(rule, &mut table, states, transitions, initial)
 }
 
-// The automaton of a rule in three tables.
+// The automaton of a written rule in three tables: that of its normal form.
 pub fn translate(
     rule: &[u8],
     states: &mut [u8],
@@ -477,9 +472,9 @@ pub fn translate(
     if !tables_fit(states.len(), transitions.len(), initial.len()) {
         return Counted::Refused(TABLE_TOO_SHORT, 0);
     }
-    let bytes = formula::check(rule);
-    if let Checked::Refused(number, place) = bytes {
-        return Counted::Refused(number, place);
+    let mut form = [0u8; MAX_BYTES];
+    match normalform::check_form(rule, &mut form) {
+        Stored::Refused(number, place) => Counted::Refused(number, place),
+        Stored::Accepted(n) => build_tabled(&form[..n], states, transitions, initial),
     }
-    build_tabled(rule, states, transitions, initial)
 }

@@ -1,4 +1,4 @@
--- `demands::decide` meets its contract: 25, 1 to 7, 8 and 9 in turn, each with every buffer as it was, then what
+-- `demands::decide` meets its contract: 25, 1 to 7 and 26, 8 and 9 in turn, each with every buffer as it was, then what
 -- `decide_checked` stores and says. Assumes nothing.
 use borrow.Author.Needs.{needs}
 use mathlib.Core.Path.{sym, ap, _∙_}

@@ -3,7 +3,7 @@
 use mathlib.Core.Path.{sym, ap}
 use lib.Seq.{length-take-le}
 use Rattle.automaton.specs.Tables.{told}
-use Rattle.image.specs.Calls.{writeAnswer}
+use Rattle.answer.specs.Buffer.{storedAnswer}
 use Rattle.demands.proofs.Deciding.{rule-refused, write-refused, image-inside, lasso-judged}
 use borrow.Author.Needs.{needs}
 use Rattle.demands.proofs.decide_checked.Statement.{statement}
@@ -20,7 +20,7 @@ slice-reshare-prefix-judge c =
     image-inside (a .rule .now) (a .stem .now) (a .cycle .now) (a .states .now) (a .transitions .now) (a .initial .now)
     (a .image .now) (a .work .now) (start .pre) _ _ _ (called .translate .ensures) _
     (ap told (matched .counts .given .1)) _ (stored .write .ensures) _
-    (ap writeAnswer (c .before .length .given .1))
+    (ap storedAnswer (c .before .length .given .1))
 
 slice-aggregate-judge : tie.Need-slice-aggregate-judge
 slice-aggregate-judge c = sym (length-take-le _ _ (slice-reshare-prefix-judge (c .before)))
@@ -42,7 +42,7 @@ returns-2 c =
     called .before .before .before .before .before .before .before .before .before .before .before .before in
     write-refused _ _ _ _ _ _ _ _ (start .pre) _ _ _ (called .translate .ensures) _
     (ap told (matched .counts .given .1)) _ (stored .write .ensures)
-    (ap writeAnswer (c .before .number2 .given .1))
+    (ap storedAnswer (c .before .number2 .given .1))
 
 returns-3 : tie.Need-returns-3
 returns-3 c =
@@ -53,7 +53,7 @@ returns-3 c =
     called .before .before .before .before .before .before .before .before .before .before .before .before in
     lasso-judged _ _ _ _ _ _ _ _ (start .pre) _ _ _ (called .translate .ensures) _
     (ap told (matched .counts .given .1)) _ (stored .write .ensures) _
-    (ap writeAnswer (c .before .before .before .before .before .before .length .given .1))
+    (ap storedAnswer (c .before .before .before .before .before .before .length .given .1))
     (c .before .before .judge .ensures)
 
 pub decide-checked-spec : {M : Type 1} → statement M

@@ -6,7 +6,7 @@ use Rattle.office.proofs.zimboralo_write.Statement.{statement}
 use Rattle.office.proofs.zimboralo_write.Tie as tie
 
 returns : tie.Need-returns
-returns c = packed-buffer _ _ _ _ (c .pack-written .ensures) (c .before .before .before .write .ensures)
+returns c = packed-buffer _ _ _ _ (c .pack-stored .ensures) (c .before .before .before .write .ensures)
 
 pub zimboralo-write-spec : {M : Type 1} → statement M
 zimboralo-write-spec =

@@ -2,18 +2,18 @@
 -- comes true does so within s + n positions. Assumes nothing.
 use Prim.Native.Nat.{ℕ, zero, suc, _+_, _-_, _/_, _%_, _^_, _<_, _≤_}
 use mathlib.Core.Path.{_≡_, refl, sym, subst}
-use mathlib.Core.Logic.{_⊎_, inl, inr}
+use mathlib.Core.Logic.{_⊎_, inl, inr, Dec·not}
 use native.Mathlib.Omega.{arith}
 use native.Mathlib.Decide.{ℕ-discrete, decLe}
 use Rattle.formula.specs.Formula.{Formula, bottom, top, proposition, negatedProposition, conjunction, disjunction, next, until, release}
 use Rattle.formula.specs.Satisfaction.{Holds}
-use Rattle.automaton.proofs.Positions.{Decided, some-dec}
+use Rattle.lasso.proofs.Positions.{Decided, some-dec}
 
 -- until and release of any two properties of positions
-abbrev Until : (P Q : ℕ → Type 0) → ℕ → Type 0
+abbrev pub Until : (P Q : ℕ → Type 0) → ℕ → Type 0
 Until P Q i = (k : ℕ) × (i ≤ k) × Q k × ((j : ℕ) → i ≤ j → j < k → P j)
 
-abbrev Release : (P Q : ℕ → Type 0) → ℕ → Type 0
+abbrev pub Release : (P Q : ℕ → Type 0) → ℕ → Type 0
 Release P Q i = (k : ℕ) → i ≤ k → (Q k ⊎ ((j : ℕ) × (i ≤ j) × (j < k) × P j))
 
 -- an until that comes true within d positions
@@ -110,12 +110,8 @@ module _ (s n : ℕ) (pos : 0 < n) where
       ]
 
   unfoldable pub release-dec : (P Q : ℕ → Type 0) → Repeats Q → Decided P → Decided Q → Decided (Release P Q)
-  release-dec P Q rq dp dq i = go (until-dec (λ j. P j → ⊥) (λ j. Q j → ⊥) (not-repeats Q rq) (λ j. flip (dp j)) (λ j. flip (dq j)) i)
+  release-dec P Q rq dp dq i = go (until-dec (λ j. P j → ⊥) (λ j. Q j → ⊥) (not-repeats Q rq) (λ j. Dec·not (dp j)) (λ j. Dec·not (dq j)) i)
     where
-      flip : {A : Type 0} → Dec A → Dec (A → ⊥)
-      flip (yes a) = no (λ f. f a)
-      flip (no f) = yes f
-
       go : Dec (Until (λ j. P j → ⊥) (λ j. Q j → ⊥) i) → Dec (Release P Q i)
       go (yes (k, l, h, f)) = no (λ r. elim (r k l) [ inl q ↦ h q | inr x ↦ f (x .0) (x .1) (x .2) (x .3) ])
       go (no u) = yes (λ k l. pick k l (dq k) (some-dec P dp (k - i) i))

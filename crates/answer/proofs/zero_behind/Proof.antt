@@ -1,9 +1,9 @@
--- `translation::zero_behind` meets its contract: the part from n on came back as zeros.
+-- `answer::zero_behind` meets its contract: the part from n on came back as zeros.
 -- Assumes nothing.
 use borrow.Author.Needs.{needs}
-use Rattle.translation.proofs.Filling.{zeroed-behind}
-use Rattle.translation.proofs.zero_behind.Statement.{statement}
-use Rattle.translation.proofs.zero_behind.Tie as tie
+use Rattle.answer.proofs.Filling.{zeroed-behind}
+use Rattle.answer.proofs.zero_behind.Statement.{statement}
+use Rattle.answer.proofs.zero_behind.Tie as tie
 
 returns : tie.Need-returns
 returns c = zeroed-behind _ _ _ (c .before .before .before .before .before .pre) (c .before .before .zero .ensures)

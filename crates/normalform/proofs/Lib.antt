@@ -1,0 +1,21 @@
+-- What is known of written rules and their normal form, for the crates above. Assumes nothing.
+pub mod Ranks
+pub mod Shape
+pub mod Fitting
+pub mod Meaning
+pub mod Nodes
+pub mod Sums
+pub mod Counts
+pub mod Placed
+pub mod Holds
+pub mod Passes
+pub mod Again
+pub mod FirstEdition
+pub mod Turns
+pub mod Flags
+pub mod Codes
+pub mod Walking
+pub mod Numbering
+pub mod Entries
+pub mod Writing
+pub mod Normalizing
