@@ -5,34 +5,27 @@ use mathlib.Core.List.{List}
 use mathlib.Core.Bool.{and-eq-true-iff}
 use native.Mathlib.Omega.{arith}
 use borrow.Author.Tests.{ltb-true}
-use Rattle.answer.specs.Result.{accepted, andThen, fine, lowest}
-use Rattle.answer.proofs.Lowest.{fine-first, fine-second, lowest-each}
+use Rattle.answer.specs.Result.{accepted, fine}
 use Rattle.answer.proofs.Results.{require-fine}
 use Rattle.automaton.specs.Automaton.{Automaton}
 use Rattle.automaton.specs.Tables.{Counts}
 use Rattle.answer.specs.Bytes.{numberAt}
-use Rattle.image.specs.Reader.{countsAt, stateCheck, sumCheck, transitionRecordCheck, initialCheck, recordsCheck}
+use Rattle.image.specs.Reader.{countsAt, transitionRecordCheck, initialCheck}
 use Rattle.image.specs.Calls.{checks}
 use Rattle.image.proofs.Contents.{Read, read-of, contents-fine, checks-of}
-use Rattle.image.proofs.Tables.{sum-fine}
+use Rattle.image.proofs.RecordsFit.{RecordsFit, fine-fit}
 use Rattle.image.specs.Lookup.{imageAutomaton, Readable}
 use Rattle.image.proofs.Lookup.{automaton-states, step-target, initial-state}
 use Rattle.automaton.proofs.InRange.{InRange}
 
-module _ (c : Counts) (s t i : List ℕ) (checked : recordsCheck c s t i ≡ fine) where
-  after-sum : andThen (lowest (transitionRecordCheck (c .states) t) (c .transitions)) (λ _. lowest (initialCheck (c .states) i) (c .initial)) ≡ fine
-  unfolding recordsCheck
-  after-sum = fine-second (sumCheck c s) _ (fine-second (lowest (stateCheck s) (c .states)) _ checked)
-
+module _ {c : Counts} {s t i : List ℕ} (fit : RecordsFit c s t i) where
   target-below : (k : ℕ) → k < c .transitions → numberAt t (4 * k + 2) < c .states
   unfolding transitionRecordCheck
-  target-below k lt =
-      let each = lowest-each (transitionRecordCheck (c .states) t) (c .transitions) (fine-first (lowest (transitionRecordCheck (c .states) t) (c .transitions)) _ after-sum) k lt in
-      ltb-true _ _ (and-eq-true-iff _ _ .0 (require-fine _ 12 k each) .0)
+  target-below k lt = ltb-true _ _ (and-eq-true-iff _ _ .0 (require-fine _ 12 k (fit .transitions k lt)) .0)
 
   initial-below : (k : ℕ) → k < c .initial → numberAt i (2 * k) < c .states
   unfolding initialCheck
-  initial-below k lt = go k (lowest-each (initialCheck (c .states) i) (c .initial) (fine-second (lowest (transitionRecordCheck (c .states) t) (c .transitions)) _ after-sum) k lt)
+  initial-below k lt = go k (fit .initial k lt)
     where
       go : (k : ℕ) → initialCheck (c .states) i k ≡ fine → numberAt i (2 * k) < c .states
       go zero e = ltb-true _ _ (require-fine _ 13 0 e)
@@ -41,12 +34,13 @@ module _ (c : Counts) (s t i : List ℕ) (checked : recordsCheck c s t i ≡ fin
 pub readable : {image : List ℕ} {a : Automaton} → Read image a → Readable image
 readable {image} read =
     let contents = contents-fine image (read .contents) in
+    let fit = fine-fit (countsAt image) _ _ _ (read .bodies) in
     record {
       few = contents .small .states;
       size = contents .size;
-      sum = sum-fine (countsAt image) _ _ _ (read .bodies);
-      targets = target-below (countsAt image) _ _ _ (read .bodies);
-      starts = initial-below (countsAt image) _ _ _ (read .bodies);
+      sum = fit .sum;
+      targets = target-below fit;
+      starts = initial-below fit;
     }
 
 pub known : (image : List ℕ) {c : Counts} → accepted c ≡ checks image → Readable image

@@ -6,14 +6,15 @@ use Prim.Native.Nat.{ℕ, zero, suc, _+_, _*_, _≤_, _<_}
 use native.Mathlib.Omega.{arith}
 use lib.ListN.{length, getD, take, drop, replicate, length-append, length-replicate, List·getD-append}
 use lib.Seq.{getD-drop, getD-take, length-take-le}
-use Rattle.answer.specs.Result.{accepted, Check, lowest}
+use Rattle.answer.specs.Result.{accepted}
 use Rattle.answer.proofs.Zeros.{zeros-at}
 use Rattle.automaton.specs.Automaton.{Automaton}
 use Rattle.automaton.specs.Tables.{Counts}
 use Rattle.answer.specs.Bytes.{numberAt}
 use Rattle.image.specs.Reader.{stateCheck, countSum, transitionRecordCheck, initialCheck, recordsCheck, transitionsFrom, statesFrom, numbersFrom, automatonFrom, readTables}
 use Rattle.image.proofs.Before.{follows}
-use Rattle.image.proofs.Tables.{Bytes, sum-first, sum-fine}
+use Rattle.image.proofs.RecordsFit.{RecordsFit, fine-fit, fit-fine}
+use Rattle.image.proofs.Tables.{Bytes, sum-first}
 
 -- the first n bytes are the same
 pub record Agree (n : ℕ) (xs ys : List ℕ) : Type 0 where
@@ -51,33 +52,25 @@ module _ {n : ℕ} {xs ys : List ℕ} (same : Agree n xs ys) where
   drops-agree : (m k : ℕ) → m + k ≤ n → Agree k (drop m xs) (drop m ys)
   drops-agree m k le = record { at = λ j lt. getD-drop m xs j 0 ∙ same .at (m + j) (omega arith) ∙ sym (getD-drop m ys j 0) }
 
-lowest-same : (f g : ℕ → Check) (n : ℕ) → ((k : ℕ) → k < n → f k ≡ g k) → lowest f n ≡ lowest g n
-unfolding lowest
-lowest-same f g zero same = refl
-lowest-same f g (suc n) same = rw (lowest-same f g n (λ k lt. same k (omega arith)), same n (omega arith))
-
 -- the checks
-module _ (n : ℕ) (xs ys : List ℕ) (same : Agree (4 * n) xs ys) where
-  states-checked : lowest (stateCheck xs) n ≡ lowest (stateCheck ys) n
+module _ (n : ℕ) (xs ys : List ℕ) (same : Agree (4 * n) xs ys) (k : ℕ) (lt : k < n) where
+  state-checked : stateCheck xs k ≡ stateCheck ys k
   unfolding stateCheck
-  states-checked = lowest-same (stateCheck xs) (stateCheck ys) n (λ k lt. rw (numbers-agree same (4 * k) (omega arith), same .at (4 * k + 2) (omega arith), same .at (4 * k + 3) (omega arith)))
+  state-checked = rw (numbers-agree same (4 * k) (omega arith), same .at (4 * k + 2) (omega arith), same .at (4 * k + 3) (omega arith))
 
-  transitions-checked : (m : ℕ) → lowest (transitionRecordCheck m xs) n ≡ lowest (transitionRecordCheck m ys) n
+  transition-checked : (m : ℕ) → transitionRecordCheck m xs k ≡ transitionRecordCheck m ys k
   unfolding transitionRecordCheck
-  transitions-checked m = lowest-same (transitionRecordCheck m xs) (transitionRecordCheck m ys) n (λ k lt. rw (numbers-agree same (4 * k + 2) (omega arith), same .at (4 * k) (omega arith), same .at (4 * k + 1) (omega arith)))
+  transition-checked m = rw (numbers-agree same (4 * k + 2) (omega arith), same .at (4 * k) (omega arith), same .at (4 * k + 1) (omega arith))
 
 sums-agree : (n : ℕ) (xs ys : List ℕ) → Agree (4 * n) xs ys → countSum xs n ≡ countSum ys n
 unfolding countSum
 sums-agree zero xs ys same = refl
 sums-agree (suc n) xs ys same = rw (sums-agree n xs ys (fewer-agree (4 * n) (omega arith) same), numbers-agree same (4 * n) (omega arith))
 
-initial-checked : (m n : ℕ) (xs ys : List ℕ) → Agree (2 * n) xs ys → lowest (initialCheck m xs) n ≡ lowest (initialCheck m ys) n
+initial-checked : (m n : ℕ) (xs ys : List ℕ) → Agree (2 * n) xs ys → (k : ℕ) → k < n → initialCheck m xs k ≡ initialCheck m ys k
 unfolding initialCheck
-initial-checked m n xs ys same = lowest-same (initialCheck m xs) (initialCheck m ys) n each
-  where
-    each : (k : ℕ) → k < n → initialCheck m xs k ≡ initialCheck m ys k
-    each zero lt = rw (numbers-agree same 0 (omega arith))
-    each (suc k) lt = rw (numbers-agree same (2 * suc k) (omega arith), numbers-agree same (2 * k) (omega arith))
+initial-checked m n xs ys same zero lt = rw (numbers-agree same 0 (omega arith))
+initial-checked m n xs ys same (suc k) lt = rw (numbers-agree same (2 * suc k) (omega arith), numbers-agree same (2 * k) (omega arith))
 
 -- the records
 transitions-read : (n : ℕ) (xs ys : List ℕ) → Agree (4 * n) xs ys → transitionsFrom n xs ≡ transitionsFrom n ys
@@ -102,14 +95,17 @@ states-read (suc n) xs ys us vs same match =
 
 -- tables that are read are read alike wherever they agree
 module _ (c : Counts) (s t i s₁ t₁ i₁ : List ℕ) (states : Agree (4 * c .states) s s₁) (transitions : Agree (4 * c .transitions) t t₁) (initial : Agree (2 * c .initial) i i₁) where
-  records-agree : recordsCheck c s t i ≡ recordsCheck c s₁ t₁ i₁
-  unfolding recordsCheck
-  records-agree =
-      rw (states-checked (c .states) s s₁ states, sums-agree (c .states) s s₁ states, transitions-checked (c .transitions) t t₁ transitions (c .states), initial-checked (c .states) (c .initial) i i₁ initial)
+  records-agree : RecordsFit c s t i → RecordsFit c s₁ t₁ i₁
+  records-agree fit = record {
+    states = λ k lt. sym (state-checked (c .states) s s₁ states k lt) ∙ fit .states k lt;
+    sum = sym (sums-agree (c .states) s s₁ states) ∙ fit .sum;
+    transitions = λ k lt. sym (transition-checked (c .transitions) t t₁ transitions k lt (c .states)) ∙ fit .transitions k lt;
+    initial = λ k lt. sym (initial-checked (c .states) (c .initial) i i₁ initial k lt) ∙ fit .initial k lt;
+  }
 
   pub tables-agree : (a : Automaton) → readTables c s t i ≡ accepted a → readTables c s₁ t₁ i₁ ≡ accepted a
   unfolding readTables automatonFrom
   tables-agree a e =
       let read = follows (recordsCheck c s t i) (accepted (automatonFrom c s t i)) a e in
-      let sum = sum-fine c s t i (read .passed) in
-      rw (← records-agree, read .passed, ← states-read (c .states) s s₁ t t₁ states (rw sum transitions), ← numbers-read (c .initial) i i₁ initial) (read .answer)
+      let fit = fine-fit c s t i (read .passed) in
+      rw (fit-fine c s₁ t₁ i₁ (records-agree fit), ← states-read (c .states) s s₁ t t₁ states (rw (fit .sum) transitions), ← numbers-read (c .initial) i i₁ initial) (read .answer)

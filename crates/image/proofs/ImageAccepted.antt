@@ -10,7 +10,7 @@ use lib.ListN.{getD, length, length-append}
 use lib.Dec.{leb}
 use lib.Bits.{bitAnd}
 use borrow.Author.Tests.{lt-ltb, le-leb, eq-eqb}
-use Rattle.answer.specs.Result.{accepted, Check, fine, lowest}
+use Rattle.answer.specs.Result.{accepted, fine}
 use Rattle.automaton.specs.Automaton.{Transition, State, Automaton, noState}
 use Rattle.sets.specs.Sets.{In}
 use Rattle.automaton.specs.Limits.{maxStates, maxOfState, maxTransitions, maxInitial}
@@ -18,20 +18,15 @@ use Rattle.automaton.specs.Records.{records, stateRecord, transitionRecord, sta
 use Rattle.answer.specs.Bytes.{twoBytes, numberAt}
 use Rattle.automaton.specs.Tables.{counts, transitionCount}
 use Rattle.image.specs.Image.{imageBytes}
-use Rattle.image.specs.Reader.{countsFit, stateCheck, sumCheck, transitionRecordCheck, initialCheck}
-use Rattle.image.specs.Reader.{recordsCheck, automatonFrom, readTables, readImage}
+use Rattle.image.specs.Reader.{countsFit, stateCheck, transitionRecordCheck, initialCheck}
+use Rattle.image.specs.Reader.{automatonFrom, readTables, readImage}
 use Rattle.sets.proofs.Members.{at-in, append-in}
 use Rattle.automaton.proofs.WellFormed.{WellFormed, few-together}
 use Rattle.automaton.proofs.Records.{records-append, byte-at, number-at, number-length, transition-length, state-byte-at, state-number-at}
+use Rattle.image.proofs.RecordsFit.{RecordsFit, fit-fine}
 use Rattle.image.proofs.Sizes.{states-size, transitions-size, initial-size}
 use Rattle.image.proofs.Images.{row-read}
 use Rattle.image.proofs.ReadRecords.{number-read, numbers-read, states-read, counts-add}
-
--- checks that are fine each are fine together
-each-fine : (check : ℕ → Check) (n : ℕ) → ((k : ℕ) → k < n → check k ≡ fine) → lowest check n ≡ fine
-unfolding lowest
-each-fine check zero h = refl
-each-fine check (suc n) h = rw (each-fine check n (λ k l. h k (omega arith))) (h n (omega arith))
 
 -- ---- the transitions of all states, one after another
 together : List State → List Transition
@@ -143,19 +138,18 @@ module _ (a : Automaton) (formed : WellFormed a) where
 
   -- ---- the three bodies, each with what follows it
   module _ (s t i : List ℕ) where
-    sum-fine : sumCheck (counts a) (stateRecords a ++ s) ≡ fine
+    records-fit : RecordsFit (counts a) (stateRecords a ++ s) (transitionRecords a ++ t) (initialRecords a ++ i)
     unfolding stateRecords
-    sum-fine = rw (counts-add, eq-eqb (transitionCount (a .states)) (transitionCount (a .states)) refl)
-
-    records-fine : recordsCheck (counts a) (stateRecords a ++ s) (transitionRecords a ++ t) (initialRecords a ++ i) ≡ fine
-    unfolding recordsCheck
-    records-fine =
-        rw (each-fine (stateCheck (stateRecords a ++ s)) (length (a .states)) (state-fine s), sum-fine, each-fine (transitionRecordCheck (length (a .states)) (transitionRecords a ++ t)) (transitionCount (a .states)) (transition-fine t))
-        (each-fine (initialCheck (length (a .states)) (initialRecords a ++ i)) (length (a .initial)) (initial-fine i))
+    records-fit = record {
+      states = state-fine s;
+      sum = counts-add 0 (a .states) s;
+      transitions = transition-fine t;
+      initial = initial-fine i;
+    }
 
     pub tables-read : readTables (counts a) (stateRecords a ++ s) (transitionRecords a ++ t) (initialRecords a ++ i) ≡ accepted a
     unfolding readTables
-    tables-read = rw records-fine (ap accepted (automaton-read a s t i))
+    tables-read = rw (fit-fine _ _ _ _ records-fit) (ap accepted (automaton-read a s t i))
 
 -- what the reader makes of an automaton's image is that automaton
 pub image-accepted : (a : Automaton) → WellFormed a → readImage (imageBytes a) ≡ accepted a

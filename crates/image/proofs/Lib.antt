@@ -2,6 +2,7 @@
 pub mod Before
 pub mod Tests
 pub mod Sums
+pub mod RecordsFit
 pub mod Rising
 pub mod Stores
 pub mod Contents

@@ -7,17 +7,15 @@ use native.Mathlib.Omega.{arith}
 use lib.ListN.{length, getD, take, drop, length-drop}
 use lib.Seq.{getD-drop, take-add}
 use lib.Dec.{eqb}
-use borrow.Author.Tests.{eqb-true}
-use Rattle.answer.specs.Result.{fine, lowest}
-use Rattle.answer.proofs.Lowest.{fine-first, fine-second, lowest-each}
-use Rattle.answer.proofs.Results.{require-fine}
+use Rattle.answer.specs.Result.{fine}
 use Rattle.automaton.specs.Records.{records, numbered, numberedRecords, stateRecord, transitionRecord, stateRecords, transitionRecords, initialRecords}
 use Rattle.answer.specs.Bytes.{twoBytes, numberAt}
 use Rattle.automaton.specs.Tables.{Counts, counts, transitionCount}
 use Rattle.image.specs.Image.{imageLength, imageBytes}
 use Rattle.image.specs.Memory.{joinedBodies}
-use Rattle.image.specs.Reader.{stateCheck, countSum, sumCheck, recordsCheck, transitionsFrom, statesFrom, numbersFrom, automatonFrom}
+use Rattle.image.specs.Reader.{countSum, recordsCheck, transitionsFrom, statesFrom, numbersFrom, automatonFrom}
 use Rattle.image.proofs.Sums.{StateFits, state-fine}
+use Rattle.image.proofs.RecordsFit.{RecordsFit, fine-fit}
 use Rattle.image.proofs.Sizes.{image-size}
 
 -- a list of bytes
@@ -137,17 +135,9 @@ grouped-bytes (suc n) s t b le =
 
 -- what 11 to 13 say of the counts
 module _ (c : Counts) (s t i : List ℕ) (checked : recordsCheck c s t i ≡ fine) where
-  states-fine : lowest (stateCheck s) (c .states) ≡ fine
-  unfolding recordsCheck
-  states-fine = fine-first (lowest (stateCheck s) (c .states)) _ checked
-
-  pub sum-fine : countSum s (c .states) ≡ c .transitions
-  unfolding recordsCheck
-  sum-fine = eqb-true (countSum s (c .states)) (c .transitions) (require-fine _ 11 (c .states) (fine-first (sumCheck c s) _ (fine-second (lowest (stateCheck s) (c .states)) _ checked)))
-
   pub counts-back : counts (automatonFrom c s t i) ≡ c
   unfolding automatonFrom
-  counts-back = rw (states-length (c .states) s t, states-count (c .states) s t, sum-fine, numbers-length (c .initial) i)
+  counts-back = rw (states-length (c .states) s t, states-count (c .states) s t, fine-fit c s t i checked .sum, numbers-length (c .initial) i)
 
 -- three tables that hold the records of c and pass 11 to 13
 pub record Passed (c : Counts) (s t i : List ℕ) : Type 0 where
@@ -160,16 +150,16 @@ pub record Passed (c : Counts) (s t i : List ℕ) : Type 0 where
   pub checked : recordsCheck c s t i ≡ fine
 
 module _ (c : Counts) (s t i : List ℕ) (passed : Passed c s t i) where
-  sum : countSum s (c .states) ≡ c .transitions
-  sum = sum-fine c s t i (passed .checked)
+  fit : RecordsFit c s t i
+  fit = fine-fit c s t i (passed .checked)
 
   pub states-back : stateRecords (automatonFrom c s t i) ≡ take (4 * c .states) s
   unfolding stateRecords automatonFrom
-  states-back = states-bytes 0 (c .states) s t (passed .state-bytes) (passed .state-room) (λ k lt. state-fine s k (lowest-each (stateCheck s) (c .states) (states-fine c s t i (passed .checked)) k lt))
+  states-back = states-bytes 0 (c .states) s t (passed .state-bytes) (passed .state-room) (λ k lt. state-fine s k (fit .states k lt))
 
   pub transitions-back : transitionRecords (automatonFrom c s t i) ≡ take (4 * c .transitions) t
   unfolding transitionRecords automatonFrom
-  transitions-back = grouped-bytes (c .states) s t (passed .transition-bytes) (rw sum (passed .transition-room)) ∙ rw sum
+  transitions-back = grouped-bytes (c .states) s t (passed .transition-bytes) (rw (fit .sum) (passed .transition-room)) ∙ rw (fit .sum)
 
   pub initial-back : initialRecords (automatonFrom c s t i) ≡ take (2 * c .initial) i
   unfolding initialRecords automatonFrom
