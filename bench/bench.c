@@ -1,5 +1,5 @@
 /* bench FILE REPEAT: the sum of the answers and the nanoseconds of one round over the cases of FILE, the best of REPEAT.
- * The cases are those of tests/host/serve.c, T and J alone. */
+ * The cases are those of tests/host/serve.c, T, J and R alone; R reads an image and writes nothing. */
 #include <stdio.h>
 #include <stdlib.h>
 #include <time.h>
@@ -24,6 +24,8 @@ static uint64_t answer(const struct one *c)
     const struct slice *s = c->slices;
     if (c->kind == 'T')
         return zimboralo_translate_rule(s[0].at, s[0].length, &tables);
+    if (c->kind == 'R')
+        return zimboralo_read_image(s[0].at, s[0].length, &tables);
     return zimboralo_judge(s[0].at, s[0].length, s[1].at, s[1].length, s[2].at, s[2].length, work, sizeof work);
 }
 
@@ -50,7 +52,7 @@ int main(int count, char **words)
     size_t n = 0;
     for (long at = 0; at < size; n++) {
         cases[n].kind = bytes[at++];
-        for (int k = 0; k < (cases[n].kind == 'T' ? 1 : 3); k++) {
+        for (int k = 0; k < (cases[n].kind == 'J' ? 3 : 1); k++) {
             size_t length = bytes[at] | (size_t)bytes[at + 1] << 8 | (size_t)bytes[at + 2] << 16 | (size_t)bytes[at + 3] << 24;
             cases[n].slices[k] = (struct slice){bytes + at + 4, length};
             at += 4 + (long)length;

@@ -1,4 +1,4 @@
-"""The benchmark's inputs, a file of cases for each group, in the form that tests/host/serve.c reads (T and J)."""
+"""The benchmark's inputs, a file of cases for each group, in the form that tests/host/serve.c reads (T, J and R)."""
 import os
 import random
 import struct
@@ -66,16 +66,19 @@ def theta_written(n):
 
 MOST = second.max_slots()
 
+# how many images are loaded one after another
+LOADED = 200
+
 # rules that no letters keep or break: their runs never end, and none comes to rest
 UNDECIDED = [fairness(n) for n in (1, 2, 3, 4)] + [responses(n) for n in (1, 2, 3)]
 
 FORMULAS = [(f"theta_{n}", *theta(n)) for n in (1, 2, 3)] + [(f"phi_{n}", *phi(n)) for n in (2, 3, 4, 5)]
 
 
-def full_image(states=96, row=128):
+def full_image(states=96, row=128, seed=0):
     """An automaton with as many transitions as fit, of which most letters take about half; one state accepts, so that
     every letter is read."""
-    rng = random.Random(states * 1000 + row)
+    rng = random.Random(states * 1000 + row + 1000000 * seed)
     rows = [(q == states - 1, [(rng.choice((0, 0, 1, 2)), rng.choice((0, 4)), rng.randrange(states)) for _ in range(row)])
             for q in range(states)]
     return second.write(second.Watcher(rows, [0]))
@@ -96,6 +99,10 @@ def translations(cases):
 
 def plans(cases):
     return b"".join(framed(b"J", *case) for case in cases)
+
+
+def loads(images, kind=b"R"):
+    return b"".join(framed(kind, image) for image in images)
 
 
 def accepted_rules(draw, seed, count):
@@ -140,6 +147,13 @@ def editions():
     for name, cases in (("theta_1 to theta_3", [theta_written(n) for n in (1, 2, 3)]),
                         ("200 random rules", accepted_rules(written.random_rule, 7, 200))):
         yield name, translations(cases), translations(map(written.normal_form, cases))
+
+
+def loading():
+    """Name of each group of images to load, and its cases for one and for two passes over the state records."""
+    for row in (1, 128):
+        images = [full_image(row=row, seed=seed) for seed in range(LOADED)]
+        yield f"{LOADED} images of 96 states with {96 * row:,} transitions", loads(images), loads(images, b"r")
 
 
 def by_letters():

@@ -1,4 +1,4 @@
-//! The peer of the benchmark: the same translation and the same judging in idiomatic Rust, with the standard library
+//! The peer of the benchmark: the same translation, loading and judging in idiomatic Rust, with the standard library
 //! alone. It is compared with the second translator by `bench/run` before it is timed.
 #[derive(Clone, Copy, PartialEq, Eq)]
 pub struct Refusal {
@@ -398,8 +398,8 @@ fn number_at(bytes: &[u8], i: usize) -> usize {
     u16::from_le_bytes([bytes[i], bytes[i + 1]]) as usize
 }
 
-/// The automaton of an image, or its refusal by 10 to 13.
-pub fn read(image: &[u8]) -> Answer<Automaton> {
+/// The records of states, transitions and initial numbers of an image, or its refusal by 10.
+fn bodies(image: &[u8]) -> Answer<[&[u8]; 3]> {
     if image.len() < 18 {
         return refuse(10, 0);
     }
@@ -414,42 +414,80 @@ pub fn read(image: &[u8]) -> Answer<Automaton> {
     {
         return refuse(10, 0);
     }
-    let mut sizes = Vec::with_capacity(a);
-    for (i, r) in image[o1..o2].chunks(4).enumerate() {
-        let size = number_at(r, 0);
-        if size > 128 || r[2] > 1 || r[3] != 0 {
-            return refuse(11, i);
-        }
-        sizes.push((size, r[2] == 1));
-    }
-    if sizes.iter().map(|s| s.0).sum::<usize>() != b {
-        return refuse(11, a);
-    }
-    let mut records = Vec::with_capacity(b);
-    for (i, r) in image[o2..o3].chunks(4).enumerate() {
-        let target = number_at(r, 2);
-        if target >= a || r[0] & r[1] != 0 {
-            return refuse(12, i);
-        }
-        records.push((r[0], r[1], target as u16));
-    }
-    let mut initial: Vec<u16> = Vec::with_capacity(c);
-    for (i, r) in image[o3..].chunks(2).enumerate() {
-        let x = number_at(r, 0);
-        if x >= a || initial.last().is_some_and(|&last| x <= last as usize) {
-            return refuse(13, i);
-        }
-        initial.push(x as u16);
-    }
-    let mut rest = records.into_iter();
-    let states = sizes
-        .into_iter()
-        .map(|(size, accepting)| State { accepting, transitions: rest.by_ref().take(size).collect() })
-        .collect();
-    Ok(Automaton { states, initial })
+    Ok([&image[o1..o2], &image[o2..o3], &image[o3..]])
 }
 
-/// Cases as `tests/host/serve.c` reads them, T and J alone.
+fn state_fits(record: &[u8]) -> bool {
+    number_at(record, 0) <= 128 && record[2] <= 1 && record[3] == 0
+}
+
+/// The state records in one pass: the lowest that does not fit, or the sum of the counts.
+fn in_one(records: &[u8]) -> Answer<usize> {
+    let mut sum = 0;
+    for (i, record) in records.chunks_exact(4).enumerate() {
+        if !state_fits(record) {
+            return refuse(11, i);
+        }
+        sum += number_at(record, 0);
+    }
+    Ok(sum)
+}
+
+/// The same in two passes, the first over the bytes and the second over the counts.
+fn in_two(records: &[u8]) -> Answer<usize> {
+    match records.chunks_exact(4).position(|record| !state_fits(record)) {
+        Some(i) => refuse(11, i),
+        None => Ok(records.chunks_exact(4).map(|record| number_at(record, 0)).sum()),
+    }
+}
+
+/// The three bodies of an image, or its refusal by 10 to 13; the state records are looked at by the function given.
+fn check(image: &[u8], pass: impl Fn(&[u8]) -> Answer<usize>) -> Answer<[&[u8]; 3]> {
+    let [states, transitions, initial] = bodies(image)?;
+    let count = states.len() / 4;
+    if pass(states)? != transitions.len() / 4 {
+        return refuse(11, count);
+    }
+    if let Some(i) = transitions.chunks_exact(4).position(|r| number_at(r, 2) >= count || r[0] & r[1] != 0) {
+        return refuse(12, i);
+    }
+    let mut least = 0;
+    for (i, r) in initial.chunks_exact(2).enumerate() {
+        let number = number_at(r, 0);
+        if number >= count || number < least {
+            return refuse(13, i);
+        }
+        least = number + 1;
+    }
+    Ok([states, transitions, initial])
+}
+
+/// The automaton of an image, or its refusal by 10 to 13.
+pub fn read(image: &[u8]) -> Answer<Automaton> {
+    let [states, transitions, initial] = check(image, in_one)?;
+    let mut rest = transitions.chunks_exact(4).map(|r| (r[0], r[1], number_at(r, 2) as u16));
+    let states = states
+        .chunks_exact(4)
+        .map(|r| State { accepting: r[2] == 1, transitions: rest.by_ref().take(number_at(r, 0)).collect() })
+        .collect();
+    Ok(Automaton { states, initial: initial.chunks_exact(2).map(|r| number_at(r, 0) as u16).collect() })
+}
+
+/// The image's records in the caller's tables, and how many there are of each.
+fn load(image: &[u8], pass: impl Fn(&[u8]) -> Answer<usize>, tables: &mut Tables) -> Answer<[usize; 3]> {
+    let [states, transitions, initial] = check(image, pass)?;
+    for (table, body) in [
+        (&mut tables.states[..], states),
+        (&mut tables.transitions[..], transitions),
+        (&mut tables.initial[..], initial),
+    ] {
+        table[..body.len()].copy_from_slice(body);
+        table[body.len()..].fill(0);
+    }
+    Ok([states.len() / 4, transitions.len() / 4, initial.len() / 2])
+}
+
+/// Cases as `tests/host/serve.c` reads them, T, J and R alone; and r, which is R with two passes over state records.
 fn cases(bytes: &[u8]) -> Vec<(u8, Vec<&[u8]>)> {
     let mut out = Vec::new();
     let mut at = 0;
@@ -457,7 +495,7 @@ fn cases(bytes: &[u8]) -> Vec<(u8, Vec<&[u8]>)> {
         let kind = bytes[at];
         at += 1;
         let mut slices = Vec::new();
-        for _ in 0..if kind == b'T' { 1 } else { 3 } {
+        for _ in 0..if kind == b'J' { 3 } else { 1 } {
             let n = u32::from_le_bytes(bytes[at..at + 4].try_into().unwrap()) as usize;
             slices.push(&bytes[at + 4..at + 4 + n]);
             at += 4 + n;
@@ -470,21 +508,22 @@ fn cases(bytes: &[u8]) -> Vec<(u8, Vec<&[u8]>)> {
 /// What a case comes to, as one number, so that both sides can be held against each other.
 fn answer(kind: u8, slices: &[&[u8]], tables: &mut Tables) -> u64 {
     let refused = |r: Refusal| r.number as u64 + 256 * r.place as u64;
-    if kind == b'T' {
-        return match translate(slices[0]) {
-            Ok(a) => {
-                tables.fill(&a);
-                let total: usize = a.states.iter().map(|s| s.transitions.len()).sum();
-                256 * a.states.len() as u64 + 65536 * total as u64 + (1 << 32) * a.initial.len() as u64
-            }
+    let counted = |[states, transitions, initial]: [usize; 3]| {
+        256 * states as u64 + 65536 * transitions as u64 + (1 << 32) * initial as u64
+    };
+    match kind {
+        b'T' => translate(slices[0]).map_or_else(refused, |a| {
+            tables.fill(&a);
+            counted([a.states.len(), a.states.iter().map(|s| s.transitions.len()).sum(), a.initial.len()])
+        }),
+        b'R' => load(slices[0], in_one, tables).map_or_else(refused, counted),
+        b'r' => load(slices[0], in_two, tables).map_or_else(refused, counted),
+        _ => match read(slices[0]) {
             Err(r) => refused(r),
-        };
-    }
-    match read(slices[0]) {
-        Err(r) => refused(r),
-        Ok(_) if slices[2].is_empty() => 8,
-        Ok(_) if slices[1].len() + slices[2].len() > 336 => 9,
-        Ok(a) => 256 * judge(&a, slices[1], slices[2]) as u64,
+            Ok(_) if slices[2].is_empty() => 8,
+            Ok(_) if slices[1].len() + slices[2].len() > 336 => 9,
+            Ok(a) => 256 * judge(&a, slices[1], slices[2]) as u64,
+        },
     }
 }
 

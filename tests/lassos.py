@@ -51,10 +51,27 @@ def image_of_rule(rng):
             continue
 
 
+# what each byte of a state record is changed to, some of it right and some wrong
+STATE_BYTES = ((0, 1, 2, 128, 129, 255), (0, 1), (0, 1, 2, 255), (0, 1, 255))
+
+
+def damage_states(rng, records, count):
+    """Moves a transition from one of the first state records to another, which leaves the sum; or changes up to four
+    bytes of them, so that several may be faulty and the sum may be wrong as well."""
+    giving = [4 * q for q in range(count) if records[4 * q]]
+    if giving and rng.random() < .3:
+        records[rng.choice(giving)] -= 1
+        records[4 * rng.randrange(count)] += 1
+        return
+    for _ in range(rng.randrange(1, 5) if count else 0):
+        k = rng.randrange(4)
+        records[4 * rng.randrange(count) + k] = rng.choice(STATE_BYTES[k])
+
+
 def damaged(rng, image):
-    """The image with a byte changed, cut, grown, or a count or an offset moved."""
+    """The image with a byte changed, cut, grown, a count or an offset moved, or its state records changed."""
     out = bytearray(image)
-    way = rng.randrange(5)
+    way = rng.randrange(6)
     if way == 0 and out:
         out[rng.randrange(len(out))] = rng.randrange(256)
     elif way == 1:
@@ -63,6 +80,11 @@ def damaged(rng, image):
         del out[rng.randrange(len(out)):]
     elif way == 3:
         out += bytes(rng.randrange(1, 4))
+    elif way == 4:
+        count = out[2]
+        records = out[18:18 + 4 * count]
+        damage_states(rng, records, count)
+        out[18:18 + 4 * count] = records
     else:
         at = 18 + rng.randrange(max(1, len(out) - 18))
         if at < len(out):
@@ -83,9 +105,12 @@ def changed(image, at, byte):
     return image[:at] + bytes((byte,)) + image[at + 1:]
 
 
-# images that are wrong, with the refusal's number and place; the second is as long as two bytes can say
+# images that are wrong, with the refusal's number and place; the second is as long as two bytes can say. Of two faulty
+# state records the lower is told, and a faulty one before a sum that is wrong as well.
+SUM_OVER = changed(EVENTUALLY, 18, EVENTUALLY[18] + 1)
 FAULTS = [(EVENTUALLY[:-1], (10, 0)), (EVENTUALLY.ljust(65535, b"\0"), (10, 0)), (changed(EVENTUALLY, 24, 2), (11, 1)),
-          (changed(EVENTUALLY, 36, 2), (12, 2)), (changed(EVENTUALLY, 38, 2), (13, 0))]
+          (changed(changed(EVENTUALLY, 20, 2), 25, 1), (11, 0)), (changed(SUM_OVER, 24, 2), (11, 1)),
+          (SUM_OVER, (11, 2)), (changed(EVENTUALLY, 36, 2), (12, 2)), (changed(EVENTUALLY, 38, 2), (13, 0))]
 
 # how many letters stem and cycle have, at the limit of 336 together: within it, and past it or empty with the refusal; the
 # last stems are as long as two bytes can say, and the last cycles longer than what is read
@@ -114,7 +139,8 @@ def any_image(rng):
 
 
 def any_tables(rng):
-    """Counts and three tables for the writer: those of an image, whole or with a byte or a count changed."""
+    """Counts and three tables for the writer: those of an image, whole or with a byte, a count or state records
+    changed."""
     image = image_of_rule(rng)[1] if rng.random() < .5 else second.write(hand_made(rng))
     a, b, c = (image[i] + 256 * image[i + 1] for i in (2, 8, 14))
     parts = (image[18:18 + 4 * a], image[18 + 4 * a:18 + 4 * a + 4 * b], image[18 + 4 * a + 4 * b:])
@@ -126,6 +152,8 @@ def any_tables(rng):
         table[rng.randrange(min(len(table), 64))] = rng.choice((0, 1, 2, 129, rng.randrange(256)))
     elif way < .6:
         counts[rng.randrange(3)] = rng.choice((0, 1, 96, 97, 12288, 12289, rng.randrange(70000)))
+    elif way < .75:
+        damage_states(rng, tables[0], a)
     return tuple(counts), [bytes(t) for t in tables]
 
 

@@ -1,7 +1,7 @@
 /* Every lent buffer at its exact smallest size between guard bytes that must stay as they were; and one byte shorter,
  * which is refused by 25 with every byte as it was. The functions over structs against the plain calls, the header's
- * limits against what the library takes, and the bytes of rules in negation normal form. Prints one line and exits 1
- * where something is wrong. */
+ * limits against what the library takes, the bytes of rules in negation normal form, and refusal 11 at every state
+ * record. Prints one line and exits 1 where something is wrong. */
 #include <stdio.h>
 #include <stdlib.h>
 #include <string.h>
@@ -462,6 +462,54 @@ static void normal_forms(void)
     normalize(too_long, sizeof too_long, ZIMBORALO_TOO_LONG, NULL);
 }
 
+/* An answer if it refuses, else ZIMBORALO_ACCEPTED alone. */
+static uint64_t refusal(uint64_t answer) { return accepted(answer) ? ZIMBORALO_ACCEPTED : answer; }
+
+/* Read, judge and write refuse 96 states with these records, 96 transitions and an initial number in this way, or accept
+ * them. */
+static void states(const uint8_t *records, uint64_t want)
+{
+    enum { COUNT = ZIMBORALO_MAX_STATES, RECORDS = ZIMBORALO_CONTENTS_BYTES, EDGES = RECORDS + 4 * COUNT,
+           FIRST = EDGES + 4 * COUNT };
+    static const uint8_t edges[ZIMBORALO_TRANSITIONS_BYTES] = {0}, first[ZIMBORALO_INITIAL_BYTES] = {0}, cycle[] = {0};
+    uint8_t bytes[FIRST + 2] = {1, 0, COUNT, 0, RECORDS, 0, 2, 0, COUNT, 0, EDGES % 256, EDGES / 256,
+                                3, 0, 1, 0, FIRST % 256, FIRST / 256};
+    memcpy(bytes + RECORDS, records, ZIMBORALO_STATES_BYTES);
+    uint64_t loaded = read_image(bytes, sizeof bytes, BUFFERS);
+    expect(refusal(loaded) == want, "read on state records", "another answer");
+    uint64_t judged = judge(bytes, sizeof bytes, cycle, 0, cycle, 1, BUFFERS);
+    expect(refusal(judged) == want, "judge on state records", "another answer");
+    uint64_t written = zimboralo_write(records, ZIMBORALO_STATES_BYTES, COUNT, edges, sizeof edges, COUNT, first,
+                                       sizeof first, 1, lent(IMAGE), SIZES[IMAGE]);
+    expect(refusal(written) == want, "write on state records", "another answer");
+}
+
+/* 11 in its order: the lowest faulty record, by each of its bytes, alone and with all behind it faulty; then the sum,
+ * at the place behind the last record, by each record's count. Every lent buffer is as it was. */
+static void state_records(void)
+{
+    static const uint8_t wrong_byte[4] = {129, 1, 2, 1}, wrong_count[4] = {0, 2, 127, 128};
+    uint8_t sound[ZIMBORALO_STATES_BYTES] = {0}, faulty[sizeof sound];
+    for (size_t i = 0; i < sizeof sound; i += 4)
+        sound[i] = 1;
+    states(sound, ZIMBORALO_ACCEPTED);
+    refill();
+    for (size_t at = 0; at < sizeof sound; at += 4) {
+        uint64_t record = ZIMBORALO_BAD_STATE | (uint64_t)(at / 4) << 8;
+        for (size_t k = 0; k < 4; k++) {
+            memcpy(faulty, sound, sizeof sound);
+            faulty[at] = wrong_count[k];
+            states(faulty, ZIMBORALO_BAD_STATE | (uint64_t)ZIMBORALO_MAX_STATES << 8);
+            faulty[at + k] = wrong_byte[k];
+            states(faulty, record);
+            for (size_t i = at + 4; i < sizeof sound; i += 4)
+                faulty[i + (k + i / 4) % 4] = wrong_byte[(k + i / 4) % 4];
+            states(faulty, record);
+        }
+        expect_untouched("a refused state record touched a buffer");
+    }
+}
+
 /* A lasso of so many letters, which judge and decide refuse by this number, or call broken if it is ZIMBORALO_ACCEPTED.
  * Before it come 25, in judge the image's numbers, in decide the rule's 1 to 7 and 26; after it comes 24. A verdict
  * leaves the working space zero, a refusal leaves every buffer as it was. */
@@ -540,6 +588,7 @@ int main(void)
     node_too_many(ALWAYS);
     node_too_many(EVENTUALLY);
     normal_forms();
+    state_records();
     lassos();
     printf("guards: %d looked at, %d wrong\n", looked, wrong);
     for (int b = 0; b < BUFFERS; b++)

@@ -1,6 +1,7 @@
 -- What the proofs of several functions, and of the crates above, cite. Assumes nothing.
 pub mod Before
 pub mod Tests
+pub mod OnePass
 pub mod Sums
 pub mod RecordsFit
 pub mod Rising

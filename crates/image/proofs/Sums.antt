@@ -1,4 +1,5 @@
--- The loop over the state records: none before i is refused, and the total is that of their counts. Assumes nothing.
+-- The pass over the state records stands at i: none before it is refused, and the total is that of their counts.
+-- Assumes nothing.
 use mathlib.Core.Path.{_≡_, refl}
 use mathlib.Core.Bool.{and-eq-true-iff}
 use mathlib.Core.List.{List}
@@ -6,15 +7,15 @@ use Prim.Native.Nat.{ℕ, _+_, _*_, _≤_, _<_}
 use native.Mathlib.Numerals.{add-one}
 use native.Mathlib.Omega.{arith}
 use lib.ListN.{getD}
-use lib.Dec.{eqb}
-use borrow.Author.Tests.{leb-true, eqb-true, eq-eqb, ne-eqb}
-use Rattle.answer.specs.Result.{accepted, refused, andThen, Check, fine, require, lowest}
+use borrow.Author.Tests.{leb-true, eqb-true}
+use Rattle.answer.specs.Result.{accepted, refused, fine}
 use Rattle.answer.proofs.Lowest.{Passing, pass-begins, pass-steps, pass-fails, pass-ends}
 use Rattle.answer.proofs.Results.{require-fine}
 use Rattle.answer.specs.Bytes.{numberAt}
 use Rattle.automaton.specs.Limits.{maxOfState}
-use Rattle.image.specs.Reader.{stateCheck, countSum}
+use Rattle.image.specs.Reader.{stateCheck, addState, statePass, countSum}
 use Rattle.image.proofs.Before.{passes, refuses}
+use Rattle.image.proofs.OnePass.{one-pass}
 
 -- what a fine check says of state record i
 pub record StateFits (s : List ℕ) (i : ℕ) : Type 0 where
@@ -40,28 +41,22 @@ module _ (s : List ℕ) (n : ℕ) where
   sum-begins = record { passing = pass-begins _ _; sum = refl; most = omega arith }
 
   module _ (i total : ℕ) (lt : i < n) (inv : Summing s n total i) where
-    pub sum-steps : (count : ℕ) → accepted count ≡ andThen (stateCheck s i) (λ _. accepted (numberAt s (4 * i))) → Summing s n (total + count) (i + 1)
+    pub sum-steps : (more : ℕ) → accepted more ≡ addState s i total → Summing s n more (i + 1)
     unfolding countSum
-    sum-steps count e =
-        let state = passes (stateCheck s i) count (numberAt s (4 * i)) e in
+    sum-steps more e =
+        let state = passes (stateCheck s i) more (total + numberAt s (4 * i)) e in
         let fits = state-fine s i (state .passed) in
         record {
           passing = pass-steps (stateCheck s) n i lt (inv .passing) (state .passed);
-          sum = rw (add-one, ← inv .sum, ← state .same) refl;
+          sum = rw (add-one, ← inv .sum) (state .same);
           most = omega (arith, inv .most, fits .count, state .same);
         }
 
-    pub sum-fails : (m : ℕ) (rest : Check) → refused 11 i ≡ andThen (stateCheck s i) (λ _. accepted m) → refused 11 i ≡ andThen (lowest (stateCheck s) n) (λ _. rest)
-    sum-fails m rest e = rw (← pass-fails (stateCheck s) n i lt (inv .passing) (refuses (stateCheck s i) m e)) refl
+    pub sum-fails : (place : ℕ) → refused 11 place ≡ addState s i total → refused 11 place ≡ statePass s n
+    sum-fails place e =
+        rw (one-pass s n, ← pass-fails (stateCheck s) n i lt (inv .passing) (refuses (stateCheck s i) _ e)) refl
 
-  module _ (i total t : ℕ) (le : n ≤ i) (inv : Summing s n total i) where
-    sum-ends : total ≡ countSum s n
-    sum-ends =
-        let e : n ≡ i = omega (arith, inv .passing .within) in
-        rw e (inv .sum)
-
-    pub sum-differs : (total ≡ t → ⊥) → refused 11 n ≡ andThen (lowest (stateCheck s) n) (λ _. require (eqb (countSum s n) t) 11 n)
-    sum-differs ne = rw (← pass-ends (stateCheck s) n i le (inv .passing), ← sum-ends, ne-eqb total t ne) refl
-
-    pub sum-agrees : total ≡ t → fine ≡ andThen (lowest (stateCheck s) n) (λ _. require (eqb (countSum s n) t) 11 n)
-    sum-agrees e = rw (← pass-ends (stateCheck s) n i le (inv .passing), ← sum-ends, eq-eqb total t e) refl
+  pub sum-ends : (i total : ℕ) → n ≤ i → Summing s n total i → accepted total ≡ statePass s n
+  sum-ends i total le inv =
+      let e : n ≡ i = omega (arith, inv .passing .within) in
+      rw (one-pass s n, ← pass-ends (stateCheck s) n i le (inv .passing), e, inv .sum) refl

@@ -1,5 +1,5 @@
 -- From the tests that the code makes to the checks of tables and images, in their order. Assumes nothing.
-use mathlib.Core.Path.{_≡_, refl}
+use mathlib.Core.Path.{_≡_}
 use mathlib.Core.Bool.{Bool, true, false, not, _&&_, and-eq-true-iff}
 use mathlib.Core.List.{List}
 use Prim.Native.Nat.{ℕ, zero, suc, _+_, _*_, _≤_, _<_}
@@ -16,7 +16,8 @@ use Rattle.image.specs.Image.{contentsBytes}
 use Rattle.image.specs.Image.{transitionsAt, initialAt, imageLength}
 use Rattle.answer.specs.Bytes.{numberAt}
 use Rattle.image.specs.Reader.{countsAt, countsFit, kindsFit, offsetsFit, contentsCheck}
-use Rattle.image.specs.Reader.{stateCheck, sumCheck, transitionRecordCheck, initialCheck, recordsCheck}
+use Rattle.image.specs.Reader.{stateCheck, addState, statePass, sumCheck, statesCheck}
+use Rattle.image.specs.Reader.{transitionRecordCheck, initialCheck, recordsCheck}
 
 -- three equations in a row, of numbers that the code has read
 module _ (x a y b z d : ℕ) where
@@ -87,25 +88,36 @@ module _ {image : List ℕ} {c : Counts} (read : Opened image c) where
       contents-fit e =
           rw (decided, ← small, not-false t fits, ← tight, not-false o agree, eq-eqb (length image) (imageLength c) e)
 
--- state record i
-module _ (s : List ℕ) (i : ℕ) where
-  pub count-over : maxOfState < numberAt s (4 * i) → refused 11 i ≡ andThen (stateCheck s i) (λ _. accepted (numberAt s (4 * i)))
+-- state record i, behind others that have the sum
+module _ (s : List ℕ) (i sum : ℕ) where
+  pub count-over : maxOfState < numberAt s (4 * i) → refused 11 i ≡ addState s i sum
   unfolding stateCheck
   count-over lt = rw (lt-leb (numberAt s (4 * i)) maxOfState lt)
 
   module _ (small : numberAt s (4 * i) ≤ maxOfState) where
-    pub accepting-wrong : 1 < getD s (4 * i + 2) 0 → refused 11 i ≡ andThen (stateCheck s i) (λ _. accepted (numberAt s (4 * i)))
+    pub accepting-wrong : 1 < getD s (4 * i + 2) 0 → refused 11 i ≡ addState s i sum
     unfolding stateCheck
     accepting-wrong lt = rw (le-leb (numberAt s (4 * i)) maxOfState small, lt-leb (getD s (4 * i + 2) 0) 1 lt)
 
     module _ (flag : getD s (4 * i + 2) 0 ≤ 1) where
-      pub last-wrong : (getD s (4 * i + 3) 0 ≡ 0 → ⊥) → refused 11 i ≡ andThen (stateCheck s i) (λ _. accepted (numberAt s (4 * i)))
+      pub last-wrong : (getD s (4 * i + 3) 0 ≡ 0 → ⊥) → refused 11 i ≡ addState s i sum
       unfolding stateCheck
       last-wrong ne = rw (le-leb (numberAt s (4 * i)) maxOfState small, le-leb (getD s (4 * i + 2) 0) 1 flag, ne-eqb (getD s (4 * i + 3) 0) 0 ne)
 
-      pub state-fits : {n : ℕ} → getD s (4 * i + 3) 0 ≡ 0 → n ≡ numberAt s (4 * i) → accepted n ≡ andThen (stateCheck s i) (λ _. accepted (numberAt s (4 * i)))
+      pub state-fits : {n : ℕ} → getD s (4 * i + 3) 0 ≡ 0 → n ≡ sum + numberAt s (4 * i) → accepted n ≡ addState s i sum
       unfolding stateCheck
       state-fits e f = rw (le-leb (numberAt s (4 * i)) maxOfState small, le-leb (getD s (4 * i + 2) 0) 1 flag, eq-eqb (getD s (4 * i + 3) 0) 0 e, f)
+
+-- the state records, by what the pass over them comes to
+module _ (c : Counts) (s : List ℕ) where
+  pub pass-refused : {place : ℕ} → refused 11 place ≡ statePass s (c .states) → refused 11 place ≡ statesCheck c s
+  unfolding statesCheck
+  pass-refused e = rw (← e)
+
+  pub pass-summed : {sum : ℕ} {r : Check} → accepted sum ≡ statePass s (c .states) → r ≡ sumCheck c sum
+      → r ≡ statesCheck c s
+  unfolding statesCheck
+  pass-summed e f = rw (← e) f
 
 -- transition record i, in an automaton of n states
 module _ (n : ℕ) (t : List ℕ) (i : ℕ) where
@@ -146,33 +158,24 @@ module _ (n : ℕ) (xs : List ℕ) where
 
 -- the records of three tables, by the answers of their checks
 module _ (c : Counts) (s t i : List ℕ) where
-  abbrev stateAnswers : Check
-  stateAnswers = andThen (lowest (stateCheck s) (c .states)) (λ _. sumCheck c s)
-
   abbrev transitionAnswers : Check
   transitionAnswers = lowest (transitionRecordCheck (c .states) t) (c .transitions)
 
   abbrev initialAnswers : Check
   initialAnswers = lowest (initialCheck (c .states) i) (c .initial)
 
-  regroup : recordsCheck c s t i ≡ andThen stateAnswers (λ _. andThen transitionAnswers (λ _. initialAnswers))
-  unfolding recordsCheck
-  regroup = go (lowest (stateCheck s) (c .states)) (sumCheck c s) (andThen transitionAnswers (λ _. initialAnswers))
-    where
-      go : (first second rest : Check)
-          → andThen first (λ _. andThen second (λ _. rest)) ≡ andThen (andThen first (λ _. second)) (λ _. rest)
-      go (accepted u) second rest = refl
-      go (refused number place) second rest = refl
-
-  pub states-refused : {r : Check} {number place : ℕ} → r ≡ refused number place → r ≡ stateAnswers
+  pub states-refused : {r : Check} {number place : ℕ} → r ≡ refused number place → r ≡ statesCheck c s
       → r ≡ recordsCheck c s t i
-  states-refused told e = rw (regroup, ← e, told)
+  unfolding recordsCheck
+  states-refused told e = rw (← e, told)
 
-  module _ {r₁ : Check} (first : r₁ ≡ stateAnswers) (fine₁ : r₁ ≡ fine) where
+  module _ {r₁ : Check} (first : r₁ ≡ statesCheck c s) (fine₁ : r₁ ≡ fine) where
     pub transitions-refused : {r : Check} {number place : ℕ} → r ≡ refused number place → r ≡ transitionAnswers
         → r ≡ recordsCheck c s t i
-    transitions-refused told e = rw (regroup, ← first, fine₁, ← e, told)
+    unfolding recordsCheck
+    transitions-refused told e = rw (← first, fine₁, ← e, told)
 
     pub initial-left : {r₂ r : Check} → r₂ ≡ transitionAnswers → r₂ ≡ fine → r ≡ initialAnswers
         → r ≡ recordsCheck c s t i
-    initial-left second fine₂ e = rw (regroup, ← first, fine₁, ← second, fine₂) e
+    unfolding recordsCheck
+    initial-left second fine₂ e = rw (← first, fine₁, ← second, fine₂) e

@@ -7,8 +7,8 @@ use Rattle.answer.specs.Result.{Result, accepted, refused}
 use Rattle.automaton.specs.Limits.{maxStates, maxTransitions, maxInitial}
 use Rattle.automaton.specs.Tables.{Counts}
 use Rattle.answer.specs.Bytes.{filled}
-use Rattle.image.specs.declared.StateCount.{StateCount}
-use Rattle.image.specs.declared.StateCount.the-variants.{Accepted, Refused}
+use Rattle.image.specs.declared.StatePass.{StatePass}
+use Rattle.image.specs.declared.StatePass.the-variants.{Faulty, Sum}
 use Rattle.image.specs.Image.{imageLength, contents, statesBody, transitionsBody, initialBody}
 use Rattle.answer.specs.Buffer.{Buffer, buffer}
 
@@ -43,7 +43,7 @@ pub record Loads (image : List ℕ) (c : Counts) (s t i states transitions initi
   pub transitions-are : transitions ≡ filled t (take (4 * c .transitions) (transitionsBody c image))
   pub initial-are : initial ≡ filled i (take (2 * c .initial) (initialBody c image))
 
--- what the check of state record i comes to: its transition count, or 11
-abbrev pub stateAnswer : ℕ → StateCount → Result ℕ
-stateAnswer i (Accepted n) = accepted n
-stateAnswer i Refused = refused 11 i
+-- what a pass over state records comes to: 11 at the lowest faulty one, or the sum of their transition counts
+abbrev pub passAnswer : StatePass → Result ℕ
+passAnswer (Faulty i) = refused 11 i
+passAnswer (Sum n) = accepted n

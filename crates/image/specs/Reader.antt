@@ -65,15 +65,24 @@ stateFits states i =
 unfoldable pub stateCheck : List ℕ → ℕ → Check
 stateCheck states i = require (stateFits states i) 11 i
 
--- the transition counts of the first n state records, added up
-unfoldable pub countSum : List ℕ → ℕ → ℕ
-countSum states zero = 0
-countSum states (suc n) = countSum states n + numberAt states (4 * n)
+-- one state record more in the pass below: it is refused, or its transition count is added to the sum so far
+abbrev pub addState : List ℕ → (i sum : ℕ) → Result ℕ
+addState states i sum = andThen (stateCheck states i) (λ _. accepted (sum + numberAt states (4 * i)))
 
--- 11, at the place behind the last state: the states' transition counts have another sum than the count of all
--- transitions (01, Numbers that come from the input, 11)
-abbrev pub sumCheck : Counts → List ℕ → Check
-sumCheck c states = require (eqb (countSum states (c .states)) (c .transitions)) 11 (c .states)
+-- R-4, one pass over the first n state records: the refusal of the lowest one that is faulty or, where none is, all
+-- their transition counts added up
+unfoldable pub statePass : List ℕ → ℕ → Result ℕ
+statePass states zero = accepted 0
+statePass states (suc n) = andThen (statePass states n) (addState states n)
+
+-- 11, at the place behind the last state: the pass gives another sum than the count of all transitions (01, Numbers
+-- that come from the input, 11)
+abbrev pub sumCheck : Counts → (sum : ℕ) → Check
+sumCheck c sum = require (eqb sum (c .transitions)) 11 (c .states)
+
+-- 11 of the state records: the pass, then its sum
+unfoldable pub statesCheck : Counts → List ℕ → Check
+statesCheck c states = andThen (statePass states (c .states)) (sumCheck c)
 
 -- whether 12 lets transition record i pass: it leads to a state, and asks for no proposition that it forbids (01,
 -- Numbers that come from the input, 12)
@@ -98,10 +107,9 @@ initialCheck stateCount initial (suc i) =
 -- 11 to 13 of three tables: one number after another, each at the lowest record that it refuses
 unfoldable pub recordsCheck : Counts → (states transitions initial : List ℕ) → Check
 recordsCheck c states transitions initial =
-    andThen (lowest (stateCheck states) (c .states))
-    (λ _. andThen (sumCheck c states)
+    andThen (statesCheck c states)
     (λ _. andThen (lowest (transitionRecordCheck (c .states) transitions) (c .transitions))
-    (λ _. lowest (initialCheck (c .states) initial) (c .initial))))
+    (λ _. lowest (initialCheck (c .states) initial) (c .initial)))
 
 -- the first n transition records
 unfoldable pub transitionsFrom : ℕ → List ℕ → List Transition
@@ -109,6 +117,11 @@ transitionsFrom zero bytes = []
 transitionsFrom (suc n) bytes =
     record { must = getD bytes 0 0; mustNot = getD bytes 1 0; target = numberAt bytes 2 }
     ∷ transitionsFrom n (drop 4 bytes)
+
+-- how many transition records stand before those of state n: the counts of the first n state records, added up
+unfoldable pub countSum : List ℕ → ℕ → ℕ
+countSum states zero = 0
+countSum states (suc n) = countSum states n + numberAt states (4 * n)
 
 -- the first n state records, each with its transitions, which lie behind those of the states before it (01, The
 -- image, sentence 6)

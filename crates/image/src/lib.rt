@@ -17,19 +17,19 @@ use automaton::TRANSITIONS_BYTES;
 use automaton::tables_fit;
 ghost use mathlib.Core.Path.{_≡_};
 ghost use Prim.Native.Nat.{_+_, _*_, _<_, _≤_};
-ghost use lib.Dec.{eqb};
 ghost use lib.ListN.{length, take, drop};
 ghost use lib.Seq.{sets};
-ghost use Rattle.answer.specs.Result.{accepted, andThen, require, lowest, answer};
-ghost use Rattle.automaton.specs.Limits.{maxStates};
+ghost use Rattle.answer.specs.Result.{accepted, andThen, lowest, answer};
+ghost use Rattle.automaton.specs.Limits.{maxStates, maxTransitions};
 ghost use Rattle.automaton.specs.Tables.{told, outcome, TablesRoom};
-ghost use Rattle.answer.specs.Bytes.{filled, numberAt};
+ghost use Rattle.answer.specs.Bytes.{filled};
 ghost use Rattle.answer.specs.Buffer.{storedAnswer, buffer};
 ghost use Rattle.image.specs.Image.{entry, entryBytes, contentsBytes, largestImage};
-ghost use Rattle.image.specs.Reader.{countsAt, countsFit, entriesHave, contentsCheck, stateCheck, countSum};
-ghost use Rattle.image.specs.Reader.{transitionRecordCheck, initialCheck, recordsCheck, bodiesCheck};
+ghost use Rattle.image.specs.Reader.{countsAt, countsFit, entriesHave, contentsCheck, addState, statePass};
+ghost use Rattle.image.specs.Reader.{sumCheck, statesCheck, transitionRecordCheck, initialCheck};
+ghost use Rattle.image.specs.Reader.{recordsCheck, bodiesCheck};
 ghost use Rattle.image.specs.Calls.{writes, readInto, checks};
-ghost use Rattle.image.specs.Memory.{stateAnswer, joinedOver, HasRecords, Small, Sized, Loads};
+ghost use Rattle.image.specs.Memory.{passAnswer, joinedOver, HasRecords, Small, Sized, Loads};
 
 // The numbers of document 01 by which an image or tables are refused.
 pub const BAD_CONTENTS: u8 = 10;
@@ -65,10 +65,10 @@ const OFFSET_AT: usize = 4;
 // The largest image.
 pub const IMAGE_BYTES: usize = CONTENTS_BYTES + STATES_BYTES + TRANSITIONS_BYTES + INITIAL_BYTES;
 
-// The transition count of a state record, or that the record is refused.
-enum StateCount {
-    Accepted(usize),
-    Refused,
+// What one pass over state records gives (R-4): the lowest that 11 refuses, else the sum of their transition counts.
+enum StatePass {
+    Faulty(usize),
+    Sum(usize),
 }
 
 // The counts against 10.
@@ -84,47 +84,63 @@ fn counts_fit(counts: Counts) -> bool
     counts.initial <= MAX_INITIAL
 }
 
-// The transition count of state record i, unless 11 refuses it.
-fn check_state(states: &[u8], i: usize) -> StateCount
-    requires { ⌜ 4 * i + 3 < length (now states) ⌝ }
-    ensures { λ r. ⌜ stateAnswer i r
-        ≡ andThen (stateCheck (now (states .entry)) i) (λ _. accepted (numberAt (now (states .entry)) (4 * i))) ⌝ }
+// State record i in the pass, behind records whose counts add up to `sum`.
+fn add_state(states: &[u8], i: usize, sum: usize) -> StatePass
+    requires { ⌜ (4 * i + 3 < length (now states)) × (sum ≤ maxTransitions) ⌝ }
+    ensures { λ r. ⌜ passAnswer r ≡ addState (now (states .entry)) i sum ⌝ }
 {
     let at = 4 * i;
     let count = number_at(states, at);
     if MAX_OF_STATE < count {
-        return StateCount::Refused;
+        return StatePass::Faulty(i);
     }
     if 1 < states[at + 2] {
-        return StateCount::Refused;
+        return StatePass::Faulty(i);
     }
     if states[at + 3] != 0 {
-        return StateCount::Refused;
+        return StatePass::Faulty(i);
     }
-    StateCount::Accepted(count)
+    StatePass::Sum(sum + count)
 }
 
-// 11 for the first n state records, whose counts are to add up to transition_count.
-fn check_states(states: &[u8], n: usize, transition_count: usize) -> Checked
+// The pass over the first n state records. While an image is loaded each is read here, once; what is stored afterwards
+// is copied unread.
+fn pass_states(states: &[u8], n: usize) -> StatePass
     requires { ⌜ (n ≤ maxStates) × (4 * n ≤ length (now states)) ⌝ }
-    ensures { λ r. ⌜ answer r
-        ≡ andThen (lowest (stateCheck (now (states .entry))) n)
-        (λ _. require (eqb (countSum (now (states .entry)) n) «transition_count») 11 n) ⌝ }
+    ensures { λ r. ⌜ passAnswer r ≡ statePass (now (states .entry)) n ⌝ }
 {
-    let mut total = 0;
+    let mut sum = 0;
     let mut i = 0;
     while i < n {
-        let state = check_state(states, i);
-        let StateCount::Accepted(count) = state else {
-            return Checked::Refused(BAD_STATE, i);
+        let next = add_state(states, i, sum);
+        let StatePass::Sum(more) = next else {
+            return next;
         };
-        total += count;
+        sum = more;
         i += 1;
     }
-    if total != transition_count {
-        return Checked::Refused(BAD_STATE, n);
+    StatePass::Sum(sum)
+}
+
+// 11 for the sum of the states' transition counts.
+fn check_sum(counts: Counts, sum: usize) -> Checked
+    ensures { λ r. ⌜ answer r ≡ sumCheck counts sum ⌝ }
+{
+    if sum != counts.transitions {
+        return Checked::Refused(BAD_STATE, counts.states);
     }
     Checked::Accepted
+}
+
+// 11 for the state records: the pass, then its sum.
+fn check_states(states: &[u8], counts: Counts) -> Checked
+    requires { ⌜ (counts .states ≤ maxStates) × (4 * counts .states ≤ length (now states)) ⌝ }
+    ensures { λ r. ⌜ answer r ≡ statesCheck counts (now (states .entry)) ⌝ }
+{
+    match pass_states(states, counts.states) {
+        StatePass::Faulty(place) => Checked::Refused(BAD_STATE, place),
+        StatePass::Sum(sum) => check_sum(counts, sum),
+    }
 }
 
 // 12 for transition record i.
@@ -185,7 +201,7 @@ fn check_records(states: &[u8], transitions: &[u8], initial: &[u8], counts: Coun
     ensures { λ r. ⌜ answer r
         ≡ recordsCheck counts (now (states .entry)) (now (transitions .entry)) (now (initial .entry)) ⌝ }
 {
-    let first = check_states(states, counts.states, counts.transitions);
+    let first = check_states(states, counts);
     let Checked::Accepted = first else {
         return first;
     };
