@@ -19,6 +19,7 @@ pub record RecordsFit (c : Counts) (s t i : List ℕ) : Type 0 where
   pub initial : (k : ℕ) → k < c .initial → initialCheck (c .states) i k ≡ fine
 
 module _ (c : Counts) (s t i : List ℕ) where
+  -- what fine checks say
   pub fine-fit : recordsCheck c s t i ≡ fine → RecordsFit c s t i
   unfolding recordsCheck statesCheck
   fine-fit e =
@@ -36,6 +37,7 @@ module _ (c : Counts) (s t i : List ℕ) where
             (fine-second (lowest (transitionRecordCheck (c .states) t) (c .transitions)) _ after-states);
       }
 
+  -- and what makes them fine
   pub fit-fine : RecordsFit c s t i → recordsCheck c s t i ≡ fine
   unfolding recordsCheck statesCheck
   fit-fine fit =

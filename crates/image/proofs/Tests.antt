@@ -100,9 +100,9 @@ module _ (s : List ℕ) (i sum : ℕ) where
     accepting-wrong lt = rw (le-leb (numberAt s (4 * i)) maxOfState small, lt-leb (getD s (4 * i + 2) 0) 1 lt)
 
     module _ (flag : getD s (4 * i + 2) 0 ≤ 1) where
-      pub last-wrong : (getD s (4 * i + 3) 0 ≡ 0 → ⊥) → refused 11 i ≡ addState s i sum
+      pub last-wrong : 0 < getD s (4 * i + 3) 0 → refused 11 i ≡ addState s i sum
       unfolding stateCheck
-      last-wrong ne = rw (le-leb (numberAt s (4 * i)) maxOfState small, le-leb (getD s (4 * i + 2) 0) 1 flag, ne-eqb (getD s (4 * i + 3) 0) 0 ne)
+      last-wrong lt = rw (le-leb (numberAt s (4 * i)) maxOfState small, le-leb (getD s (4 * i + 2) 0) 1 flag, ne-eqb (getD s (4 * i + 3) 0) 0 (λ e. absurd (omega arith)))
 
       pub state-fits : {n : ℕ} → getD s (4 * i + 3) 0 ≡ 0 → n ≡ sum + numberAt s (4 * i) → accepted n ≡ addState s i sum
       unfolding stateCheck

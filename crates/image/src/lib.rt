@@ -97,7 +97,7 @@ fn add_state(states: &[u8], i: usize, sum: usize) -> StatePass
     if 1 < states[at + 2] {
         return StatePass::Faulty(i);
     }
-    if states[at + 3] != 0 {
+    if 0 < states[at + 3] {
         return StatePass::Faulty(i);
     }
     StatePass::Sum(sum + count)

@@ -13,7 +13,7 @@ returns-2 : tie.Need-returns-2
 returns-2 c = accepting-wrong _ _ _ (omega arith) (omega arith)
 
 returns-3 : tie.Need-returns-3
-returns-3 c = last-wrong _ _ _ (omega arith) (omega arith) (c .if3 .taken)
+returns-3 c = last-wrong _ _ _ (omega arith) (omega arith) (omega arith)
 
 returns-4 : tie.Need-returns-4
 returns-4 c = state-fits _ _ _ (omega arith) (omega arith) (omega arith) (omega arith)
