@@ -8,8 +8,8 @@ sys.path.insert(0, os.path.join(os.path.dirname(os.path.abspath(__file__)), ".."
 import lassos  # noqa: E402
 import rules  # noqa: E402
 import written  # noqa: E402
-from nodes import (ALWAYS, AND, EVENTUALLY, FALSE, IMPLIES, NEGATION, NOT, OR, PROPOSITION, RELEASE, TRUE,  # noqa: E402
-                   UNTIL, Builder, second)
+from nodes import (ALWAYS, AND, EVENTUALLY, FALSE, IMPLIES, NEGATION, NEXT, NOT, OR, PROPOSITION,  # noqa: E402
+                   RELEASE, TRUE, UNTIL, Builder, second)
 
 
 def theta(n):
@@ -64,6 +64,34 @@ def theta_written(n):
     return b.bytes()
 
 
+def eventually(p):
+    b = Builder()
+    b.add(UNTIL, b.add(TRUE), b.add(PROPOSITION, p))
+    return b.bytes()
+
+
+def eventually_then(p, q):
+    """eventually (p and next q)"""
+    b = Builder()
+    true = b.add(TRUE)
+    b.add(UNTIL, true, b.add(AND, b.add(PROPOSITION, p), b.add(NEXT, b.add(PROPOSITION, q))))
+    return b.bytes()
+
+
+def eventually_both(p, q):
+    """eventually p and eventually q"""
+    b = Builder()
+    true = b.add(TRUE)
+    b.joined(AND, [b.add(UNTIL, true, b.add(PROPOSITION, number)) for number in (p, q)])
+    return b.bytes()
+
+
+def until(p, q):
+    b = Builder()
+    b.add(UNTIL, b.add(PROPOSITION, p), b.add(PROPOSITION, q))
+    return b.bytes()
+
+
 MOST = second.max_slots()
 
 # how many images are loaded one after another
@@ -72,21 +100,44 @@ LOADED = 200
 # rules that no letters keep or break: their runs never end, and none comes to rest
 UNDECIDED = [fairness(n) for n in (1, 2, 3, 4)] + [responses(n) for n in (1, 2, 3)]
 
+# rules that are kept once what they wait for has come up, each with a letter that keeps it waiting
+WAITING = [(eventually(p), 0) for p in range(8)] + [
+    case for p, q in ((0, 1), (2, 3), (4, 5), (6, 7))
+    for case in ((eventually_then(p, q), 0), (eventually_both(p, q), 0), (until(p, q), 1 << p))]
+
 FORMULAS = [(f"theta_{n}", *theta(n)) for n in (1, 2, 3)] + [(f"phi_{n}", *phi(n)) for n in (2, 3, 4, 5)]
 
 
 def full_image(states=96, row=128, seed=0):
-    """An automaton with as many transitions as fit, of which most letters take about half; one state accepts, so that
-    every letter is read."""
+    """An automaton with as many transitions as fit, of which most letters take about half; one state accepts and is not
+    at rest, so that every letter is read. It is drawn again until that is so."""
     rng = random.Random(states * 1000 + row + 1000000 * seed)
-    rows = [(q == states - 1, [(rng.choice((0, 0, 1, 2)), rng.choice((0, 4)), rng.randrange(states)) for _ in range(row)])
-            for q in range(states)]
-    return second.write(second.Watcher(rows, [0]))
+    while True:
+        rows = [(q == states - 1, [(rng.choice((0, 0, 1, 2)), rng.choice((0, 4)), rng.randrange(states))
+                                   for _ in range(row)]) for q in range(states)]
+        automaton = second.Watcher(rows, [0])
+        if not automaton.at_rest(states - 1):
+            return second.write(automaton)
 
 
 def long_word():
     """As many letters as a plan may have, with few propositions."""
     return lassos.sparse(random.Random(5), MOST)
+
+
+def waiting_plans(count):
+    """For each rule of WAITING so many plans of as many letters as there may be: up to 11 that keep it waiting, two
+    with every proposition, then any. Each is kept by a state at rest, after few pairs."""
+    rng = random.Random(4)
+    for rule, quiet in WAITING:
+        image = second.write(second.translate(rule))
+        for _ in range(count):
+            word = bytes([quiet] * rng.randrange(12)) + b"\xff\xff"
+            word += bytes(rng.randrange(256) for _ in range(MOST - len(word)))
+            stem, cycle = word[:MOST // 2], word[MOST // 2:]
+            kept, pairs = second.judged(image, stem, cycle)
+            assert kept and pairs < 50
+            yield image, stem, cycle
 
 
 def framed(kind, *slices):
@@ -137,6 +188,7 @@ def groups():
         (f"judge: 7 undecided rules on 20 plans of {MOST} slots each",
          plans((image, lassos.letters(letters, MOST // 2), lassos.letters(letters, MOST // 2))
                for image in map(second.write, map(second.translate, UNDECIDED)) for _ in range(20))),
+        (f"judge: {len(WAITING)} eventually rules on 20 plans of {MOST} slots each", plans(waiting_plans(20))),
         ("judge: a full image, 128 slots", plans([(full, b"", word[:128])])),
         (f"judge: a full image, {MOST} slots", plans([(full, b"", word)])),
     ]

@@ -1,5 +1,5 @@
 //! The peer of the benchmark: the same translation, loading and judging in idiomatic Rust, with the standard library
-//! alone. It is compared with the second translator by `bench/run` before it is timed.
+//! alone. `bench/run` holds its answers against the library's while both are timed.
 #[derive(Clone, Copy, PartialEq, Eq)]
 pub struct Refusal {
     pub number: u8,
@@ -151,6 +151,8 @@ fn expand(nodes: &[Node]) -> Answer<(Vec<Vec<u32>>, Vec<Vec<Term>>)> {
 
 pub struct State {
     pub accepting: bool,
+    /// An accepting state that a free transition leads back to.
+    pub at_rest: bool,
     pub transitions: Vec<(u8, u8, u16)>,
 }
 
@@ -272,7 +274,9 @@ pub fn translate(rule: &[u8]) -> Answer<Automaton> {
             };
             transitions.push((step.term.must, step.term.must_not, number));
         }
-        states.push(State { accepting: level == r, transitions });
+        let accepting = level == r;
+        let at_rest = accepting && transitions.contains(&(0, 0, place as u16));
+        states.push(State { accepting, at_rest, transitions });
     }
     Ok(Automaton { states, initial: (0..initial as u16).collect() })
 }
@@ -298,7 +302,7 @@ impl Tables {
     fn fill(&mut self, a: &Automaton) {
         put(&mut self.states, a.states.iter().map(|s| {
             let [low, high] = (s.transitions.len() as u16).to_le_bytes();
-            [low, high, s.accepting as u8, 0]
+            [low, high, s.accepting as u8, s.at_rest as u8]
         }));
         put(&mut self.transitions, a.states.iter().flat_map(|s| &s.transitions).map(|&(must, must_not, target)| {
             let [low, high] = target.to_le_bytes();
@@ -308,15 +312,13 @@ impl Tables {
     }
 }
 
-/// The runs that stand in a state: bit p for one that began the pass in state p, bit START for one that began with the
-/// stem; in `met` those that have met an accepting state since.
+/// The runs that stand in a state: bit p for one that began the pass in state p; in `met` those that have met an
+/// accepting state since.
 #[derive(Clone, Copy, Default)]
 struct Runs {
     all: u128,
     met: u128,
 }
-
-const START: usize = 127;
 
 impl Runs {
     fn join(&mut self, other: Runs) {
@@ -337,7 +339,7 @@ fn lift(a: &Automaton, rows: &mut [Runs]) {
     }
 }
 
-/// The runs after the word, or false once none from an initial state is left.
+/// The runs after the word, or false once none is left.
 fn run(a: &Automaton, word: &[u8], rows: &mut Vec<Runs>) -> bool {
     let mut next = vec![Runs::default(); rows.len()];
     for &letter in word {
@@ -351,26 +353,69 @@ fn run(a: &Automaton, word: &[u8], rows: &mut Vec<Runs>) -> bool {
         }
         lift(a, &mut next);
         std::mem::swap(rows, &mut next);
-        if !rows.iter().any(|row| has(row.all, START)) {
+        if rows.iter().all(|row| row.all == 0) {
             return false;
         }
     }
     true
 }
 
-/// Some state at the beginning of a pass comes back to itself through an accepting state.
-pub fn judge(a: &Automaton, stem: &[u8], cycle: &[u8]) -> bool {
+/// Takes pairs of a position and a state that runs reach, breadth first: whether one at rest is taken, which is the
+/// last, how many are taken, and which were met, by position and state.
+fn take_pairs(a: &Automaton, stem: &[u8], cycle: &[u8]) -> (bool, usize, Vec<bool>) {
+    let states = a.states.len();
+    let word = [stem, cycle].concat();
+    let mut met = vec![false; states * word.len()];
+    // the states to take at one position and those met at the next, in the order in which they were met
+    let mut level = a.initial.clone();
+    let mut next = Vec::with_capacity(states);
+    for &q in &level {
+        met[q as usize] = true;
+    }
+    let mut taken = 0;
+    let mut at = 0;
+    while !level.is_empty() {
+        let letter = word[at];
+        at = if at + 1 < word.len() { at + 1 } else { stem.len() };
+        let row = &mut met[states * at..states * (at + 1)];
+        let mut unmet = row.iter().filter(|&&met| !met).count();
+        for &q in &level {
+            let state = &a.states[q as usize];
+            taken += 1;
+            if state.at_rest {
+                return (true, taken, met);
+            }
+            if unmet == 0 {
+                continue;
+            }
+            for &(must, must_not, t) in &state.transitions {
+                if must & !letter | must_not & letter == 0 && !row[t as usize] {
+                    row[t as usize] = true;
+                    unmet -= 1;
+                    next.push(t);
+                }
+            }
+        }
+        std::mem::swap(&mut level, &mut next);
+        next.clear();
+    }
+    (false, taken, met)
+}
+
+/// Whether the lasso is kept, and how many pairs are taken.
+pub fn judge(a: &Automaton, stem: &[u8], cycle: &[u8]) -> (bool, usize) {
+    let (rests, taken, met) = take_pairs(a, stem, cycle);
+    let first = a.states.len() * stem.len();
+    (rests || comes_back(a, &met[first..first + a.states.len()], cycle), taken)
+}
+
+/// Some state in which a pass begins, one of those met there, comes back to itself through an accepting state.
+fn comes_back(a: &Automaton, met: &[bool], cycle: &[u8]) -> bool {
     if !a.states.iter().any(|state| state.accepting) {
         return false;
     }
     let mut rows = vec![Runs::default(); a.states.len()];
-    for &i in &a.initial {
-        rows[i as usize].all |= 1 << START;
-    }
-    if !run(a, stem, &mut rows) {
-        return false;
-    }
-    for (q, row) in rows.iter_mut().enumerate() {
+    for (q, row) in rows.iter_mut().enumerate().filter(|&(q, _)| met[q]) {
         row.all |= 1 << q;
     }
     lift(a, &mut rows);
@@ -391,7 +436,7 @@ pub fn judge(a: &Automaton, stem: &[u8], cycle: &[u8]) -> bool {
             }
         }
     }
-    rows.iter().enumerate().any(|(q, row)| has(row.all, START) && has(row.met, q))
+    rows.iter().enumerate().any(|(q, row)| has(row.met, q))
 }
 
 fn number_at(bytes: &[u8], i: usize) -> usize {
@@ -418,7 +463,7 @@ fn bodies(image: &[u8]) -> Answer<[&[u8]; 3]> {
 }
 
 fn state_fits(record: &[u8]) -> bool {
-    number_at(record, 0) <= 128 && record[2] <= 1 && record[3] == 0
+    number_at(record, 0) <= 128 && record[2] <= 1
 }
 
 /// The state records in one pass: the lowest that does not fit, or the sum of the counts.
@@ -441,12 +486,25 @@ fn in_two(records: &[u8]) -> Answer<usize> {
     }
 }
 
+/// The lowest state whose last byte does not say whether it is at rest, by its transition records as they stand.
+fn wrong_rest(states: &[u8], mut transitions: &[u8]) -> Option<usize> {
+    states.chunks_exact(4).enumerate().position(|(q, record)| {
+        let (own, behind) = transitions.split_at(4 * number_at(record, 0));
+        transitions = behind;
+        let at_rest = record[2] == 1 && own.chunks_exact(4).any(|r| *r == [0, 0, q as u8, 0]);
+        record[3] != at_rest as u8
+    })
+}
+
 /// The three bodies of an image, or its refusal by 10 to 13; the state records are looked at by the function given.
 fn check(image: &[u8], pass: impl Fn(&[u8]) -> Answer<usize>) -> Answer<[&[u8]; 3]> {
     let [states, transitions, initial] = bodies(image)?;
     let count = states.len() / 4;
     if pass(states)? != transitions.len() / 4 {
         return refuse(11, count);
+    }
+    if let Some(q) = wrong_rest(states, transitions) {
+        return refuse(11, q);
     }
     if let Some(i) = transitions.chunks_exact(4).position(|r| number_at(r, 2) >= count || r[0] & r[1] != 0) {
         return refuse(12, i);
@@ -465,10 +523,14 @@ fn check(image: &[u8], pass: impl Fn(&[u8]) -> Answer<usize>) -> Answer<[&[u8]; 
 /// The automaton of an image, or its refusal by 10 to 13.
 pub fn read(image: &[u8]) -> Answer<Automaton> {
     let [states, transitions, initial] = check(image, in_one)?;
-    let mut rest = transitions.chunks_exact(4).map(|r| (r[0], r[1], number_at(r, 2) as u16));
+    let mut unread = transitions.chunks_exact(4).map(|r| (r[0], r[1], number_at(r, 2) as u16));
     let states = states
         .chunks_exact(4)
-        .map(|r| State { accepting: r[2] == 1, transitions: rest.by_ref().take(number_at(r, 0)).collect() })
+        .map(|r| State {
+            accepting: r[2] == 1,
+            at_rest: r[3] == 1,
+            transitions: unread.by_ref().take(number_at(r, 0)).collect(),
+        })
         .collect();
     Ok(Automaton { states, initial: initial.chunks_exact(2).map(|r| number_at(r, 0) as u16).collect() })
 }
@@ -522,7 +584,10 @@ fn answer(kind: u8, slices: &[&[u8]], tables: &mut Tables) -> u64 {
             Err(r) => refused(r),
             Ok(_) if slices[2].is_empty() => 8,
             Ok(_) if slices[1].len() + slices[2].len() > 336 => 9,
-            Ok(a) => 256 * judge(&a, slices[1], slices[2]) as u64,
+            Ok(a) => {
+                let (kept, taken) = judge(&a, slices[1], slices[2]);
+                256 * kept as u64 + 65536 * taken as u64
+            }
         },
     }
 }

@@ -95,14 +95,14 @@ uint64_t zimboralo_write(const uint8_t *states, size_t states_len, size_t state_
 uint64_t zimboralo_read(const uint8_t *image, size_t image_len, uint8_t *states, size_t states_len,
                         uint8_t *transitions, size_t transitions_len, uint8_t *initial, size_t initial_len);
 
-/* A lasso, stem and cycle, against an image. The verdict, or a refusal. */
+/* A lasso, stem and cycle, against an image. The verdict and how many pairs judging took, or a refusal. */
 uint64_t zimboralo_judge(const uint8_t *image, size_t image_len, const uint8_t *stem, size_t stem_len,
                          const uint8_t *cycle, size_t cycle_len, uint8_t *work, size_t work_len);
 
-/* A lasso against a written rule, in one call: translate, write and judge in a row. The verdict, or the first refusal
- * of 25, 1 to 6, 26, 7, 8, 9 and 20 to 24 in this order. By 20 to 24 the tables are zero and the rest is as it was; by
- * any other refusal every buffer is as it was; with a verdict the tables have the automaton, the buffer begins with its
- * image, and the working bytes are zero. */
+/* A lasso against a written rule, in one call: translate, write and judge in a row. The verdict and the pairs, as of
+ * judge, or the first refusal of 25, 1 to 6, 26, 7, 8, 9 and 20 to 24 in this order. By 20 to 24 the tables are zero
+ * and the rest is as it was; by any other refusal every buffer is as it was; with a verdict the tables have the
+ * automaton, the buffer begins with its image, and the working bytes are zero. */
 uint64_t zimboralo_decide(const uint8_t *rule, size_t rule_len, const uint8_t *stem, size_t stem_len,
                           const uint8_t *cycle, size_t cycle_len, uint8_t *states, size_t states_len,
                           uint8_t *transitions, size_t transitions_len, uint8_t *initial, size_t initial_len,
@@ -119,10 +119,14 @@ static inline unsigned zimboralo_states(uint64_t answer) { return (unsigned)(ans
 static inline unsigned zimboralo_transitions(uint64_t answer) { return (unsigned)(answer >> 16 & 0xffff); }
 static inline unsigned zimboralo_initial(uint64_t answer) { return (unsigned)(answer >> 32 & 0xff); }
 
-/* Of an accepted normalize or write: the rule's or the image's length. Of an accepted judge or decide: whether the
- * lasso is kept. */
+/* Of an accepted normalize or write: the rule's or the image's length. */
 static inline size_t zimboralo_length(uint64_t answer) { return (size_t)(answer >> 8 & 0xffffffff); }
+
+/* Of an accepted judge or decide: whether the lasso is kept, and how many pairs of a position and a state were taken to
+ * tell. They are taken breadth first, up to the first state at rest, an accepting one that a free transition leads back
+ * to; without one, all that runs reach. That is at most the states times the letters, which fits 16 bits. */
 static inline int zimboralo_kept(uint64_t answer) { return (int)(answer >> 8 & 1); }
+static inline unsigned zimboralo_pairs(uint64_t answer) { return (unsigned)(answer >> 16 & 0xffff); }
 
 /* ---- the calls over structs of the right sizes */
 

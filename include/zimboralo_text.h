@@ -37,8 +37,8 @@ static inline const char *zimboralo_text(unsigned number)
     case ZIMBORALO_BAD_CONTENTS:
         return "the image's contents are wrong, or there are more records than fit";
     case ZIMBORALO_BAD_STATE:
-        return "a state record is wrong, or their transition counts do not add up; the place is the lowest wrong "
-               "record, or for the counts the number of states";
+        return "a state record is wrong, or their transition counts do not add up; the place is the wrong record, or "
+               "for the counts the number of states";
     case ZIMBORALO_BAD_TRANSITION:
         return "a transition leads to no state, or wants a mark both set and clear; the place is the lowest such "
                "transition";

@@ -29,16 +29,20 @@ def lasso(rng):
 
 
 def hand_made(rng):
-    """An automaton that no translation gives: any states, any targets, any initial numbers."""
+    """An automaton that no translation gives: any states, any targets, any initial numbers. In some, many states accept
+    or have a transition to themselves, free or not, so that one, several or none is at rest."""
     n = rng.choice((0, 1, 2, 3, 5, 8, 20, 96))
+    accepting, loops = rng.choice((.05, .2, .2, .7)), rng.choice((0, 0, .1, .5))
     states = []
-    for _ in range(n):
+    for q in range(n):
         row = []
-        for _ in range(rng.choice((0, 1, 1, 2, 2, 3, 6))):
+        for _ in range(rng.choice((0, 1, 1, 2, 2, 3, 6, 127 if n < 8 else 6))):
             must = rng.choice((0, 0, 1, 2, 3, rng.randrange(256)))
             row.append((must, rng.choice((0, 0, 1, 2, 4, rng.randrange(256))) & ~must, rng.randrange(n)))
-        states.append((rng.random() < .2, row))
-    return second.Watcher(states, sorted(rng.sample(range(n), rng.randrange(min(n, 3) + 1))))
+        if rng.random() < loops:
+            row.insert(rng.randrange(len(row) + 1), (*rng.choice(((0, 0), (0, 0), (1, 0), (0, 1))), q))
+        states.append((rng.random() < accepting, row))
+    return second.Watcher(states, sorted(rng.sample(range(n), rng.randrange(min(n, rng.choice((3, n))) + 1))))
 
 
 def image_of_rule(rng):
@@ -51,27 +55,86 @@ def image_of_rule(rng):
             continue
 
 
-# what each byte of a state record is changed to, some of it right and some wrong
-STATE_BYTES = ((0, 1, 2, 128, 129, 255), (0, 1), (0, 1, 2, 255), (0, 1, 255))
+def two_bytes(record, at=0):
+    return record[at] + 256 * record[at + 1]
 
 
-def damage_states(rng, records, count):
-    """Moves a transition from one of the first state records to another, which leaves the sum; or changes up to four
-    bytes of them, so that several may be faulty and the sum may be wrong as well."""
-    giving = [4 * q for q in range(count) if records[4 * q]]
+def bodies(image):
+    """An image's three counts, and its records of states, of transitions and of initial numbers."""
+    counts = [two_bytes(image, at) for at in (2, 8, 14)]
+    a, b = 18 + 4 * counts[0], 18 + 4 * counts[0] + 4 * counts[1]
+    return counts, (image[18:a], image[a:b], image[b:])
+
+
+# what the first three bytes of a state record are changed to, some of it right and some wrong
+STATE_BYTES = ((0, 1, 2, 128, 129, 255), (0, 1), (0, 1, 2, 255))
+
+
+def damage_states(rng, counts, tables):
+    """Moves a transition from one state record to another, which leaves the sum; or changes up to four bytes of them,
+    so that several may be faulty and the sum may be wrong as well."""
+    records = tables[0]
+    giving = [4 * q for q in range(counts[0]) if records[4 * q]]
     if giving and rng.random() < .3:
+        taking = 4 * rng.randrange(counts[0])
         records[rng.choice(giving)] -= 1
-        records[4 * rng.randrange(count)] += 1
+        records[taking] = min(records[taking] + 1, 255)
         return
-    for _ in range(rng.randrange(1, 5) if count else 0):
-        k = rng.randrange(4)
-        records[4 * rng.randrange(count) + k] = rng.choice(STATE_BYTES[k])
+    for _ in range(rng.randrange(1, 5) if counts[0] else 0):
+        k = rng.randrange(3)
+        records[4 * rng.randrange(counts[0]) + k] = rng.choice(STATE_BYTES[k])
+
+
+def damage_rests(rng, counts, tables):
+    """Changes the last byte of one or several state records, mostly to the other of 0 and 1."""
+    for _ in range(rng.choice((1, 1, 2, 5)) if counts[0] else 0):
+        at = 4 * rng.randrange(counts[0]) + 3
+        tables[0][at] = int(tables[0][at] == 0) if rng.random() < .7 else rng.randrange(256)
+
+
+def damage_transitions(rng, counts, tables):
+    """Changes up to three transitions, more often those of states that accept: into free ones from a state to itself,
+    into others, and into some that are wrong, also with the state itself in one byte of the target."""
+    owners = [q for q in range(counts[0]) for _ in range(two_bytes(tables[0], 4 * q))][:counts[1]]
+    of_accepting = [k for k, q in enumerate(owners) if tables[0][4 * q + 2] == 1]
+    for _ in range(rng.randrange(1, 4) if owners else 0):
+        k = rng.choice(of_accepting) if of_accepting and rng.random() < .6 else rng.randrange(len(owners))
+        q, a = owners[k], counts[0]
+        tables[1][4 * k:4 * k + 4] = bytes(rng.choice((
+            (0, 0, q, 0), (0, 0, q, 0), (1, 0, q, 0), (0, 1, q, 0), (0, 0, rng.randrange(a), 0), (1, 1, q, 0),
+            (0, 0, q, 1), (0, 0, 0, q), (0, 0, a, 0))))
+
+
+def damage_initial(rng, counts, tables):
+    """Changes an initial number."""
+    if counts[2]:
+        tables[2][2 * rng.randrange(counts[2])] = rng.choice((0, rng.randrange(256), counts[0]))
+
+
+def settle_rests(counts, tables):
+    """Sets every last byte of a state record right, by the other records as they stand."""
+    at = 0
+    for q in range(counts[0]):
+        record = tables[0][4 * q:4 * q + 4]
+        own = tables[1][at:at + 4 * two_bytes(record)]
+        free = any(own[k:k + 4] == bytes((0, 0, q, 0)) for k in range(0, len(own), 4))
+        tables[0][4 * q + 3] = int(record[2] == 1 and free)
+        at += 4 * two_bytes(record)
+
+
+def damage_records(rng, counts, tables):
+    """Changes records in up to three ways, so that a last byte may be wrong together with anything else, or stay while
+    its state comes to rest or leaves it. In some the last bytes are set right again."""
+    for _ in range(rng.randrange(1, 4)):
+        rng.choice((damage_states, damage_rests, damage_transitions, damage_initial))(rng, counts, tables)
+    if rng.random() < .3:
+        settle_rests(counts, tables)
 
 
 def damaged(rng, image):
-    """The image with a byte changed, cut, grown, a count or an offset moved, or its state records changed."""
+    """The image with a byte changed, cut, grown, a count or an offset moved, or its records changed."""
     out = bytearray(image)
-    way = rng.randrange(6)
+    way = rng.randrange(8)
     if way == 0 and out:
         out[rng.randrange(len(out))] = rng.randrange(256)
     elif way == 1:
@@ -81,14 +144,13 @@ def damaged(rng, image):
     elif way == 3:
         out += bytes(rng.randrange(1, 4))
     elif way == 4:
-        count = out[2]
-        records = out[18:18 + 4 * count]
-        damage_states(rng, records, count)
-        out[18:18 + 4 * count] = records
-    else:
         at = 18 + rng.randrange(max(1, len(out) - 18))
         if at < len(out):
             out[at] = (out[at] + rng.choice((1, 255, 97, 128))) % 256
+    else:
+        counts, tables = bodies(out)
+        damage_records(rng, counts, tables)
+        out[18:] = b"".join(tables)
     return bytes(out)
 
 
@@ -101,16 +163,33 @@ EVENTUALLY, ALWAYS = (second.write(second.translate(bytes.fromhex(rule)))
                       for rule in ("010000020000070001", "000000020000080001"))
 
 
-def changed(image, at, byte):
-    return image[:at] + bytes((byte,)) + image[at + 1:]
+def changed(changes):
+    """The image of "eventually proposition 0" with other bytes. State 0 has the record 02 00 00 00 at 18, state 1, at
+    rest, 01 00 01 01 at 22; their transitions are 01 00 01 00 at 26 and 00 00 00 00 at 30, and 00 00 01 00 at 34; the
+    initial number is at 38."""
+    return bytes(changes.get(at, byte) for at, byte in enumerate(EVENTUALLY))
 
 
-# images that are wrong, with the refusal's number and place; the second is as long as two bytes can say. Of two faulty
-# state records the lower is told, and a faulty one before a sum that is wrong as well.
-SUM_OVER = changed(EVENTUALLY, 18, EVENTUALLY[18] + 1)
-FAULTS = [(EVENTUALLY[:-1], (10, 0)), (EVENTUALLY.ljust(65535, b"\0"), (10, 0)), (changed(EVENTUALLY, 24, 2), (11, 1)),
-          (changed(changed(EVENTUALLY, 20, 2), 25, 1), (11, 0)), (changed(SUM_OVER, 24, 2), (11, 1)),
-          (SUM_OVER, (11, 2)), (changed(EVENTUALLY, 36, 2), (12, 2)), (changed(EVENTUALLY, 38, 2), (13, 0))]
+# images that are wrong, with the refusal's number and place; the second is as long as two bytes can say
+FAULTS = [(EVENTUALLY[:-1], (10, 0)), (EVENTUALLY.ljust(65535, b"\0"), (10, 0))] + [
+    (changed(changes), refusal) for changes, refusal in (
+        # of two faulty state records the lower is told, and a faulty one before a sum that is wrong as well
+        ({24: 2}, (11, 1)), ({20: 2, 24: 2}, (11, 0)), ({18: 3, 24: 2}, (11, 1)), ({18: 3}, (11, 2)),
+        # a wrong last byte, the lower of two; one of 2 to 255 is no other fault
+        ({25: 0}, (11, 1)), ({25: 2}, (11, 1)), ({25: 255}, (11, 1)), ({21: 1}, (11, 0)), ({21: 255}, (11, 0)),
+        ({21: 1, 25: 0}, (11, 0)),
+        # after the other bytes of all records and after the sum
+        ({21: 1, 24: 2}, (11, 1)), ({21: 255, 22: 129}, (11, 1)), ({18: 3, 21: 1}, (11, 2)), ({18: 3, 25: 0}, (11, 2)),
+        # state 0 comes to rest; state 1 leaves it: it does not accept, wants 0 set or clear, or leads to state 0
+        ({20: 1}, (11, 0)), ({24: 0}, (11, 1)), ({34: 1}, (11, 1)), ({35: 1}, (11, 1)), ({36: 0}, (11, 1)),
+        # the transition of state 1 is counted to state 0; one of state 0 to state 1, and none leads to state 1
+        ({18: 3, 22: 0}, (11, 1)), ({18: 1, 22: 2, 36: 0}, (11, 1)),
+        # before 12 and 13, by transitions that are wrong themselves: to state 2 or 257, or with 0 set and clear
+        ({36: 2}, (11, 1)), ({37: 1}, (11, 1)), ({34: 1, 35: 1}, (11, 1)), ({25: 0, 27: 1}, (11, 1)),
+        ({25: 0, 38: 2}, (11, 1)),
+        # with the last byte right: 12, and 13
+        ({25: 0, 36: 2}, (12, 2)), ({25: 0, 37: 1}, (12, 2)), ({25: 0, 34: 1, 35: 1}, (12, 2)), ({27: 1}, (12, 0)),
+        ({38: 2}, (13, 0)))]
 
 # how many letters stem and cycle have, at the limit of 336 together: within it, and past it or empty with the refusal; the
 # last stems are as long as two bytes can say, and the last cycles longer than what is read
@@ -139,21 +218,17 @@ def any_image(rng):
 
 
 def any_tables(rng):
-    """Counts and three tables for the writer: those of an image, whole or with a byte, a count or state records
-    changed."""
-    image = image_of_rule(rng)[1] if rng.random() < .5 else second.write(hand_made(rng))
-    a, b, c = (image[i] + 256 * image[i + 1] for i in (2, 8, 14))
-    parts = (image[18:18 + 4 * a], image[18 + 4 * a:18 + 4 * a + 4 * b], image[18 + 4 * a + 4 * b:])
+    """Counts and three tables for the writer: those of an image, whole or with a byte, a count or records changed."""
+    counts, parts = bodies(image_of_rule(rng)[1] if rng.random() < .5 else second.write(hand_made(rng)))
     tables = [bytearray(part + bytes(size - len(part))) for part, size in zip(parts, (384, 49152, 192))]
-    counts = [a, b, c]
     way = rng.random()
-    if way < .4:
+    if way < .3:
         table = rng.choice([t for t, part in zip(tables, parts) if part] or tables)
         table[rng.randrange(min(len(table), 64))] = rng.choice((0, 1, 2, 129, rng.randrange(256)))
-    elif way < .6:
+    elif way < .5:
         counts[rng.randrange(3)] = rng.choice((0, 1, 96, 97, 12288, 12289, rng.randrange(70000)))
-    elif way < .75:
-        damage_states(rng, tables[0], a)
+    elif way < .8:
+        damage_records(rng, counts, tables)
     return tuple(counts), [bytes(t) for t in tables]
 
 
@@ -161,8 +236,8 @@ NO_STATES = second.write(second.Watcher([], []))
 
 
 def decided(rule, stem, cycle):
-    """What decide answers, by the calls of the second translator: 1 to 6, 26 and 7 of the rule, 8 and 9 of the lasso, 20 to
-    24 of the rule, then the verdict."""
+    """What decide answers, by the calls of the second translator: 1 to 6, 26 and 7 of the rule, 8 and 9 of the lasso,
+    20 to 24 of the rule, then the verdict with the pairs taken."""
     second.accepted_form(rule)
-    second.judge(NO_STATES, stem, cycle)
-    return second.judge(second.write(second.translate(rule)), stem, cycle)
+    second.judged(NO_STATES, stem, cycle)
+    return second.judged(second.write(second.translate(rule)), stem, cycle)

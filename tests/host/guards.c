@@ -1,7 +1,7 @@
 /* Every lent buffer at its exact smallest size between guard bytes that must stay as they were; and one byte shorter,
  * which is refused by 25 with every byte as it was. The functions over structs against the plain calls, the header's
- * limits against what the library takes, the bytes of rules in negation normal form, and refusal 11 at every state
- * record. Prints one line and exits 1 where something is wrong. */
+ * limits against what the library takes, the bytes of rules in negation normal form, refusal 11 at every state record,
+ * and verdicts with a known number of pairs. Prints one line and exits 1 where something is wrong. */
 #include <stdio.h>
 #include <stdlib.h>
 #include <string.h>
@@ -465,48 +465,230 @@ static void normal_forms(void)
 /* An answer if it refuses, else ZIMBORALO_ACCEPTED alone. */
 static uint64_t refusal(uint64_t answer) { return accepted(answer) ? ZIMBORALO_ACCEPTED : answer; }
 
-/* Read, judge and write refuse 96 states with these records, 96 transitions and an initial number in this way, or accept
- * them. */
-static void states(const uint8_t *records, uint64_t want)
+/* The bodies of an image: as many states as there may be, a transition for each, and one initial number. */
+struct bodies {
+    uint8_t records[ZIMBORALO_STATES_BYTES], edges[4 * ZIMBORALO_MAX_STATES], first[2];
+};
+
+/* Read, judge and write refuse these bodies in this way, or accept them. */
+static void states(const struct bodies *bodies, uint64_t want)
 {
     enum { COUNT = ZIMBORALO_MAX_STATES, RECORDS = ZIMBORALO_CONTENTS_BYTES, EDGES = RECORDS + 4 * COUNT,
            FIRST = EDGES + 4 * COUNT };
-    static const uint8_t edges[ZIMBORALO_TRANSITIONS_BYTES] = {0}, first[ZIMBORALO_INITIAL_BYTES] = {0}, cycle[] = {0};
+    static uint8_t edges[ZIMBORALO_TRANSITIONS_BYTES], first[ZIMBORALO_INITIAL_BYTES];
+    static const uint8_t cycle[] = {0};
     uint8_t bytes[FIRST + 2] = {1, 0, COUNT, 0, RECORDS, 0, 2, 0, COUNT, 0, EDGES % 256, EDGES / 256,
                                 3, 0, 1, 0, FIRST % 256, FIRST / 256};
-    memcpy(bytes + RECORDS, records, ZIMBORALO_STATES_BYTES);
+    memcpy(bytes + RECORDS, bodies->records, sizeof bodies->records);
+    memcpy(bytes + EDGES, bodies->edges, sizeof bodies->edges);
+    memcpy(bytes + FIRST, bodies->first, sizeof bodies->first);
+    memcpy(edges, bodies->edges, sizeof bodies->edges);
+    memcpy(first, bodies->first, sizeof bodies->first);
     uint64_t loaded = read_image(bytes, sizeof bytes, BUFFERS);
     expect(refusal(loaded) == want, "read on state records", "another answer");
     uint64_t judged = judge(bytes, sizeof bytes, cycle, 0, cycle, 1, BUFFERS);
     expect(refusal(judged) == want, "judge on state records", "another answer");
-    uint64_t written = zimboralo_write(records, ZIMBORALO_STATES_BYTES, COUNT, edges, sizeof edges, COUNT, first,
-                                       sizeof first, 1, lent(IMAGE), SIZES[IMAGE]);
+    uint64_t written = zimboralo_write(bodies->records, sizeof bodies->records, COUNT, edges, sizeof edges, COUNT,
+                                       first, sizeof first, 1, lent(IMAGE), SIZES[IMAGE]);
     expect(refusal(written) == want, "write on state records", "another answer");
 }
 
-/* 11 in its order: the lowest faulty record, by each of its bytes, alone and with all behind it faulty; then the sum,
- * at the place behind the last record, by each record's count. Every lent buffer is as it was. */
+/* States of four kinds in turn: one at rest; one that accepts and stays only where proposition 0 is; one that stays
+ * freely and does not accept; one that accepts and leads freely to the state before. */
+static struct bodies sound_bodies(void)
+{
+    struct bodies sound = {{0}, {0}, {0}};
+    for (size_t q = 0; q < ZIMBORALO_MAX_STATES; q++) {
+        uint8_t *record = sound.records + 4 * q, *edge = sound.edges + 4 * q;
+        record[0] = 1;
+        record[2] = q % 4 != 2;
+        record[3] = q % 4 == 0;
+        edge[0] = q % 4 == 1;
+        edge[2] = (uint8_t)(q % 4 == 3 ? q - 1 : q);
+    }
+    return sound;
+}
+
+/* The last byte wrong in every record from this place of the table on. */
+static void spoil_rests(struct bodies *bodies, size_t at)
+{
+    for (size_t i = at; i < sizeof bodies->records; i += 4)
+        bodies->records[i + 3] ^= 1;
+}
+
+static uint64_t state_refused(size_t place) { return ZIMBORALO_BAD_STATE | (uint64_t)place << 8; }
+
+/* 11 in its order: the lowest record with a fault in its first three bytes, by each of these, alone and with all behind
+ * it faulty; then the sum, at the place behind the last record, by each record's count. With the last bytes right, and
+ * with all of them wrong. Every lent buffer is as it was. */
 static void state_records(void)
 {
-    static const uint8_t wrong_byte[4] = {129, 1, 2, 1}, wrong_count[4] = {0, 2, 127, 128};
-    uint8_t sound[ZIMBORALO_STATES_BYTES] = {0}, faulty[sizeof sound];
-    for (size_t i = 0; i < sizeof sound; i += 4)
-        sound[i] = 1;
-    states(sound, ZIMBORALO_ACCEPTED);
+    static const uint8_t wrong_byte[3] = {129, 1, 2}, wrong_count[3] = {0, 2, 128};
+    const struct bodies sound = sound_bodies();
+    struct bodies spoiled = sound;
+    spoil_rests(&spoiled, 0);
+    states(&sound, ZIMBORALO_ACCEPTED);
     refill();
-    for (size_t at = 0; at < sizeof sound; at += 4) {
-        uint64_t record = ZIMBORALO_BAD_STATE | (uint64_t)(at / 4) << 8;
-        for (size_t k = 0; k < 4; k++) {
-            memcpy(faulty, sound, sizeof sound);
-            faulty[at] = wrong_count[k];
-            states(faulty, ZIMBORALO_BAD_STATE | (uint64_t)ZIMBORALO_MAX_STATES << 8);
-            faulty[at + k] = wrong_byte[k];
-            states(faulty, record);
-            for (size_t i = at + 4; i < sizeof sound; i += 4)
-                faulty[i + (k + i / 4) % 4] = wrong_byte[(k + i / 4) % 4];
-            states(faulty, record);
+    for (size_t at = 0; at < sizeof sound.records; at += 4)
+        for (size_t n = 0; n < 6; n++) {
+            struct bodies faulty = n < 3 ? sound : spoiled;
+            size_t k = n % 3;
+            faulty.records[at] = wrong_count[k];
+            states(&faulty, state_refused(ZIMBORALO_MAX_STATES));
+            faulty.records[at + k] = wrong_byte[k];
+            states(&faulty, state_refused(at / 4));
+            for (size_t i = at + 4; i < sizeof faulty.records; i += 4)
+                faulty.records[i + (k + i / 4) % 3] = wrong_byte[(k + i / 4) % 3];
+            states(&faulty, state_refused(at / 4));
         }
-        expect_untouched("a refused state record touched a buffer");
+    expect_untouched("a refused state record touched a buffer");
+}
+
+/* A wrong last byte at each record, of 0 and 1 the other one, or above: alone, with all behind it wrong, and with 12 at
+ * transition 1 and 13. Before it come the sum, and the first three bytes of the last record. Every lent buffer is as it
+ * was. */
+static void last_bytes(void)
+{
+    enum { LAST = 4 * (ZIMBORALO_MAX_STATES - 1) };
+    const struct bodies sound = sound_bodies();
+    refill();
+    for (size_t at = 0; at <= LAST; at += 4) {
+        const uint8_t wrong_rest[3] = {sound.records[at + 3] ^ 1, 2, 255};
+        for (size_t k = 0; k < 3; k++) {
+            struct bodies faulty = sound;
+            faulty.records[at + 3] = wrong_rest[k];
+            states(&faulty, state_refused(at / 4));
+            spoil_rests(&faulty, at + 4);
+            states(&faulty, state_refused(at / 4));
+            faulty.edges[4 + 1] = 1;
+            faulty.first[0] = ZIMBORALO_MAX_STATES;
+            states(&faulty, state_refused(at / 4));
+            faulty.records[LAST] = 2;
+            states(&faulty, state_refused(ZIMBORALO_MAX_STATES));
+            faulty.records[LAST + 2] = 2;
+            states(&faulty, state_refused(LAST / 4));
+        }
+    }
+    expect_untouched("a refused last byte touched a buffer");
+}
+
+/* Each state with other transitions, accepting and not, so that it comes to rest or leaves it; two of them are refused
+ * by 12, the first because its target is 256 too high. With the last byte right there is no 11, with the other one it
+ * comes before that 12. */
+static void rests(void)
+{
+    static const struct {
+        uint8_t must, must_not, further, high;
+        unsigned number;
+    } edges[] = {{0, 0, 0, 0, ZIMBORALO_ACCEPTED}, {1, 0, 0, 0, ZIMBORALO_ACCEPTED}, {0, 128, 0, 0, ZIMBORALO_ACCEPTED},
+                 {0, 0, 1, 0, ZIMBORALO_ACCEPTED}, {0, 0, 0, 1, ZIMBORALO_BAD_TRANSITION},
+                 {1, 1, 0, 0, ZIMBORALO_BAD_TRANSITION}};
+    for (size_t q = 0; q < ZIMBORALO_MAX_STATES; q++)
+        for (size_t n = 0; n < 2 * (sizeof edges / sizeof *edges); n++) {
+            struct bodies bodies = sound_bodies();
+            uint8_t *record = bodies.records + 4 * q, *edge = bodies.edges + 4 * q, accepting = n % 2;
+            size_t e = n / 2;
+            edge[0] = edges[e].must;
+            edge[1] = edges[e].must_not;
+            edge[2] = (uint8_t)((q + edges[e].further) % ZIMBORALO_MAX_STATES);
+            edge[3] = edges[e].high;
+            record[2] = accepting;
+            record[3] = e == 0 && accepting;
+            states(&bodies, edges[e].number == ZIMBORALO_ACCEPTED ? ZIMBORALO_ACCEPTED
+                                                                  : edges[e].number | (uint64_t)q << 8);
+            record[3] ^= 1;
+            states(&bodies, state_refused(q));
+        }
+}
+
+/* Rules and lassos with their verdicts and the pairs that judging takes, worked out by hand. The letters are those of
+ * the stem and then of the cycle, zero where none is given. */
+static const struct {
+    struct zimboralo_rule rule;
+    size_t stem, cycle;
+    uint8_t letters[4];
+    unsigned kept, pairs;
+} TAKEN[] = {
+    /* false has no state; true one, at rest */
+    {{{0, 0, 0}, 3}, 0, 1, {0}, 0, 0},
+    {{{1, 0, 0}, 3}, 0, 1, {0}, 1, 1},
+    /* 0: at letter 0 alone state 0, which accepts and is not at rest; then state 1, which is */
+    {{{2, 0, 0}, 3}, 1, 1, {1, 0}, 1, 2},
+    {{{2, 0, 0}, 3}, 0, 1, {0}, 0, 1},
+    /* eventually 0: state 0 at every letter up to the first with 0, and then state 1, at rest, before state 0 */
+    {{{2, 0, 0, 12, 0, 0}, 6}, 1, 1, {1, 0}, 1, 2},
+    {{{2, 0, 0, 12, 0, 0}, 6}, 2, 2, {0, 0, 1, 0}, 1, 4},
+    {{{2, 0, 0, 12, 0, 0}, 6}, 0, 2, {0, 1}, 1, 3},
+    {{{2, 0, 0, 12, 0, 0}, 6}, 0, 1, {0}, 0, 1},
+    {{{2, 0, 0, 12, 0, 0}, 6}, 0, ZIMBORALO_MAX_LETTERS, {0}, 0, ZIMBORALO_MAX_LETTERS},
+    /* always 0: one state, which is never at rest */
+    {{{2, 0, 0, 11, 0, 0}, 6}, 0, 3, {1, 1, 1}, 1, 3},
+    {{{2, 0, 0, 11, 0, 0}, 6}, 0, 3, {1, 1, 0}, 0, 3},
+    {{{2, 0, 0, 11, 0, 0}, 6}, 1, 1, {0, 1}, 0, 1},
+    /* always eventually 0, none at rest: state 0, at the next letter 2, then at the first again 1 and 2 */
+    {{{2, 0, 0, 12, 0, 0, 11, 1, 0}, 9}, 0, 2, {0, 1}, 1, 4},
+    /* state 0, then 1 and 2 at the cycle's one letter, from where only 2 is reached */
+    {{{2, 0, 0, 12, 0, 0, 11, 1, 0}, 9}, 1, 1, {1, 0}, 0, 3},
+};
+
+/* An answer that is a verdict with so many pairs, by which the working space is zero. */
+static void expect_taken(uint64_t answer, uint64_t kept, uint64_t pairs_taken, const char *what)
+{
+    expect(answer == (kept << 8 | pairs_taken << 16), what, "another answer");
+    expect(zimboralo_kept(answer) == (int)kept && zimboralo_pairs(answer) == pairs_taken, what, "another part");
+    expect(zero(WORK, SIZES[WORK]), what, "work is not zero");
+    expect_guards("a search for rest touched a guard");
+}
+
+/* The list above by decide, and by judge on the image that it leaves. */
+static void known_pairs(void)
+{
+    for (size_t i = 0; i < sizeof TAKEN / sizeof *TAKEN; i++) {
+        static uint8_t copy[ZIMBORALO_IMAGE_BYTES];
+        uint8_t word[ZIMBORALO_MAX_LETTERS] = {0};
+        const uint8_t *cycle = word + TAKEN[i].stem;
+        memcpy(word, TAKEN[i].letters, sizeof TAKEN[i].letters);
+        refill();
+        expect_taken(decide(TAKEN[i].rule.bytes, TAKEN[i].rule.length, word, TAKEN[i].stem, cycle, TAKEN[i].cycle,
+                            BUFFERS),
+                     TAKEN[i].kept, TAKEN[i].pairs, "pairs of decide");
+        memcpy(copy, lent(IMAGE), sizeof copy);
+        size_t length = zimboralo_number_at(copy + 16) + 2 * zimboralo_number_at(copy + 14);
+        refill();
+        expect_taken(judge(copy, length, word, TAKEN[i].stem, cycle, TAKEN[i].cycle, BUFFERS), TAKEN[i].kept,
+                     TAKEN[i].pairs, "pairs of judge");
+    }
+}
+
+/* As many states as there may be, all of them initial and staying, on as many letters as there may be: all pairs are
+ * taken, or those of the first letter where the last state is at rest. */
+static void most_pairs(void)
+{
+    enum { COUNT = ZIMBORALO_MAX_STATES, MOST = COUNT * ZIMBORALO_MAX_LETTERS };
+    /* of the last state: whether it accepts and what it wants; the verdict and the pairs */
+    static const struct {
+        uint8_t accepting, must;
+        unsigned kept, pairs;
+    } last[] = {{0, 0, 0, MOST}, {1, 0, 1, COUNT}, {1, 1, 1, MOST}};
+    static struct zimboralo_tables many;
+    static struct zimboralo_image bytes;
+    uint8_t word[ZIMBORALO_MAX_LETTERS];
+    memset(word, 1, sizeof word);
+    many.state_count = many.transition_count = many.initial_count = COUNT;
+    for (uint8_t q = 0; q < COUNT; q++) {
+        many.states[4 * q] = 1;
+        many.transitions[4 * q + 2] = many.initial[2 * q] = q;
+    }
+    for (size_t i = 0; i < sizeof last / sizeof *last; i++) {
+        many.states[4 * COUNT - 2] = last[i].accepting;
+        many.states[4 * COUNT - 1] = last[i].accepting && !last[i].must;
+        many.transitions[4 * COUNT - 4] = last[i].must;
+        expect(accepted(zimboralo_write_image(&many, &bytes)), "not written", "as many states as there may be");
+        for (size_t s = 0; s < sizeof word; s += sizeof word - 1) {
+            refill();
+            expect_taken(judge(bytes.bytes, bytes.length, word, s, word + s, sizeof word - s, BUFFERS), last[i].kept,
+                         last[i].pairs, "most pairs");
+        }
     }
 }
 
@@ -589,6 +771,10 @@ int main(void)
     node_too_many(EVENTUALLY);
     normal_forms();
     state_records();
+    last_bytes();
+    rests();
+    known_pairs();
+    most_pairs();
     lassos();
     printf("guards: %d looked at, %d wrong\n", looked, wrong);
     for (int b = 0; b < BUFFERS; b++)

@@ -15,7 +15,7 @@ int main()
     uint64_t normalized = zimboralo_normalize_rule(eventually, sizeof eventually, &normal);
     return zimboralo_number(normalized) == ZIMBORALO_ACCEPTED && normal.length == sizeof until
                    && std::memcmp(normal.bytes, until, sizeof until) == 0
-                   && zimboralo_number(kept) == ZIMBORALO_ACCEPTED && zimboralo_kept(kept)
+                   && zimboralo_number(kept) == ZIMBORALO_ACCEPTED && zimboralo_kept(kept) && zimboralo_pairs(kept) == 2
                    && std::strcmp(zimboralo_text(zimboralo_number(refused)), "the plan's loop is empty") == 0
                ? 0
                : 1;

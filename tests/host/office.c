@@ -1,4 +1,5 @@
-/* The office program: a written rule and a lasso, from bytes to the verdict in words.
+/* The office program: a written rule and a lasso, from bytes to the verdict in words, with how many pairs of a slot and
+ * a state judging took.
  *
  *     office RULE STEM CYCLE       each in hexadecimal, or @FILE for a file's bytes; - for none
  *
@@ -76,6 +77,6 @@ int main(int count, char **words)
                zimboralo_text(zimboralo_number(answer)));
         return 2;
     }
-    puts(zimboralo_kept(answer) ? "kept" : "broken");
+    printf("%s, pairs taken: %u\n", zimboralo_kept(answer) ? "kept" : "broken", zimboralo_pairs(answer));
     return zimboralo_kept(answer) ? 0 : 1;
 }

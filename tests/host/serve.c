@@ -4,7 +4,8 @@
  *     N rule                   its negation normal form in hexadecimal, or `refused N place P`; `other` where the bytes
  *                              behind it are not zero, or a refusal has touched one
  *     T rule                   the image's bytes in hexadecimal, or the refusal
- *     J image stem cycle       `kept`, `broken` or the refusal
+ *     J image stem cycle       `kept` or `broken` and how many pairs were taken, or the refusal; `other` where a
+ *                              verdict leaves a working byte that is not zero, or a refusal has touched one
  *     R image                  `same` if read and then written it is the same bytes, `other` if not, or the refusal
  *     W counts and three tables   the image's bytes, or the refusal; the counts are three numbers of four bytes
  *     D rule stem cycle        as J, of deciding in one call; `other` where a buffer is not as the calls leave it
@@ -49,6 +50,12 @@ static int refused(uint64_t answer)
     return 1;
 }
 
+static void print_verdict(uint64_t answer)
+{
+    if (!refused(answer))
+        printf("%s %u\n", zimboralo_kept(answer) ? "kept" : "broken", zimboralo_pairs(answer));
+}
+
 static void print_bytes(const uint8_t *bytes, size_t length)
 {
     for (size_t i = 0; i < length; i++)
@@ -62,6 +69,17 @@ static void print_image(uint64_t answer)
         print_bytes(buffers.image.bytes, zimboralo_length(answer));
 }
 
+/* What an answer leaves of bytes that were not set: zero by an acceptance, as they were by a refusal. */
+static uint8_t left(uint64_t answer) { return zimboralo_number(answer) == ZIMBORALO_ACCEPTED ? 0 : UNSET; }
+
+static int filled(const uint8_t *bytes, size_t length, uint8_t byte)
+{
+    for (size_t i = 0; i < length; i++)
+        if (bytes[i] != byte)
+            return 0;
+    return 1;
+}
+
 static void normalize(void)
 {
     struct zimboralo_rule normal = {{0}, 0};
@@ -69,11 +87,8 @@ static void normalize(void)
     size_t n;
     uint8_t *rule = slice(&n);
     uint64_t answer = zimboralo_normalize_rule(rule, n, &normal);
-    uint8_t behind = zimboralo_number(answer) == ZIMBORALO_ACCEPTED ? 0 : UNSET;
-    int ok = normal.length <= sizeof normal.bytes;
-    for (size_t i = normal.length; ok && i < sizeof normal.bytes; i++)
-        ok = normal.bytes[i] == behind;
-    if (!ok)
+    if (normal.length > sizeof normal.bytes
+        || !filled(normal.bytes + normal.length, sizeof normal.bytes - normal.length, left(answer)))
         puts("other");
     else if (!refused(answer))
         print_bytes(normal.bytes, normal.length);
@@ -93,9 +108,12 @@ static void judge(void)
 {
     size_t n, s, c;
     uint8_t *bytes = slice(&n), *stem = slice(&s), *cycle = slice(&c);
+    memset(buffers.work, UNSET, sizeof buffers.work);
     uint64_t answer = zimboralo_judge(bytes, n, stem, s, cycle, c, buffers.work, sizeof buffers.work);
-    if (!refused(answer))
-        puts(zimboralo_kept(answer) ? "kept" : "broken");
+    if (!filled(buffers.work, sizeof buffers.work, left(answer)))
+        puts("other");
+    else
+        print_verdict(answer);
     free(bytes);
     free(stem);
     free(cycle);
@@ -162,8 +180,8 @@ static void decide(void)
         in_a_row(&want, rule, n);
     if (!same_buffers(&buffers, &want))
         puts("other");
-    else if (!refused(answer))
-        puts(zimboralo_kept(answer) ? "kept" : "broken");
+    else
+        print_verdict(answer);
     free(rule);
     free(stem);
     free(cycle);

@@ -9,7 +9,7 @@ use native.Mathlib.Omega.{arith}
 use lib.ListN.{length, getD, length-append, List·getD-append}
 use lib.Seq.{getD-append-add}
 use Rattle.answer.specs.Bytes.{twoBytes, numberAt}
-use Rattle.automaton.specs.Automaton.{Transition, State, Automaton, noState}
+use Rattle.automaton.specs.Automaton.{Transition, State, Automaton, noState, atRest}
 use Rattle.automaton.specs.Records.{records, numbered, stateBytes, stateRecord, transitionRecord, stateRecords}
 use Rattle.automaton.specs.Tables.{transitionCount}
 
@@ -81,16 +81,16 @@ pub number-length : (n : ℕ) → length (twoBytes n) ≡ 2
 unfolding twoBytes
 number-length n = refl
 
-pub state-length : (count : ℕ) (accepting : Bool) → length (stateBytes count accepting) ≡ 4
+pub state-length : (count : ℕ) (accepting rests : Bool) → length (stateBytes count accepting rests) ≡ 4
 unfolding twoBytes
-state-length count accepting = refl
+state-length count accepting rests = refl
 
 abbrev recordOf : ℕ × State → List ℕ
 recordOf x = stateRecord (x .0) (x .1)
 
 record-length : (x : ℕ × State) → length (recordOf x) ≡ 4
 unfolding stateRecord
-record-length x = state-length (length (x .1 .transitions)) (x .1 .accepting)
+record-length x = state-length (length (x .1 .transitions)) (x .1 .accepting) (atRest (x .0) (x .1))
 
 pub transition-length : (t : Transition) → length (transitionRecord t) ≡ 4
 unfolding transitionRecord twoBytes

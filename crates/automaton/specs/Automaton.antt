@@ -8,7 +8,7 @@ use mathlib.Core.Bool.{Bool, true, false, _&&_}
 use lib.ListN.{getD, length}
 use lib.Dec.{eqb}
 use lib.Bits.{bitAnd, bitOr}
-use Rattle.sets.specs.Sets.{In}
+use Rattle.sets.specs.Sets.{In, any}
 use Rattle.lasso.specs.Lasso.{letter}
 
 pub record Transition : Type 0 where
@@ -32,6 +32,15 @@ noState = record { accepting = false; transitions = [] }
 -- First walk and second walk, sentence 6)
 abbrev pub reads : Transition → (letter : ℕ) → Bool
 reads t a = eqb (bitOr (t .must) a) a && eqb (bitAnd (t .mustNot) a) 0
+
+-- a free transition to state q: it asks for no proposition and forbids none, so it reads every letter (01, First walk
+-- and second walk, sentence 6)
+abbrev pub freeTo : (q : ℕ) → Transition → Bool
+freeTo q t = eqb (t .must) 0 && (eqb (t .mustNot) 0 && eqb (t .target) q)
+
+-- state q is at rest: an accepting state from which a free transition leads back to it (02, R-5)
+unfoldable pub atRest : (q : ℕ) → State → Bool
+atRest q s = s .accepting && any (freeTo q) (s .transitions)
 
 -- a step of a run from state q at letter a: some transition of q can be taken there, and next is where it leads (01,
 -- Judging, sentence 2)

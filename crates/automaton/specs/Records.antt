@@ -4,7 +4,7 @@ use mathlib.Core.List.{List, [], _∷_, _++_}
 use mathlib.Core.Bool.{Bool, cond}
 use lib.ListN.{length}
 use Rattle.answer.specs.Bytes.{twoBytes}
-use Rattle.automaton.specs.Automaton.{Transition, State, Automaton}
+use Rattle.automaton.specs.Automaton.{Transition, State, Automaton, atRest}
 
 -- the records of all of xs, one after another
 unfoldable pub records : {A : Type 0} → (A → List ℕ) → List A → List ℕ
@@ -20,14 +20,14 @@ numbered from (x ∷ xs) = (from, x) ∷ numbered (suc from) xs
 abbrev pub numberedRecords : {A : Type 0} → (ℕ → A → List ℕ) → (from : ℕ) → List A → List ℕ
 numberedRecords bytesOf from xs = records (λ x. bytesOf (x .0) (x .1)) (numbered from xs)
 
--- a state, in 4 bytes: how many transitions it has, then 1 if it accepts and 0 if not, then a zero (01, The image,
--- sentence 5)
-abbrev pub stateBytes : (count : ℕ) (accepting : Bool) → List ℕ
-stateBytes count accepting = twoBytes count ++ (cond accepting 1 0 ∷ (0 ∷ []))
+-- a state, in 4 bytes: how many transitions it has, then 1 if it accepts and 0 if not, then 1 if it is at rest and 0 if
+-- not (01, The image, sentence 5, with the last byte of 02, R-5)
+abbrev pub stateBytes : (count : ℕ) (accepting rests : Bool) → List ℕ
+stateBytes count accepting rests = twoBytes count ++ (cond accepting 1 0 ∷ (cond rests 1 0 ∷ []))
 
 -- a state that has a number; no byte shows the number, which is where the record stands
 unfoldable pub stateRecord : (number : ℕ) → State → List ℕ
-stateRecord number s = stateBytes (length (s .transitions)) (s .accepting)
+stateRecord number s = stateBytes (length (s .transitions)) (s .accepting) (atRest number s)
 
 -- a transition, in 4 bytes: its propositions, must before mustNot, then the number of its target (01, The image,
 -- sentence 6)

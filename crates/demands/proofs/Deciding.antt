@@ -20,7 +20,7 @@ use Rattle.translation.specs.Translate.{writtenTranslation, stored, translated}
 use Rattle.image.specs.Image.{imageBytes, largestImage}
 use Rattle.image.specs.Calls.{bufferCheck, writes}
 use Rattle.answer.specs.Buffer.{Buffer, buffer}
-use Rattle.judge.specs.Judge.{workBytes, Verdict, verdict, judgement, judged}
+use Rattle.judge.specs.Judge.{workBytes, Finding, found, judgement, judged}
 use Rattle.lasso.specs.Lasso.{lassoCheck}
 use Rattle.judge.proofs.VerdictIff.{image-judged}
 use Rattle.correctness.proofs.WellFormed.{written-well-formed}
@@ -144,12 +144,12 @@ module _ (rule stem cycle s t i image work : List ℕ) (passes : inputCheck rule
             ap (take n) (has-stored .stored-in)
             ∙ take-at (imageBytes a) (drop (length (imageBytes a)) image) n image-size
 
-        pub lasso-judged : {answer : Result Verdict} {work' : List ℕ}
+        pub lasso-judged : {answer : Result Finding} {work' : List ℕ}
             → judgement answer work' ≡ judged (take n image') stem cycle work
             → decision answer s' t' i' image' work' ≡ concluded (writtenTranslation rule) stem cycle s t i image work
         unfolding stored
         lasso-judged {answer} {work'} judges =
-            let known : judgement answer work' ≡ judgement (accepted (verdict a stem cycle)) (zeros work) =
+            let known : judgement answer work' ≡ judgement (accepted (found a stem cycle)) (zeros work) =
             judges ∙ ap (λ (bytes : List ℕ). judged bytes stem cycle work) image-is ∙ image-judged a (written-well-formed rule a (has-stored .translated-to)) stem cycle work (passed .lasso) (passed .room .working) in
             let tables = has-stored .tables in
             rw (has-stored .translated-to) (λ k. decision (known k .answer) (tables k .states) (tables k .transitions) (tables k .initial) (has-stored .stored-in k) (known k .work))

@@ -1,5 +1,6 @@
 -- The rows P1 to P9 of 01, Watchers to hold against the definitions, and four of R-3 under one theorem: normal form,
--- first walk, automaton, given images and verdicts of each, computed from the definitions. Assumes nothing.
+-- first walk, automaton, given images, verdicts and numbers of pairs of each, computed from the definitions. Assumes
+-- nothing.
 use Prim.Native.Nat.{ℕ, _≤_}
 use mathlib.Core.Path.{_≡_, refl, sym, _∙_, ap}
 use mathlib.Core.Logic.{inl, inr}
@@ -23,7 +24,7 @@ use Rattle.acceptance.specs.Acceptance.{shows, fulfils, bitsOf, fulfilment}
 use Rattle.domination.specs.Domination.{dominates, sift}
 use Rattle.generalized.specs.Generalized.{partialProduct, transitions, productCheck, targets, generalized}
 use Rattle.generalized.specs.Memory.{allTransitions}
-use Rattle.automaton.specs.Automaton.{Transition, State, Automaton}
+use Rattle.automaton.specs.Automaton.{Transition, State, Automaton, atRest}
 use Rattle.translation.specs.Degeneralized.{climb, nextLevel, numbers, initialNumbers, pairTransitions, target}
 use Rattle.translation.specs.Degeneralized.{degeneralized, stateOf, translation}
 use Rattle.translation.specs.Translate.{writtenTranslation}
@@ -33,19 +34,21 @@ use Rattle.answer.specs.Bytes.{twoBytes}
 use Rattle.automaton.specs.Tables.{transitionCount}
 use Rattle.sets.proofs.Members.{All}
 use Rattle.image.specs.Image.{entry, contents, imageBytes}
-use Rattle.judge.specs.Search
-use Rattle.judge.specs.Judge.{workBytes, Verdict, kept, broken, verdict, Judgement, judged}
+use Rattle.rest.specs.Search
+use Rattle.rest.specs.Rest.{upTo, taken, restTaken, pairsTaken}
+use Rattle.judge.specs.Search.{hasAcceptingPass}
+use Rattle.judge.specs.Judge.{workBytes, Verdict, kept, broken, Finding, finding, verdict, found, Judgement, judged}
 use Rattle.judge.proofs.VerdictIff.{image-judged}
 use Rattle.correctness.proofs.WellFormed.{written-well-formed}
 
--- a lasso and its verdict
+-- a lasso and what judging finds: the verdict and how many pairs are taken
 pub record Case : Type 0 where
   pub stem : List ℕ
   pub cycle : List ℕ
-  pub verdict : Verdict
+  pub finds : Finding
 
 -- a rule as it is written, its negation normal form, the obligation sets of the form's first walk and the count of its
--- transitions, the automaton, its image if one is given, and the verdicts that it gives
+-- transitions, the automaton, its image if one is given, and what judging finds by it
 pub record Row : Type 0 where
   pub rule : List ℕ
   pub form : List ℕ
@@ -55,17 +58,20 @@ pub record Row : Type 0 where
   pub images : List (List ℕ)
   pub cases : List Case
 
--- what a row says; a verdict is the answer of judging the automaton's image, with working bytes enough
+-- what a row says; what judging finds is its answer on the automaton's image, with working bytes enough
 pub record Right (row : Row) : Type 0 where
   pub formed : normalForm (row .rule) ≡ accepted (row .form)
   pub walked : generalized (row .form) ≡ accepted (row .sets)
   pub counted : length (allTransitions (row .form) (row .sets)) ≡ row .count
   pub translated : writtenTranslation (row .rule) ≡ accepted (row .automaton)
   pub imaged : All (λ image. imageBytes (row .automaton) ≡ image) (row .images)
-  pub judges : All (λ c. (work : List ℕ) → workBytes ≤ length work → judged (imageBytes (row .automaton)) (c .stem) (c .cycle) work .answer ≡ accepted (c .verdict)) (row .cases)
+  pub judges : All
+      (λ c. (work : List ℕ) → workBytes ≤ length work
+      → judged (imageBytes (row .automaton)) (c .stem) (c .cycle) work .answer ≡ accepted (c .finds))
+      (row .cases)
 
-on : (stem cycle : List ℕ) → Verdict → Case
-on stem cycle verdict = record { stem = stem; cycle = cycle; verdict = verdict }
+on : (stem cycle : List ℕ) → Verdict → (pairs : ℕ) → Case
+on stem cycle verdict pairs = record { stem = stem; cycle = cycle; finds = finding verdict pairs }
 
 state : Bool → List Transition → State
 state accepting ts = record { accepting = accepting; transitions = ts }
@@ -95,7 +101,7 @@ p1 = record {
   count = 0;
   automaton = record { states = []; initial = [] };
   images = [];
-  cases = on [] (0 ∷ []) broken ∷ [];
+  cases = on [] (0 ∷ []) broken 0 ∷ [];
 }
 
 p2 : Row
@@ -116,7 +122,8 @@ p3 = record {
   sets = 1 ∷ 0 ∷ [];
   count = 2;
   automaton = record { states = state true (transition 1 0 1 ∷ []) ∷ state true (transition 0 0 1 ∷ []) ∷ []; initial = 0 ∷ [] };
-  images = (1 ∷ 0 ∷ 2 ∷ 0 ∷ 18 ∷ 0 ∷ 2 ∷ 0 ∷ 2 ∷ 0 ∷ 26 ∷ 0 ∷ 3 ∷ 0 ∷ 1 ∷ 0 ∷ 34 ∷ 0 ∷ 1 ∷ 0 ∷ 1 ∷ 0 ∷ 1 ∷ 0 ∷ 1 ∷ 0 ∷ 1 ∷ 0 ∷ 1 ∷ 0 ∷ 0 ∷ 0 ∷ 1 ∷ 0 ∷ 0 ∷ 0 ∷ []) ∷ [];
+  images = (1 ∷ 0 ∷ 2 ∷ 0 ∷ 18 ∷ 0 ∷ 2 ∷ 0 ∷ 2 ∷ 0 ∷ 26 ∷ 0 ∷ 3 ∷ 0 ∷ 1 ∷ 0 ∷ 34 ∷ 0
+      ∷ 1 ∷ 0 ∷ 1 ∷ 0 ∷ 1 ∷ 0 ∷ 1 ∷ 1 ∷ 1 ∷ 0 ∷ 1 ∷ 0 ∷ 0 ∷ 0 ∷ 1 ∷ 0 ∷ 0 ∷ 0 ∷ []) ∷ [];
   cases = [];
 }
 
@@ -128,7 +135,7 @@ p4 = record {
   count = 3;
   automaton = record { states = state false (transition 1 0 1 ∷ transition 0 0 0 ∷ []) ∷ state true (transition 0 0 1 ∷ []) ∷ []; initial = 0 ∷ [] };
   images = [];
-  cases = on (1 ∷ []) (0 ∷ []) kept ∷ on [] (0 ∷ []) broken ∷ [];
+  cases = on (1 ∷ []) (0 ∷ []) kept 2 ∷ on [] (0 ∷ []) broken 1 ∷ [];
 }
 
 p5 : Row
@@ -139,7 +146,7 @@ p5 = record {
   count = 1;
   automaton = record { states = state true (transition 1 0 0 ∷ []) ∷ []; initial = 0 ∷ [] };
   images = [];
-  cases = on [] (1 ∷ []) kept ∷ on (0 ∷ []) (1 ∷ []) broken ∷ [];
+  cases = on [] (1 ∷ []) kept 1 ∷ on (0 ∷ []) (1 ∷ []) broken 1 ∷ [];
 }
 
 p6 : Row
@@ -150,7 +157,7 @@ p6 = record {
   count = 3;
   automaton = record { states = state true (transition 0 0 1 ∷ []) ∷ state true (transition 1 0 2 ∷ []) ∷ state true (transition 0 0 2 ∷ []) ∷ []; initial = 0 ∷ [] };
   images = [];
-  cases = on [] (1 ∷ []) kept ∷ on [] (1 ∷ 0 ∷ []) broken ∷ [];
+  cases = on [] (1 ∷ []) kept 3 ∷ on [] (1 ∷ 0 ∷ []) broken 2 ∷ [];
 }
 
 p7 : Row
@@ -161,7 +168,7 @@ p7 = record {
   count = 3;
   automaton = record { states = state false (transition 2 0 1 ∷ transition 1 0 0 ∷ []) ∷ state true (transition 0 0 1 ∷ []) ∷ []; initial = 0 ∷ [] };
   images = [];
-  cases = on (1 ∷ 1 ∷ []) (2 ∷ []) kept ∷ on [] (1 ∷ []) broken ∷ [];
+  cases = on (1 ∷ 1 ∷ []) (2 ∷ []) kept 4 ∷ on [] (1 ∷ []) broken 1 ∷ [];
 }
 
 p8 : Row
@@ -172,7 +179,7 @@ p8 = record {
   count = 3;
   automaton = record { states = state true (transition 3 0 1 ∷ transition 2 0 0 ∷ []) ∷ state true (transition 0 0 1 ∷ []) ∷ []; initial = 0 ∷ [] };
   images = [];
-  cases = on [] (2 ∷ []) kept ∷ on (3 ∷ []) (0 ∷ []) kept ∷ on (2 ∷ []) (1 ∷ []) broken ∷ [];
+  cases = on [] (2 ∷ []) kept 1 ∷ on (3 ∷ []) (0 ∷ []) kept 2 ∷ on (2 ∷ []) (1 ∷ []) broken 2 ∷ [];
 }
 
 p9 : Row
@@ -213,8 +220,8 @@ ifOpenPadded = record {
   automaton = record { states = state true (transition 0 1 0 ∷ transition 2 0 0 ∷ []) ∷ []; initial = 0 ∷ [] };
   images = (1 ∷ 0 ∷ 1 ∷ 0 ∷ 18 ∷ 0 ∷ 2 ∷ 0 ∷ 2 ∷ 0 ∷ 22 ∷ 0 ∷ 3 ∷ 0 ∷ 1 ∷ 0 ∷ 30 ∷ 0
       ∷ 2 ∷ 0 ∷ 1 ∷ 0 ∷ 0 ∷ 1 ∷ 0 ∷ 0 ∷ 2 ∷ 0 ∷ 0 ∷ 0 ∷ 0 ∷ 0 ∷ []) ∷ [];
-  cases = on [] (0 ∷ []) kept ∷ on (0 ∷ 3 ∷ []) (2 ∷ 0 ∷ []) kept ∷ on (1 ∷ []) (3 ∷ []) broken
-      ∷ on (0 ∷ []) (3 ∷ 1 ∷ []) broken ∷ [];
+  cases = on [] (0 ∷ []) kept 1 ∷ on (0 ∷ 3 ∷ []) (2 ∷ 0 ∷ []) kept 4 ∷ on (1 ∷ []) (3 ∷ []) broken 1
+      ∷ on (0 ∷ []) (3 ∷ 1 ∷ []) broken 3 ∷ [];
 }
 
 pub table : List Row
@@ -253,7 +260,8 @@ translations = refl
 
 images : map (λ row. map (λ image. imageBytes (row .automaton)) (row .images)) table ≡ map (λ row. map (λ image. image) (row .images)) table
 unfolding on state transition writtenAs table p1 p2 p3 p4 p5 p6 p7 p8 p9 p4Written p5Written p9Written ifOpenPadded
-    transitionCount records numbered twoBytes stateRecord transitionRecord stateRecords transitionRecords initialRecords
+    any atRest transitionCount records numbered twoBytes stateRecord transitionRecord stateRecords transitionRecords
+    initialRecords
     entry contents imageBytes
 images = refl
 
@@ -262,11 +270,12 @@ unfolding on state transition writtenAs table p1 p2 p3 p4 p5 p6 p7 p8 p9 p4Writt
     lassoCheck
 fits = refl
 
-verdicts : map (λ row. map (λ c. verdict (row .automaton) (c .stem) (c .cycle)) (row .cases)) table ≡ map (λ row. map (λ c. c .verdict) (row .cases)) table
+findings : map (λ row. map (λ c. found (row .automaton) (c .stem) (c .cycle)) (row .cases)) table
+    ≡ map (λ row. map (λ c. c .finds) (row .cases)) table
 unfolding on state transition writtenAs table p1 p2 p3 p4 p5 p6 p7 p8 p9 p4Written p5Written p9Written ifOpenPadded
-    letter any Search.visit Search.visitAll Search.readTargets Search.after Search.onward Search.reach
-    Search.reachedFrom Search.starts Search.hasAcceptingPass verdict
-verdicts = refl
+    letter any atRest Search.visit Search.visitAll Search.readTargets Search.after Search.onward Search.reach
+    Search.reachedFrom Search.starts upTo taken restTaken pairsTaken hasAcceptingPass verdict
+findings = refl
 
 -- ---- each row by itself
 
@@ -289,7 +298,7 @@ rows row m = record {
   judges = λ c n work enough.
       let fit = same-each _ _ (row .cases) (same-each _ _ table fits row m) c n in
       ap (λ (j : Judgement). j .answer) (image-judged (row .automaton) (written-well-formed (row .rule) (row .automaton) translated) (c .stem) (c .cycle) work fit enough)
-      ∙ ap accepted (same-each _ _ (row .cases) (same-each _ _ table verdicts row m) c n);
+      ∙ ap accepted (same-each _ _ (row .cases) (same-each _ _ table findings row m) c n);
 }
   where
     formed : normalForm (row .rule) ≡ accepted (row .form)

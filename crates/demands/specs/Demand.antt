@@ -14,7 +14,7 @@ use Rattle.automaton.specs.Tables.{tableCheck}
 use Rattle.answer.specs.Bytes.{zeros, filled}
 use Rattle.image.specs.Image.{imageBytes}
 use Rattle.image.specs.Calls.{bufferCheck}
-use Rattle.judge.specs.Judge.{Verdict, Exactly, workCheck, verdict}
+use Rattle.judge.specs.Judge.{Finding, Exactly, workCheck, found}
 use Rattle.lasso.specs.Lasso.{lassoCheck}
 
 -- 25: one of the three tables, the image's buffer or the working bytes is too short for its call
@@ -30,14 +30,14 @@ inputCheck rule stem cycle states transitions initial image work =
 
 -- an answer, and the five lent buffers afterwards
 pub record Decision : Type 0 where
-  pub answer : Result Verdict
+  pub answer : Result Finding
   pub states : List ℕ
   pub transitions : List ℕ
   pub initial : List ℕ
   pub image : List ℕ
   pub work : List ℕ
 
-abbrev pub decision : Result Verdict → (states transitions initial image work : List ℕ) → Decision
+abbrev pub decision : Result Finding → (states transitions initial image work : List ℕ) → Decision
 decision answer s t i image work =
     record { answer = answer; states = s; transitions = t; initial = i; image = image; work = work }
 
@@ -45,7 +45,7 @@ decision answer s t i image work =
 -- buffer, the working bytes zero. After 20 to 24 the tables are zero, and the rest is as it was.
 abbrev pub concluded : Result Automaton → (stem cycle states transitions initial image work : List ℕ) → Decision
 concluded (accepted a) stem cycle s t i image work =
-    decision (accepted (verdict a stem cycle))
+    decision (accepted (found a stem cycle))
     (filled s (stateRecords a)) (filled t (transitionRecords a)) (filled i (initialRecords a))
     (imageBytes a ++ drop (length (imageBytes a)) image) (zeros work)
 concluded (refused number place) stem cycle s t i image work =
@@ -69,11 +69,11 @@ decidable rule stem cycle s t i image work =
     andThen (inputCheck rule stem cycle s t i image work) (λ _. andThen (writtenTranslation rule) (λ _. accepted tt))
 
 -- the first refusal where there is one, else kept exactly where P holds and broken exactly where it does not
-abbrev pub Answers : Result Verdict → Check → Type 0 → Type 0
+abbrev pub Answers : Result Finding → Check → Type 0 → Type 0
 Answers r (accepted _) P = Exactly r P
 Answers r (refused number place) P = r ≡ refused number place
 
 -- demand 3 of one answer: P is that the lasso satisfies the rule
-abbrev pub Decides : Result Verdict → (rule stem cycle states transitions initial image work : List ℕ) → Type 0
+abbrev pub Decides : Result Finding → (rule stem cycle states transitions initial image work : List ℕ) → Type 0
 Decides r rule stem cycle s t i image work =
     Answers r (decidable rule stem cycle s t i image work) (SatisfiesWritten rule stem cycle)

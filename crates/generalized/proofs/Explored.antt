@@ -8,11 +8,13 @@ use Prim.Native.Nat.{ℕ, zero, suc, _+_, _≤_, _<_}
 use native.Mathlib.Decide.{ℕ-discrete, decLt}
 use native.Mathlib.Omega.{arith}
 use lib.ListN.{length, getD, length-append, List·getD-append}
+use lib.Seq.{getD-append-add}
 use Rattle.answer.specs.Result.{accepted, fine}
 use Rattle.answer.proofs.Results.{never-both, then-accepted}
 use Rattle.sets.specs.Sets.{In}
 use Rattle.sets.proofs.Members.{All, all-one, at-in, in-append, append-in}
 use Rattle.generalized.specs.Explore.{find, meet, Numbering, meetAll, Walk, explore, walked}
+use Rattle.generalized.proofs.Numbers.{find-stays, find-next}
 use Rattle.generalized.proofs.Exploring.{meet-seen, meet-next, meet-full, explore-is, explore-ends}
 
 -- ys are xs and more after them
@@ -67,6 +69,24 @@ module _ {A : Type 0} (same : A → A → Bool) where
       go false q (inl e) ih = absurd (false≢true (sym q ∙ sym (ap (same x) e) ∙ self x))
       go false q (inr h) ih = let l = ih h in omega arith
 
+-- each member stands at its number: none stands twice
+abbrev pub Once : {A : Type 0} (same : A → A → Bool) (none : A) → List A → Type 0
+Once same none xs = (i : ℕ) → i < length xs → find same (getD xs i none) xs ≡ i
+
+pub once-more : {A : Type 0} (same : A → A → Bool) (none x : A) (xs : List A) → same x x ≡ true
+    → length xs ≤ find same x xs → Once same none xs → Once same none (xs ++ (x ∷ []))
+once-more same none x xs self new once i lt = pick (decLt i (length xs))
+  where
+    pick : Dec (i < length xs) → find same (getD (xs ++ (x ∷ [])) i none) (xs ++ (x ∷ [])) ≡ i
+    pick (yes l) =
+        let here = once i l in
+        rw (List·getD-append xs (x ∷ []) none i l)
+        (find-stays same (getD xs i none) xs (x ∷ []) (rw here l) ∙ here)
+    pick (no ge) =
+        let last : i ≡ length xs + 0 = omega (arith, length-append xs (x ∷ [])) in
+        let number = find-next same x xs self new in
+        rw (last, getD-append-add xs (x ∷ []) 0 none) (omega (arith, number))
+
 module _ {A : Type 0} (n : Numbering A) where
   -- ys are xs with ts met
   pub record Grows (ts xs ys : List A) : Type 1 where
@@ -74,6 +94,7 @@ module _ {A : Type 0} (n : Numbering A) where
     small : length xs ≤ n .limit → length ys ≤ n .limit
     has : ((x y : A) → n .same x y ≡ true → x ≡ y) → All (λ t. In t ys) ts
     pub every : (P : A → Type 0) → All P ts → All P xs → All P ys
+    once : ((x : A) → n .same x x ≡ true) → (none : A) → Once (n .same) none xs → Once (n .same) none ys
 
   meet-grows : (place : ℕ) (x : A) (xs ys : List A) → meet (n .same) (n .limit) (n .full) place x xs ≡ accepted ys
       → Grows (x ∷ []) xs ys
@@ -89,6 +110,7 @@ module _ {A : Type 0} (n : Numbering A) where
             has = λ sound. all-one (λ t. In t xs) x
                 (subst (λ (y : A). In y xs) (find-at (n .same) sound x x xs l) (at-in x xs (find (n .same) x xs) l));
             every = λ P ps all. all;
+            once = λ self none all. all;
           })
       pick (no g) (yes l) =
           let next = meet-next (n .same) (n .limit) (n .full) place x xs (omega arith) l in
@@ -98,6 +120,7 @@ module _ {A : Type 0} (n : Numbering A) where
             small = λ le. omega (arith, length-append xs (x ∷ []));
             has = λ sound t m. in-append t xs (x ∷ []) (inr m);
             every = λ P ps all y m. elim (append-in y xs (x ∷ []) m) [ inl a ↦ all y a | inr b ↦ ps y b ];
+            once = λ self none all. once-more (n .same) none x xs (self x) (omega arith) all;
           })
       pick (no g) (no h) =
           absurd (never-both (sym (meet-full (n .same) (n .limit) (n .full) place x xs (omega arith) (omega arith)) ∙ e))
@@ -112,6 +135,7 @@ module _ {A : Type 0} (n : Numbering A) where
     ];
     every = λ P ps all. h .every P (λ t m. ps t (in-append t ts us (inr m)))
         (g .every P (λ t m. ps t (in-append t ts us (inl m))) all);
+    once = λ self none all. h .once self none (g .once self none all);
   }
 
   pub all-grows : (place : ℕ) (ts : List A) (count : ℕ) (xs ys : List A)
@@ -124,6 +148,7 @@ module _ {A : Type 0} (n : Numbering A) where
         small = λ le. le;
         has = λ sound t m. absurd m;
         every = λ P ps all. all;
+        once = λ self none all. all;
       })
   all-grows place (t ∷ ts) count xs ys e =
       let (u, p, q) = then-accepted (n .each place count) _ e in
@@ -157,6 +182,8 @@ module _ {A : Type 0} (w : Walk A) where
     pub every : (P : A → Type 0) → ((x : A) → P x → All P (targets x)) → All P xs → All P ys
     -- the number of a member is a place where it stands
     pub numbered : (x : A) → In x ys → (find same x ys < length ys) × (getD ys (find same x ys) none ≡ x)
+    -- and where none stood twice none does
+    pub once : Once same none xs → Once same none ys
 
   module _ (sound : (x y : A) → same x y ≡ true → x ≡ y) (self : (x : A) → same x x ≡ true) where
     ends : (place : ℕ) (xs ys : List A) → length xs ≤ limit → length xs ≤ place → accepted xs ≡ accepted ys
@@ -169,6 +196,7 @@ module _ {A : Type 0} (w : Walk A) where
           taken = λ k a b. absurd (omega arith);
           every = λ P keep all. all;
           numbered = λ x m. let l = find-in same self x xs m in (l, find-at same sound none x xs l);
+          once = λ all. all;
         })
 
     goes-on : (place : ℕ) {xs more ys : List A} → place < length xs → w .before place (getD xs place none) ≡ fine
@@ -179,6 +207,7 @@ module _ {A : Type 0} (w : Walk A) where
       taken = λ k a b. pick k a b (ℕ-discrete k place);
       every = λ P keep ps. r .every P keep (g .every P (keep _ (ps _ (at-in none xs place lt))) ps);
       numbered = r .numbered;
+      once = λ all. r .once (g .once self none all);
     }
       where
         all : Extends xs ys

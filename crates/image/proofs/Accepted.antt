@@ -4,17 +4,20 @@ use mathlib.Core.Path.{_≡_}
 use mathlib.Core.List.{List}
 use mathlib.Core.Bool.{and-eq-true-iff}
 use native.Mathlib.Omega.{arith}
+use lib.Seq.{getD-drop}
 use borrow.Author.Tests.{ltb-true}
 use Rattle.answer.specs.Result.{accepted, fine}
 use Rattle.answer.proofs.Results.{require-fine}
 use Rattle.automaton.specs.Automaton.{Automaton}
 use Rattle.automaton.specs.Tables.{Counts}
 use Rattle.answer.specs.Bytes.{numberAt}
-use Rattle.image.specs.Reader.{countsAt, transitionRecordCheck, initialCheck}
+use Rattle.image.specs.Reader.{countsAt, transitionRecordCheck, initialCheck, automatonFrom}
 use Rattle.image.specs.Calls.{checks}
 use Rattle.image.proofs.Contents.{Read, read-of, contents-fine, checks-of}
 use Rattle.image.proofs.RecordsFit.{RecordsFit, fine-fit}
-use Rattle.image.specs.Lookup.{imageAutomaton, Readable}
+use Rattle.image.specs.Image.{contentsBytes, restAt, statesBody, transitionsBody}
+use Rattle.image.specs.Lookup.{imageAutomaton, RestByte, Readable}
+use Rattle.image.proofs.Tables.{rests-right}
 use Rattle.image.proofs.Lookup.{automaton-states, step-target, initial-state}
 use Rattle.automaton.proofs.InRange.{InRange}
 
@@ -31,6 +34,15 @@ module _ {c : Counts} {s t i : List ℕ} (fit : RecordsFit c s t i) where
       go zero e = ltb-true _ _ (require-fine _ 13 0 e)
       go (suc k) e = ltb-true _ _ (and-eq-true-iff _ _ .0 (require-fine _ 13 (suc k) e) .0)
 
+rest-byte : (image : List ℕ) {i : List ℕ}
+    → RecordsFit (countsAt image) (statesBody image) (transitionsBody (countsAt image) image) i
+    → (q : ℕ) → q < countsAt image .states → RestByte image q
+unfolding automatonFrom
+rest-byte image fit q lt =
+    let here : contentsBytes + (4 * q + 3) ≡ restAt + 4 * q = omega arith in
+    let e : 0 + q ≡ q = omega arith in
+    rw (← here, ← getD-drop contentsBytes image (4 * q + 3) 0) (rw e at (rests-right fit q lt))
+
 pub readable : {image : List ℕ} {a : Automaton} → Read image a → Readable image
 readable {image} read =
     let contents = contents-fine image (read .contents) in
@@ -39,6 +51,7 @@ readable {image} read =
       few = contents .small .states;
       size = contents .size;
       sum = fit .sum;
+      rests = λ q lt. rest-byte image fit q lt;
       targets = target-below fit;
       starts = initial-below fit;
     }

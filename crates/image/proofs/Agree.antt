@@ -6,12 +6,13 @@ use Prim.Native.Nat.{ℕ, zero, suc, _+_, _*_, _≤_, _<_}
 use native.Mathlib.Omega.{arith}
 use lib.ListN.{length, getD, take, drop, replicate, length-append, length-replicate, List·getD-append}
 use lib.Seq.{getD-drop, getD-take, length-take-le}
-use Rattle.answer.specs.Result.{accepted}
+use Rattle.answer.specs.Result.{accepted, fine}
 use Rattle.answer.proofs.Zeros.{zeros-at}
 use Rattle.automaton.specs.Automaton.{Automaton}
 use Rattle.automaton.specs.Tables.{Counts}
 use Rattle.answer.specs.Bytes.{numberAt}
-use Rattle.image.specs.Reader.{stateCheck, countSum, transitionRecordCheck, initialCheck, recordsCheck, transitionsFrom, statesFrom, numbersFrom, automatonFrom, readTables}
+use Rattle.image.specs.Reader.{stateCheck, countSum, restCheck, transitionRecordCheck, initialCheck, recordsCheck}
+use Rattle.image.specs.Reader.{transitionsFrom, statesFrom, numbersFrom, automatonFrom, readTables}
 use Rattle.image.proofs.Before.{follows}
 use Rattle.image.proofs.RecordsFit.{RecordsFit, fine-fit, fit-fine}
 use Rattle.image.proofs.Tables.{Bytes, sum-first}
@@ -56,7 +57,7 @@ module _ {n : ℕ} {xs ys : List ℕ} (same : Agree n xs ys) where
 module _ (n : ℕ) (xs ys : List ℕ) (same : Agree (4 * n) xs ys) (k : ℕ) (lt : k < n) where
   state-checked : stateCheck xs k ≡ stateCheck ys k
   unfolding stateCheck
-  state-checked = rw (numbers-agree same (4 * k) (omega arith), same .at (4 * k + 2) (omega arith), same .at (4 * k + 3) (omega arith))
+  state-checked = rw (numbers-agree same (4 * k) (omega arith), same .at (4 * k + 2) (omega arith))
 
   transition-checked : (m : ℕ) → transitionRecordCheck m xs k ≡ transitionRecordCheck m ys k
   unfolding transitionRecordCheck
@@ -95,10 +96,19 @@ states-read (suc n) xs ys us vs same match =
 
 -- tables that are read are read alike wherever they agree
 module _ (c : Counts) (s t i s₁ t₁ i₁ : List ℕ) (states : Agree (4 * c .states) s s₁) (transitions : Agree (4 * c .transitions) t t₁) (initial : Agree (2 * c .initial) i i₁) where
+  rest-checked : (k : ℕ) → k < c .states → RecordsFit c s t i → restCheck (statesFrom (c .states) s₁ t₁) s₁ k ≡ fine
+  unfolding restCheck
+  rest-checked k lt fit =
+      rw (
+        ← states-read (c .states) s s₁ t t₁ states (rw (fit .sum) transitions),
+        ← states .at (4 * k + 3) (omega arith),
+      ) (fit .rests k lt)
+
   records-agree : RecordsFit c s t i → RecordsFit c s₁ t₁ i₁
   records-agree fit = record {
     states = λ k lt. sym (state-checked (c .states) s s₁ states k lt) ∙ fit .states k lt;
     sum = sym (sums-agree (c .states) s s₁ states) ∙ fit .sum;
+    rests = λ k lt. rest-checked k lt fit;
     transitions = λ k lt. sym (transition-checked (c .transitions) t t₁ transitions k lt (c .states)) ∙ fit .transitions k lt;
     initial = λ k lt. sym (initial-checked (c .states) (c .initial) i i₁ initial k lt) ∙ fit .initial k lt;
   }

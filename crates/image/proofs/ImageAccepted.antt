@@ -11,14 +11,14 @@ use lib.Dec.{leb}
 use lib.Bits.{bitAnd}
 use borrow.Author.Tests.{lt-ltb, le-leb, eq-eqb}
 use Rattle.answer.specs.Result.{accepted, fine}
-use Rattle.automaton.specs.Automaton.{Transition, State, Automaton, noState}
+use Rattle.automaton.specs.Automaton.{Transition, State, Automaton, noState, atRest}
 use Rattle.sets.specs.Sets.{In}
 use Rattle.automaton.specs.Limits.{maxStates, maxOfState, maxTransitions, maxInitial}
 use Rattle.automaton.specs.Records.{records, stateRecord, transitionRecord, stateRecords, transitionRecords, initialRecords}
 use Rattle.answer.specs.Bytes.{twoBytes, numberAt}
 use Rattle.automaton.specs.Tables.{counts, transitionCount}
 use Rattle.image.specs.Image.{imageBytes}
-use Rattle.image.specs.Reader.{countsFit, stateCheck, transitionRecordCheck, initialCheck}
+use Rattle.image.specs.Reader.{countsFit, stateCheck, statesFrom, restCheck, transitionRecordCheck, initialCheck}
 use Rattle.image.specs.Reader.{automatonFrom, readTables, readImage}
 use Rattle.sets.proofs.Members.{at-in, append-in}
 use Rattle.automaton.proofs.WellFormed.{WellFormed, few-together}
@@ -88,15 +88,24 @@ module _ (a : Automaton) (formed : WellFormed a) where
     unfolding stateRecord twoBytes
     accepting-byte = state-byte-at a rest i inside 2 (4 * i + 2) (omega arith) refl
 
-    last-byte : getD (stateRecords a ++ rest) (4 * i + 3) 0 ≡ 0
+    last-byte : getD (stateRecords a ++ rest) (4 * i + 3) 0 ≡ cond (atRest i state) 1 0
     unfolding stateRecord twoBytes
     last-byte = state-byte-at a rest i inside 3 (4 * i + 3) (omega arith) refl
 
     state-fine : stateCheck (stateRecords a ++ rest) i ≡ fine
     unfolding stateCheck
     state-fine =
-        let few = formed .each state (at-in noState (a .states) i inside) .few in
-        rw (state-count, accepting-byte, last-byte, le-leb (length (state .transitions)) maxOfState few, zero-or-one (state .accepting))
+        let most = formed .each state (at-in noState (a .states) i inside) .few in
+        let few = le-leb (length (state .transitions)) maxOfState most in
+        rw (state-count, accepting-byte, few, zero-or-one (state .accepting))
+
+    rest-fine : (more : List ℕ)
+        → restCheck (statesFrom (length (a .states)) (stateRecords a ++ rest) (transitionRecords a ++ more))
+        (stateRecords a ++ rest) i ≡ fine
+    unfolding restCheck stateRecords transitionRecords
+    rest-fine more =
+        rw (states-read 0 (a .states) rest more)
+        (rw (eq-eqb (getD (stateRecords a ++ rest) (4 * i + 3) 0) (cond (atRest i state) 1 0) last-byte))
 
   module _ (rest : List ℕ) (i : ℕ) (inside : i < transitionCount (a .states)) where
     none : Transition
@@ -143,6 +152,7 @@ module _ (a : Automaton) (formed : WellFormed a) where
     records-fit = record {
       states = state-fine s;
       sum = counts-add 0 (a .states) s;
+      rests = λ k lt. rest-fine s k lt t;
       transitions = transition-fine t;
       initial = initial-fine i;
     }

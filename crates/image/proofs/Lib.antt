@@ -17,3 +17,4 @@ pub mod ReadRecords
 pub mod ImageAccepted
 pub mod Lookup
 pub mod Accepted
+pub mod Rests

@@ -1,12 +1,13 @@
 -- The records of an image, and the states, transitions and initial numbers that they stand for, entry by entry. Assumes
 -- nothing.
-use Prim.Native.Nat.{ℕ, zero, suc, _+_, _*_, _<_, _≤_}
+use Prim.Native.Nat.{ℕ, zero, suc, _+_, _-_, _*_, _<_, _≤_}
 use mathlib.Core.Path.{_≡_, refl, sym, _∙_, ap, subst}
-use mathlib.Core.List.{List, [], _∷_}
+use mathlib.Core.List.{List, [], _∷_, _++_}
 use mathlib.Core.Bool.{true}
 use mathlib.Core.Logic.{_⊎_, inl, inr}
 use native.Mathlib.Omega.{arith}
 use native.Mathlib.Nat.{add-assoc}
+use native.Mathlib.Numerals.{add-one}
 use native.Mathlib.Decide.{ℕ-discrete, decLt}
 use lib.ListN.{length, getD, drop, List·getD-eq-default}
 use lib.Seq.{getD-drop, drop-drop}
@@ -19,13 +20,14 @@ use Rattle.image.specs.Image.{transitionsAt, initialAt, contentsBytes, a
 use Rattle.image.specs.Image.{statesBody, transitionsBody, initialBody}
 use Rattle.answer.specs.Bytes.{numberAt}
 use Rattle.image.specs.Reader.{countsAt, countSum, transitionsFrom, statesFrom, numbersFrom, automatonFrom}
+use Rattle.image.specs.Memory.{stateAt}
 use Rattle.image.proofs.Tables.{sum-first, states-length}
 use Rattle.image.specs.Lookup.{imageAutomaton, AcceptingByte, recordAt, recordsAt, transitionCountOf, Readable}
 
 pub number-drop : (d : ℕ) (bytes : List ℕ) (i : ℕ) → numberAt (drop d bytes) i ≡ numberAt bytes (d + i)
 number-drop d bytes i = simp (getD-drop, add-assoc)
 
-record-drop : (d : ℕ) (bytes : List ℕ) (i : ℕ) → recordAt (drop d bytes) i ≡ recordAt bytes (d + i)
+pub record-drop : (d : ℕ) (bytes : List ℕ) (i : ℕ) → recordAt (drop d bytes) i ≡ recordAt bytes (d + i)
 record-drop d bytes i = simp (getD-drop, add-assoc)
 
 -- ---- lists of records
@@ -72,6 +74,33 @@ module _ {A : Type 0} {step : ℕ} {at : List ℕ → ℕ → A} {listFrom : ℕ
       subst (In (at bytes (step * suc i))) (sym (every .more n bytes))
       (inr (subst (λ (x : A). In x (listFrom n (drop step bytes))) (next-entry bytes i) (entry-listed n (drop step bytes) i (omega arith))))
 
+  -- the entry behind the first n
+  last-entry : (n : ℕ) (bytes : List ℕ) → listFrom (suc n) bytes ≡ listFrom n bytes ++ (at bytes (step * n) ∷ [])
+  last-entry zero bytes =
+      every .more 0 bytes ∙ ap (λ (xs : List A). at bytes 0 ∷ xs) (every .none (drop step bytes))
+      ∙ ap (λ (x : A). x ∷ []) (first-entry bytes)
+      ∙ ap (λ (xs : List A). xs ++ (at bytes (step * 0) ∷ [])) (sym (every .none bytes))
+  last-entry (suc n) bytes =
+      every .more (suc n) bytes
+      ∙ ap (λ (xs : List A). at bytes 0 ∷ xs) (last-entry n (drop step bytes)
+      ∙ ap (λ (x : A). listFrom n (drop step bytes) ++ (x ∷ [])) (next-entry bytes n))
+      ∙ ap (λ (xs : List A). xs ++ (at bytes (step * suc n) ∷ [])) (sym (every .more n bytes))
+
+  last-from : (n d : ℕ) (bytes : List ℕ)
+      → listFrom (suc n) (drop d bytes) ≡ listFrom n (drop d bytes) ++ (at bytes (d + step * n) ∷ [])
+  last-from n d bytes =
+      last-entry n (drop d bytes)
+      ∙ ap (λ (x : A). listFrom n (drop d bytes) ++ (x ∷ [])) (every .shift d bytes (step * n))
+
+-- one record more, and one initial number more, from byte d on
+pub records-more : (n d : ℕ) (bytes : List ℕ)
+    → transitionsFrom (suc n) (drop d bytes) ≡ transitionsFrom n (drop d bytes) ++ (recordAt bytes (d + 4 * n) ∷ [])
+records-more n d bytes = last-from every-record n d bytes
+
+pub numbers-more : (n d : ℕ) (bytes : List ℕ)
+    → numbersFrom (suc n) (drop d bytes) ≡ numbersFrom n (drop d bytes) ++ (numberAt bytes (d + 2 * n) ∷ [])
+numbers-more n d bytes = last-from every-number n d bytes
+
 -- ---- states
 
 pub count-up : (states : List ℕ) (q n : ℕ) → q ≤ n → countSum states q ≤ countSum states n
@@ -85,13 +114,9 @@ count-up states q (suc n) le = pick (ℕ-discrete q (suc n)) (λ le. count-up st
     pick (yes e) below = rw e (omega arith)
     pick (no e) below = omega (arith, below (omega arith))
 
-abbrev stateOf : (states transitions : List ℕ) → ℕ → State
-stateOf states transitions q = record {
-  accepting = eqb (getD states (4 * q + 2) 0) 1;
-  transitions = transitionsFrom (numberAt states (4 * q)) (drop (4 * countSum states q) transitions);
-}
-
-state-at : (n : ℕ) (states transitions : List ℕ) (q : ℕ) → q < n → getD (statesFrom n states transitions) q noState ≡ stateOf states transitions q
+-- state q among the first n is state q by itself
+pub state-at : (n : ℕ) (states transitions : List ℕ) (q : ℕ) → q < n
+    → getD (statesFrom n states transitions) q noState ≡ stateAt states transitions q
 unfolding statesFrom countSum
 state-at zero states transitions q lt = absurd (omega arith)
 state-at (suc n) states transitions zero lt = refl
@@ -120,9 +145,17 @@ module _ (image : List ℕ) where
   abbrev transitions : List ℕ
   transitions = transitionsBody counted image
 
-  automaton-state : (q : ℕ) → q < count → getD (imageAutomaton image .states) q noState ≡ stateOf states transitions q
+  automaton-state : (q : ℕ) → q < count → getD (imageAutomaton image .states) q noState ≡ stateAt states transitions q
   unfolding automatonFrom
   automaton-state q lt = state-at count states transitions q lt
+
+  pub automaton-transitions : (q : ℕ) → q < count
+      → getD (imageAutomaton image .states) q noState .transitions
+      ≡ transitionsFrom (transitionCountOf image q) (drop (recordsAt image q) image)
+  automaton-transitions q lt =
+      let e = number-drop contentsBytes image (4 * q) in
+      let f = drop-drop (4 * countSum states q) (transitionsAt counted) image in
+      ap (λ (s : State). s .transitions) (automaton-state q lt) ∙ (λ i. transitionsFrom (e i) (f i))
 
   pub automaton-states : length (imageAutomaton image .states) ≡ count
   unfolding automatonFrom
@@ -186,6 +219,18 @@ module _ (image : List ℕ) where
       (entry-listed every-record (numberAt states (4 * q)) (recordsOf q) (h .index) below) in
       (s, subst (λ (st : State). In s (st .transitions)) (sym (automaton-state q lt)) among, h .takes, h .reaches)
 
+  -- where the records of the first state and of the next one begin
+  pub records-begin : (n : ℕ) → n ≡ count → contentsBytes + 4 * n ≡ recordsAt image 0
+  unfolding countSum
+  records-begin n e = omega arith
+
+  pub records-next : (q : ℕ) {at n : ℕ} → at ≡ recordsAt image q → n ≡ transitionCountOf image q
+      → at + 4 * n ≡ recordsAt image (q + 1)
+  unfolding countSum
+  records-next q {at} {n} ea en =
+      let e : n ≡ numberAt (drop contentsBytes image) (4 * q) = en ∙ sym (number-drop contentsBytes image (4 * q)) in
+      rw (add-one q) (omega arith)
+
   -- the accepting byte of state q
   byte-offset : (q : ℕ) → getD states (4 * q + 2) 0 ≡ getD image (acceptingAt + 4 * q) 0
   byte-offset q = getD-drop contentsBytes image (4 * q + 2) 0 ∙ ap (λ (i : ℕ). getD image i 0) (omega arith)
@@ -207,21 +252,15 @@ module _ (image : List ℕ) where
   abbrev initial : List ℕ
   initial = initialBody counted image
 
-  abbrev pub InitialAt : ℕ → Type 0
+  abbrev InitialAt : ℕ → Type 0
   InitialAt q = (i : ℕ) × (i < counted .initial) × (q ≡ numberAt image (initialAt counted + 2 * i))
 
-  pub initial-number : (q : ℕ) → In q (imageAutomaton image .initial) → InitialAt q
+  initial-number : (q : ℕ) → In q (imageAutomaton image .initial) → InitialAt q
   unfolding automatonFrom
   initial-number q h = go (listed-entry every-number (counted .initial) initial q h)
     where
       go : (i : ℕ) × (i < counted .initial) × (q ≡ numberAt initial (2 * i)) → InitialAt q
       go (i, lt, e) = (i, lt, e ∙ number-drop (initialAt counted) image (2 * i))
-
-  pub number-initial : (i : ℕ) → i < counted .initial
-      → In (numberAt image (initialAt counted + 2 * i)) (imageAutomaton image .initial)
-  unfolding automatonFrom
-  number-initial i lt =
-      rw (number-drop (initialAt counted) image (2 * i)) at (entry-listed every-number (counted .initial) initial i lt)
 
   -- what the checks say of these bytes
   module _ (fine : Readable image) where
@@ -250,6 +289,10 @@ module _ (image : List ℕ) where
     step-target q x t step =
         let h = step-taken q x t step in
         rw (h .reaches) (target-inside q (h .index) (step-inside q x t step) (h .below))
+
+    -- the initial numbers are the image's last
+    pub initial-offset : (n : ℕ) → n ≡ counted .initial → length image - 2 * n ≡ initialAt counted
+    initial-offset n e = omega (arith, fine .size)
 
     pub initial-inside : (i : ℕ) → i < counted .initial → numberAt image (initialAt counted + 2 * i) < count
     initial-inside i lt = rw (number-drop (initialAt counted) image (2 * i)) at (fine .starts i lt)

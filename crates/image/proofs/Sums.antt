@@ -7,7 +7,7 @@ use Prim.Native.Nat.{ℕ, _+_, _*_, _≤_, _<_}
 use native.Mathlib.Numerals.{add-one}
 use native.Mathlib.Omega.{arith}
 use lib.ListN.{getD}
-use borrow.Author.Tests.{leb-true, eqb-true}
+use borrow.Author.Tests.{leb-true}
 use Rattle.answer.specs.Result.{accepted, refused, fine}
 use Rattle.answer.proofs.Lowest.{Passing, pass-begins, pass-steps, pass-fails, pass-ends}
 use Rattle.answer.proofs.Results.{require-fine}
@@ -21,14 +21,15 @@ use Rattle.image.proofs.OnePass.{one-pass}
 pub record StateFits (s : List ℕ) (i : ℕ) : Type 0 where
   pub count : numberAt s (4 * i) ≤ maxOfState
   pub flag : getD s (4 * i + 2) 0 ≤ 1
-  pub last : getD s (4 * i + 3) 0 ≡ 0
 
 pub state-fine : (s : List ℕ) (i : ℕ) → stateCheck s i ≡ fine → StateFits s i
 unfolding stateCheck
 state-fine s i e =
     let tests = and-eq-true-iff _ _ .0 (require-fine _ 11 i e) in
-    let bytes = and-eq-true-iff _ _ .0 (tests .1) in
-    record { count = leb-true (numberAt s (4 * i)) maxOfState (tests .0); flag = leb-true (getD s (4 * i + 2) 0) 1 (bytes .0); last = eqb-true (getD s (4 * i + 3) 0) 0 (bytes .1) }
+    record {
+      count = leb-true (numberAt s (4 * i)) maxOfState (tests .0);
+      flag = leb-true (getD s (4 * i + 2) 0) 1 (tests .1);
+    }
 
 pub record Summing (s : List ℕ) (n total i : ℕ) : Type 0 where
   pub passing : Passing (stateCheck s) n i

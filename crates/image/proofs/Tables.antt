@@ -7,13 +7,17 @@ use native.Mathlib.Omega.{arith}
 use lib.ListN.{length, getD, take, drop, length-drop}
 use lib.Seq.{getD-drop, take-add}
 use lib.Dec.{eqb}
+use borrow.Author.Tests.{eqb-true}
 use Rattle.answer.specs.Result.{fine}
+use Rattle.answer.proofs.Results.{require-fine}
+use Rattle.automaton.specs.Automaton.{noState, atRest}
 use Rattle.automaton.specs.Records.{records, numbered, numberedRecords, stateRecord, transitionRecord, stateRecords, transitionRecords, initialRecords}
 use Rattle.answer.specs.Bytes.{twoBytes, numberAt}
 use Rattle.automaton.specs.Tables.{Counts, counts, transitionCount}
 use Rattle.image.specs.Image.{imageLength, imageBytes}
 use Rattle.image.specs.Memory.{joinedBodies}
-use Rattle.image.specs.Reader.{countSum, recordsCheck, transitionsFrom, statesFrom, numbersFrom, automatonFrom}
+use Rattle.image.specs.Reader.{countSum, restCheck, recordsCheck}
+use Rattle.image.specs.Reader.{transitionsFrom, statesFrom, numbersFrom, automatonFrom}
 use Rattle.image.proofs.Sums.{StateFits, state-fine}
 use Rattle.image.proofs.RecordsFit.{RecordsFit, fine-fit}
 use Rattle.image.proofs.Sizes.{image-size}
@@ -86,7 +90,7 @@ next-count s k =
     rw (next-state s k 1, e, getD-drop 4 s (4 * k) 0)
 
 next-fits : (s : List ℕ) (k : ℕ) → StateFits s (suc k) → StateFits (drop 4 s) k
-next-fits s k fits = record { count = rw (← next-count s k) (fits .count); flag = rw (← next-state s k 2) (fits .flag); last = rw (← next-state s k 3) (fits .last) }
+next-fits s k fits = record { count = rw (← next-count s k) (fits .count); flag = rw (← next-state s k 2) (fits .flag) }
 
 sum-none : (s : List ℕ) → countSum s 0 ≡ 0
 unfolding countSum
@@ -116,13 +120,38 @@ flag-back zero le = refl
 flag-back (suc zero) le = refl
 flag-back (suc (suc x)) le = absurd (omega arith)
 
-states-bytes : (from n : ℕ) (s t : List ℕ) → Bytes s → 4 * n ≤ length s → ((k : ℕ) → k < n → StateFits s k) → numberedRecords stateRecord from (statesFrom n s t) ≡ take (4 * n) s
+-- the last byte of each of n state records is right, where their numbers begin with from
+abbrev Rests : (from n : ℕ) (s t : List ℕ) → Type 0
+Rests from n s t =
+    (k : ℕ) → k < n → getD s (4 * k + 3) 0 ≡ cond (atRest (from + k) (getD (statesFrom n s t) k noState)) 1 0
+
+next-rests : (from n : ℕ) (s t : List ℕ) → Rests from (suc n) s t
+    → Rests (suc from) n (drop 4 s) (drop (4 * numberAt s 0) t)
+unfolding statesFrom
+next-rests from n s t rests k lt =
+    let e : from + suc k ≡ suc from + k = omega arith in
+    sym (next-state s k 3) ∙ rests (suc k) (omega arith) ∙ rw e
+
+states-bytes : (from n : ℕ) (s t : List ℕ) → Bytes s → 4 * n ≤ length s → ((k : ℕ) → k < n → StateFits s k)
+    → Rests from n s t → numberedRecords stateRecord from (statesFrom n s t) ≡ take (4 * n) s
 unfolding records numbered stateRecord statesFrom
-states-bytes from zero s t b le fits = refl
-states-bytes from (suc n) s t b le fits =
+states-bytes from zero s t b le fits rests = refl
+states-bytes from (suc n) s t b le fits rests =
     let e : 4 * suc n ≡ suc (suc (suc (suc (4 * n)))) = omega arith in
+    let z : from + 0 ≡ from = omega arith in
     let first = fits 0 (omega arith) in
-    rw (e, front-four s (4 * n) (omega arith), transitions-length (numberAt s 0) t, two-back (getD s 0 0) (getD s 1 0) (b 0), flag-back (getD s 2 0) (first .flag), first .last, states-bytes (suc from) n (drop 4 s) (drop (4 * numberAt s 0) t) (drop-bytes 4 s b) (rw (length-drop 4 s) (omega arith)) (λ k lt. next-fits s k (fits (suc k) (omega arith))))
+    let last = rw z at (rests 0 (omega arith)) in
+    rw (
+      e,
+      front-four s (4 * n) (omega arith),
+      transitions-length (numberAt s 0) t,
+      two-back (getD s 0 0) (getD s 1 0) (b 0),
+      flag-back (getD s 2 0) (first .flag),
+      last,
+      states-bytes (suc from) n (drop 4 s) (drop (4 * numberAt s 0) t) (drop-bytes 4 s b)
+          (rw (length-drop 4 s) (omega arith)) (λ k lt. next-fits s k (fits (suc k) (omega arith)))
+          (next-rests from n s t rests),
+    )
 
 grouped-bytes : (n : ℕ) (s t : List ℕ) → Bytes t → 4 * countSum s n ≤ length t → records (λ q. records transitionRecord (q .transitions)) (statesFrom n s t) ≡ take (4 * countSum s n) t
 unfolding records statesFrom
@@ -149,6 +178,13 @@ pub record Passed (c : Counts) (s t i : List ℕ) : Type 0 where
   pub initial-room : 2 * c .initial ≤ length i
   pub checked : recordsCheck c s t i ≡ fine
 
+-- the last bytes are right
+pub rests-right : {c : Counts} {s t i : List ℕ} → RecordsFit c s t i → Rests 0 (c .states) s t
+unfolding restCheck
+rests-right {c} {s} {t} fit k lt =
+    let e : 0 + k ≡ k = omega arith in
+    rw e (eqb-true (getD s (4 * k + 3) 0) _ (require-fine _ 11 k (fit .rests k lt)))
+
 module _ (c : Counts) (s t i : List ℕ) (passed : Passed c s t i) where
   fit : RecordsFit c s t i
   fit = fine-fit c s t i (passed .checked)
@@ -156,6 +192,7 @@ module _ (c : Counts) (s t i : List ℕ) (passed : Passed c s t i) where
   pub states-back : stateRecords (automatonFrom c s t i) ≡ take (4 * c .states) s
   unfolding stateRecords automatonFrom
   states-back = states-bytes 0 (c .states) s t (passed .state-bytes) (passed .state-room) (λ k lt. state-fine s k (fit .states k lt))
+      (rests-right fit)
 
   pub transitions-back : transitionRecords (automatonFrom c s t i) ≡ take (4 * c .transitions) t
   unfolding transitionRecords automatonFrom

@@ -17,19 +17,8 @@ use Rattle.image.specs.Image.{transitionsAt, initialAt, imageLength}
 use Rattle.answer.specs.Bytes.{numberAt}
 use Rattle.image.specs.Reader.{countsAt, countsFit, kindsFit, offsetsFit, contentsCheck}
 use Rattle.image.specs.Reader.{stateCheck, addState, statePass, sumCheck, statesCheck}
+use Rattle.image.specs.Reader.{statesFrom, restCheck, restsCheck}
 use Rattle.image.specs.Reader.{transitionRecordCheck, initialCheck, recordsCheck}
-
--- three equations in a row, of numbers that the code has read
-module _ (x a y b z d : ℕ) where
-  pub first-differs : {x₁ : ℕ} → x₁ ≡ x → (x₁ ≡ a → ⊥) → false ≡ (eqb x a && (eqb y b && eqb z d))
-  first-differs e ne = rw (← e, ne-eqb _ a ne)
-
-  module _ {x₁ : ℕ} (e : x₁ ≡ x) (first : x₁ ≡ a) where
-    pub second-differs : {y₁ : ℕ} → y₁ ≡ y → (y₁ ≡ b → ⊥) → false ≡ (eqb x a && (eqb y b && eqb z d))
-    second-differs f ne = rw (← e, ← f, eq-eqb x₁ a first, ne-eqb _ b ne)
-
-    pub third-agrees : {y₁ z₁ : ℕ} → y₁ ≡ y → y₁ ≡ b → z₁ ≡ z → eqb z₁ d ≡ (eqb x a && (eqb y b && eqb z d))
-    third-agrees f second g = rw (← e, ← f, ← g, eq-eqb x₁ a first, eq-eqb _ b second)
 
 pub counts-small : (c : Counts) → countsFit c ≡ true → Small c
 unfolding countsFit
@@ -99,14 +88,9 @@ module _ (s : List ℕ) (i sum : ℕ) where
     unfolding stateCheck
     accepting-wrong lt = rw (le-leb (numberAt s (4 * i)) maxOfState small, lt-leb (getD s (4 * i + 2) 0) 1 lt)
 
-    module _ (flag : getD s (4 * i + 2) 0 ≤ 1) where
-      pub last-wrong : 0 < getD s (4 * i + 3) 0 → refused 11 i ≡ addState s i sum
-      unfolding stateCheck
-      last-wrong lt = rw (le-leb (numberAt s (4 * i)) maxOfState small, le-leb (getD s (4 * i + 2) 0) 1 flag, ne-eqb (getD s (4 * i + 3) 0) 0 (λ e. absurd (omega arith)))
-
-      pub state-fits : {n : ℕ} → getD s (4 * i + 3) 0 ≡ 0 → n ≡ sum + numberAt s (4 * i) → accepted n ≡ addState s i sum
-      unfolding stateCheck
-      state-fits e f = rw (le-leb (numberAt s (4 * i)) maxOfState small, le-leb (getD s (4 * i + 2) 0) 1 flag, eq-eqb (getD s (4 * i + 3) 0) 0 e, f)
+    pub state-fits : {n : ℕ} → getD s (4 * i + 2) 0 ≤ 1 → n ≡ sum + numberAt s (4 * i) → accepted n ≡ addState s i sum
+    unfolding stateCheck
+    state-fits flag e = rw (le-leb (numberAt s (4 * i)) maxOfState small, le-leb (getD s (4 * i + 2) 0) 1 flag, e)
 
 -- the state records, by what the pass over them comes to
 module _ (c : Counts) (s : List ℕ) where
@@ -158,6 +142,9 @@ module _ (n : ℕ) (xs : List ℕ) where
 
 -- the records of three tables, by the answers of their checks
 module _ (c : Counts) (s t i : List ℕ) where
+  abbrev restAnswers : Check
+  restAnswers = lowest (restCheck (statesFrom (c .states) s t) s) (c .states)
+
   abbrev transitionAnswers : Check
   transitionAnswers = lowest (transitionRecordCheck (c .states) t) (c .transitions)
 
@@ -170,12 +157,18 @@ module _ (c : Counts) (s t i : List ℕ) where
   states-refused told e = rw (← e, told)
 
   module _ {r₁ : Check} (first : r₁ ≡ statesCheck c s) (fine₁ : r₁ ≡ fine) where
-    pub transitions-refused : {r : Check} {number place : ℕ} → r ≡ refused number place → r ≡ transitionAnswers
+    pub rests-refused : {r : Check} {number place : ℕ} → r ≡ refused number place → r ≡ restAnswers
         → r ≡ recordsCheck c s t i
-    unfolding recordsCheck
-    transitions-refused told e = rw (← first, fine₁, ← e, told)
+    unfolding recordsCheck restsCheck
+    rests-refused told e = rw (← first, fine₁, ← e, told)
 
-    pub initial-left : {r₂ r : Check} → r₂ ≡ transitionAnswers → r₂ ≡ fine → r ≡ initialAnswers
-        → r ≡ recordsCheck c s t i
-    unfolding recordsCheck
-    initial-left second fine₂ e = rw (← first, fine₁, ← second, fine₂) e
+    module _ {r₂ : Check} (second : r₂ ≡ restAnswers) (fine₂ : r₂ ≡ fine) where
+      pub transitions-refused : {r : Check} {number place : ℕ} → r ≡ refused number place → r ≡ transitionAnswers
+          → r ≡ recordsCheck c s t i
+      unfolding recordsCheck restsCheck
+      transitions-refused told e = rw (← first, fine₁, ← second, fine₂, ← e, told)
+
+      pub initial-left : {r₃ r : Check} → r₃ ≡ transitionAnswers → r₃ ≡ fine → r ≡ initialAnswers
+          → r ≡ recordsCheck c s t i
+      unfolding recordsCheck restsCheck
+      initial-left third fine₃ e = rw (← first, fine₁, ← second, fine₂, ← third, fine₃) e

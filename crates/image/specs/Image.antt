@@ -36,6 +36,10 @@ initialCountAt = 2 * entryBytes + 2
 abbrev pub acceptingAt : ℕ
 acceptingAt = contentsBytes + 2
 
+-- and its last byte
+abbrev pub restAt : ℕ
+restAt = contentsBytes + 3
+
 -- where the transitions begin, where the initial numbers begin and where the image ends: the states begin behind the
 -- contents, and each body begins where the one before it ends; a state or a transition takes 4 bytes, an initial
 -- number 2 (01, The image, sentence 4)

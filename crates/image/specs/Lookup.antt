@@ -2,11 +2,12 @@
 use Prim.Native.Nat.{ℕ, _+_, _*_, _<_, _≤_}
 use mathlib.Core.Path.{_≡_}
 use mathlib.Core.List.{List}
+use mathlib.Core.Bool.{cond}
 use lib.ListN.{getD, length}
 use Rattle.answer.specs.Bytes.{numberAt}
-use Rattle.automaton.specs.Automaton.{Transition, Automaton}
+use Rattle.automaton.specs.Automaton.{Transition, Automaton, noState, atRest}
 use Rattle.automaton.specs.Limits.{maxStates}
-use Rattle.image.specs.Image.{transitionsAt, imageLength, contentsBytes, acceptingAt}
+use Rattle.image.specs.Image.{transitionsAt, imageLength, contentsBytes, acceptingAt, restAt}
 use Rattle.image.specs.Image.{statesBody, transitionsBody, initialBody}
 use Rattle.image.specs.Reader.{countsAt, countSum, automatonFrom}
 
@@ -24,6 +25,11 @@ recordAt image at = record { must = getD image at 0; mustNot = getD image (at + 
 abbrev pub AcceptingByte : List ℕ → ℕ → Type 0
 AcceptingByte image q = getD image (acceptingAt + 4 * q) 0 ≡ 1
 
+-- the last byte of state q is 1 if the state is at rest and 0 if it is not (02, R-5)
+abbrev pub RestByte : List ℕ → ℕ → Type 0
+RestByte image q =
+    getD image (restAt + 4 * q) 0 ≡ cond (atRest q (getD (imageAutomaton image .states) q noState)) 1 0
+
 -- how many transitions state q has
 abbrev pub transitionCountOf : List ℕ → ℕ → ℕ
 transitionCountOf image q = numberAt image (contentsBytes + 4 * q)
@@ -37,6 +43,7 @@ pub record Readable (image : List ℕ) : Type 0 where
   pub few : countsAt image .states ≤ maxStates
   pub size : length image ≡ imageLength (countsAt image)
   pub sum : countSum (statesBody image) (countsAt image .states) ≡ countsAt image .transitions
+  pub rests : (q : ℕ) → q < countsAt image .states → RestByte image q
   pub targets : (i : ℕ) → i < countsAt image .transitions
       → numberAt (transitionsBody (countsAt image) image) (4 * i + 2) < countsAt image .states
   pub starts : (i : ℕ) → i < countsAt image .initial

@@ -1,15 +1,18 @@
 -- What the functions under the calls write and read say.
-use Prim.Native.Nat.{ℕ, _*_, _≤_}
+use Prim.Native.Nat.{ℕ, _+_, _*_, _≤_}
 use mathlib.Core.Path.{_≡_}
 use mathlib.Core.List.{List, _++_}
-use lib.ListN.{length, take, drop}
+use lib.ListN.{getD, length, take, drop}
+use lib.Dec.{eqb}
 use Rattle.answer.specs.Result.{Result, accepted, refused}
+use Rattle.automaton.specs.Automaton.{State}
 use Rattle.automaton.specs.Limits.{maxStates, maxTransitions, maxInitial}
 use Rattle.automaton.specs.Tables.{Counts}
-use Rattle.answer.specs.Bytes.{filled}
+use Rattle.answer.specs.Bytes.{numberAt, filled}
 use Rattle.image.specs.declared.StatePass.{StatePass}
 use Rattle.image.specs.declared.StatePass.the-variants.{Faulty, Sum}
 use Rattle.image.specs.Image.{imageLength, contents, statesBody, transitionsBody, initialBody}
+use Rattle.image.specs.Reader.{transitionsFrom, countSum}
 use Rattle.answer.specs.Buffer.{Buffer, buffer}
 
 -- the bytes of a written image: the contents, then the used bytes of three tables
@@ -42,6 +45,13 @@ pub record Loads (image : List ℕ) (c : Counts) (s t i states transitions initi
   pub states-are : states ≡ filled s (take (4 * c .states) (statesBody image))
   pub transitions-are : transitions ≡ filled t (take (4 * c .transitions) (transitionsBody c image))
   pub initial-are : initial ≡ filled i (take (2 * c .initial) (initialBody c image))
+
+-- state q by itself, as its record and those of its transitions tell it
+abbrev pub stateAt : (states transitions : List ℕ) → ℕ → State
+stateAt states transitions q = record {
+  accepting = eqb (getD states (4 * q + 2) 0) 1;
+  transitions = transitionsFrom (numberAt states (4 * q)) (drop (4 * countSum states q) transitions);
+}
 
 -- what a pass over state records comes to: 11 at the lowest faulty one, or the sum of their transition counts
 abbrev pub passAnswer : StatePass → Result ℕ

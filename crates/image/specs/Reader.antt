@@ -1,13 +1,13 @@
 -- What a reader says of any bytes: refusals 10 to 13, or the automaton.
 use Prim.Native.Nat.{ℕ, zero, suc, _+_, _*_}
 use mathlib.Core.List.{List, [], _∷_}
-use mathlib.Core.Bool.{Bool, _&&_}
+use mathlib.Core.Bool.{Bool, cond, _&&_}
 use lib.ListN.{getD, length, drop}
 use lib.Dec.{eqb, leb, ltb}
 use lib.Bits.{bitAnd}
 use Rattle.answer.specs.Bytes.{numberAt}
 use Rattle.answer.specs.Result.{Result, accepted, andThen, Check, require, lowest}
-use Rattle.automaton.specs.Automaton.{Transition, State, Automaton}
+use Rattle.automaton.specs.Automaton.{Transition, State, Automaton, noState, atRest}
 use Rattle.automaton.specs.Limits.{maxStates, maxOfState, maxTransitions, maxInitial}
 use Rattle.automaton.specs.Tables.{Counts}
 use Rattle.image.specs.Image.{entryBytes, contentsBytes, stateCountAt, transitionCountAt, initialCountAt}
@@ -54,12 +54,10 @@ contentsCheck image =
     require (leb contentsBytes (length image) && (kindsFit image &&
     (countsFit (countsAt image) && bodiesFit image))) 10 0
 
--- whether 11 lets state record i pass: it counts no more transitions than a state may have, has 0 or 1 as its accepting
--- byte, and ends in 0 (01, Numbers that come from the input, 11)
+-- whether the pass below lets state record i pass: it counts no more transitions than a state may have, and its
+-- accepting byte is 0 or 1 (01, Numbers that come from the input, 11)
 abbrev pub stateFits : List ℕ → ℕ → Bool
-stateFits states i =
-    leb (numberAt states (4 * i)) maxOfState
-    && (leb (getD states (4 * i + 2) 0) 1 && eqb (getD states (4 * i + 3) 0) 0)
+stateFits states i = leb (numberAt states (4 * i)) maxOfState && leb (getD states (4 * i + 2) 0) 1
 
 -- 11, at place i: state record i does not fit
 unfoldable pub stateCheck : List ℕ → ℕ → Check
@@ -80,9 +78,42 @@ statePass states (suc n) = andThen (statePass states n) (addState states n)
 abbrev pub sumCheck : Counts → (sum : ℕ) → Check
 sumCheck c sum = require (eqb sum (c .transitions)) 11 (c .states)
 
--- 11 of the state records: the pass, then its sum
+-- 11 of the state records but for their last bytes: the pass, then its sum
 unfoldable pub statesCheck : Counts → List ℕ → Check
 statesCheck c states = andThen (statePass states (c .states)) (sumCheck c)
+
+-- the first n transition records
+unfoldable pub transitionsFrom : ℕ → List ℕ → List Transition
+transitionsFrom zero bytes = []
+transitionsFrom (suc n) bytes =
+    record { must = getD bytes 0 0; mustNot = getD bytes 1 0; target = numberAt bytes 2 }
+    ∷ transitionsFrom n (drop 4 bytes)
+
+-- how many transition records stand before those of state n: the counts of the first n state records, added up
+unfoldable pub countSum : List ℕ → ℕ → ℕ
+countSum states zero = 0
+countSum states (suc n) = countSum states n + numberAt states (4 * n)
+
+-- the first n state records, each with its transitions, which lie behind those of the states before it (01, The
+-- image, sentence 6)
+unfoldable pub statesFrom : ℕ → (states transitions : List ℕ) → List State
+statesFrom zero states transitions = []
+statesFrom (suc n) states transitions =
+    record { accepting = eqb (getD states 2 0) 1; transitions = transitionsFrom (numberAt states 0) transitions }
+    ∷ statesFrom n (drop 4 states) (drop (4 * numberAt states 0) transitions)
+
+-- whether the last byte of state record i is 1 if the state is at rest and 0 if it is not; `read` has the states as the
+-- records tell them
+abbrev pub restFits : (read : List State) (states : List ℕ) → ℕ → Bool
+restFits read states i = eqb (getD states (4 * i + 3) 0) (cond (atRest i (getD read i noState)) 1 0)
+
+-- 11, at place i: the last byte of state record i is wrong
+unfoldable pub restCheck : (read : List State) (states : List ℕ) → ℕ → Check
+restCheck read states i = require (restFits read states i) 11 i
+
+-- 11 of the last bytes, once the sum is right and before 12: by the transition records as they stand (02, R-5)
+unfoldable pub restsCheck : Counts → (states transitions : List ℕ) → Check
+restsCheck c states transitions = lowest (restCheck (statesFrom (c .states) states transitions) states) (c .states)
 
 -- whether 12 lets transition record i pass: it leads to a state, and asks for no proposition that it forbids (01,
 -- Numbers that come from the input, 12)
@@ -108,28 +139,9 @@ initialCheck stateCount initial (suc i) =
 unfoldable pub recordsCheck : Counts → (states transitions initial : List ℕ) → Check
 recordsCheck c states transitions initial =
     andThen (statesCheck c states)
+    (λ _. andThen (restsCheck c states transitions)
     (λ _. andThen (lowest (transitionRecordCheck (c .states) transitions) (c .transitions))
-    (λ _. lowest (initialCheck (c .states) initial) (c .initial)))
-
--- the first n transition records
-unfoldable pub transitionsFrom : ℕ → List ℕ → List Transition
-transitionsFrom zero bytes = []
-transitionsFrom (suc n) bytes =
-    record { must = getD bytes 0 0; mustNot = getD bytes 1 0; target = numberAt bytes 2 }
-    ∷ transitionsFrom n (drop 4 bytes)
-
--- how many transition records stand before those of state n: the counts of the first n state records, added up
-unfoldable pub countSum : List ℕ → ℕ → ℕ
-countSum states zero = 0
-countSum states (suc n) = countSum states n + numberAt states (4 * n)
-
--- the first n state records, each with its transitions, which lie behind those of the states before it (01, The
--- image, sentence 6)
-unfoldable pub statesFrom : ℕ → (states transitions : List ℕ) → List State
-statesFrom zero states transitions = []
-statesFrom (suc n) states transitions =
-    record { accepting = eqb (getD states 2 0) 1; transitions = transitionsFrom (numberAt states 0) transitions }
-    ∷ statesFrom n (drop 4 states) (drop (4 * numberAt states 0) transitions)
+    (λ _. lowest (initialCheck (c .states) initial) (c .initial))))
 
 unfoldable pub numbersFrom : ℕ → List ℕ → List ℕ
 numbersFrom zero bytes = []

@@ -16,20 +16,24 @@ use automaton::STATES_BYTES;
 use automaton::TRANSITIONS_BYTES;
 use automaton::tables_fit;
 ghost use mathlib.Core.Path.{_≡_};
+ghost use mathlib.Core.Bool.{cond};
 ghost use Prim.Native.Nat.{_+_, _*_, _<_, _≤_};
 ghost use lib.ListN.{length, take, drop};
 ghost use lib.Seq.{sets};
 ghost use Rattle.answer.specs.Result.{accepted, andThen, lowest, answer};
+ghost use Rattle.sets.specs.Sets.{any};
+ghost use Rattle.automaton.specs.Automaton.{freeTo, atRest};
 ghost use Rattle.automaton.specs.Limits.{maxStates, maxTransitions};
 ghost use Rattle.automaton.specs.Tables.{told, outcome, TablesRoom};
-ghost use Rattle.answer.specs.Bytes.{filled};
+ghost use Rattle.answer.specs.Bytes.{numberAt, filled};
 ghost use Rattle.answer.specs.Buffer.{storedAnswer, buffer};
 ghost use Rattle.image.specs.Image.{entry, entryBytes, contentsBytes, largestImage};
 ghost use Rattle.image.specs.Reader.{countsAt, countsFit, entriesHave, contentsCheck, addState, statePass};
 ghost use Rattle.image.specs.Reader.{sumCheck, statesCheck, transitionRecordCheck, initialCheck};
-ghost use Rattle.image.specs.Reader.{recordsCheck, bodiesCheck};
+ghost use Rattle.image.specs.Reader.{transitionsFrom, countSum, statesFrom, restCheck, recordsCheck, bodiesCheck};
+ghost use Rattle.image.specs.Lookup.{recordAt};
 ghost use Rattle.image.specs.Calls.{writes, readInto, checks};
-ghost use Rattle.image.specs.Memory.{passAnswer, joinedOver, HasRecords, Small, Sized, Loads};
+ghost use Rattle.image.specs.Memory.{passAnswer, stateAt, joinedOver, HasRecords, Small, Sized, Loads};
 
 // The numbers of document 01 by which an image or tables are refused.
 pub const BAD_CONTENTS: u8 = 10;
@@ -97,14 +101,11 @@ fn add_state(states: &[u8], i: usize, sum: usize) -> StatePass
     if 1 < states[at + 2] {
         return StatePass::Faulty(i);
     }
-    if 0 < states[at + 3] {
-        return StatePass::Faulty(i);
-    }
     StatePass::Sum(sum + count)
 }
 
-// The pass over the first n state records. While an image is loaded each is read here, once; what is stored afterwards
-// is copied unread.
+// The pass over the first n state records. While an image is loaded their counts and accepting bytes are checked here,
+// once; what is stored afterwards is copied unread.
 fn pass_states(states: &[u8], n: usize) -> StatePass
     requires { ⌜ (n ≤ maxStates) × (4 * n ≤ length (now states)) ⌝ }
     ensures { λ r. ⌜ passAnswer r ≡ statePass (now (states .entry)) n ⌝ }
@@ -132,7 +133,7 @@ fn check_sum(counts: Counts, sum: usize) -> Checked
     Checked::Accepted
 }
 
-// 11 for the state records: the pass, then its sum.
+// 11 for the state records but for their last bytes: the pass, then its sum.
 fn check_states(states: &[u8], counts: Counts) -> Checked
     requires { ⌜ (counts .states ≤ maxStates) × (4 * counts .states ≤ length (now states)) ⌝ }
     ensures { λ r. ⌜ answer r ≡ statesCheck counts (now (states .entry)) ⌝ }
@@ -141,6 +142,70 @@ fn check_states(states: &[u8], counts: Counts) -> Checked
         StatePass::Faulty(place) => Checked::Refused(BAD_STATE, place),
         StatePass::Sum(sum) => check_sum(counts, sum),
     }
+}
+
+// Whether the transition whose record is at byte `at` is free and leads to state q.
+fn free_to(transitions: &[u8], at: usize, q: usize) -> bool
+    requires { ⌜ at + 3 < length (now transitions) ⌝ }
+    ensures { λ r. ⌜ r ≡ freeTo q (recordAt (now (transitions .entry)) at) ⌝ }
+{
+    if transitions[at] != 0 {
+        return false;
+    }
+    if transitions[at + 1] != 0 {
+        return false;
+    }
+    number_at(transitions, at + 2) == q
+}
+
+// Whether one of `count` transitions, whose records begin at byte `at`, is.
+fn some_free_to(transitions: &[u8], at: usize, count: usize, q: usize) -> bool
+    requires { ⌜ at + 4 * count ≤ length (now transitions) ⌝ }
+    ensures { λ r. ⌜ r ≡ any (freeTo q) (transitionsFrom count (drop at (now (transitions .entry)))) ⌝ }
+{
+    let mut i = 0;
+    while i < count {
+        if free_to(transitions, at + 4 * i, q) {
+            return true;
+        }
+        i += 1;
+    }
+    false
+}
+
+// What the last byte of state record q is to be, where its `count` transition records begin at byte `at`. Only an
+// accepting state's are looked at.
+fn rest_byte(states: &[u8], transitions: &[u8], q: usize, at: usize, count: usize) -> u8
+    requires { ⌜ (4 * q + 3 < length (now states)) × (at + 4 * count ≤ length (now transitions))
+        × (at ≡ 4 * countSum (now states) q) × (count ≡ numberAt (now states) (4 * q)) ⌝ }
+    ensures { λ r. ⌜ r ≡ cond (atRest q (stateAt (now (states .entry)) (now (transitions .entry)) q)) 1 0 ⌝ }
+{
+    if states[4 * q + 2] != 1 {
+        return 0;
+    }
+    if some_free_to(transitions, at, count, q) {
+        return 1;
+    }
+    0
+}
+
+// 11 for the last bytes of the first n state records, whose transition records are all there (R-5).
+fn check_rests(states: &[u8], transitions: &[u8], n: usize) -> Checked
+    requires { ⌜ (4 * n ≤ length (now states)) × (4 * countSum (now states) n ≤ length (now transitions)) ⌝ }
+    ensures { λ r. ⌜ answer r
+        ≡ lowest (restCheck (statesFrom n (now (states .entry)) (now (transitions .entry))) (now (states .entry))) n ⌝ }
+{
+    let mut at = 0;
+    let mut q = 0;
+    while q < n {
+        let count = number_at(states, 4 * q);
+        if states[4 * q + 3] != rest_byte(states, transitions, q, at, count) {
+            return Checked::Refused(BAD_STATE, q);
+        }
+        at += 4 * count;
+        q += 1;
+    }
+    Checked::Accepted
 }
 
 // 12 for transition record i.
@@ -205,9 +270,13 @@ fn check_records(states: &[u8], transitions: &[u8], initial: &[u8], counts: Coun
     let Checked::Accepted = first else {
         return first;
     };
-    let second = check_transitions(transitions, counts.transitions, counts.states);
+    let second = check_rests(states, transitions, counts.states);
     let Checked::Accepted = second else {
         return second;
+    };
+    let third = check_transitions(transitions, counts.transitions, counts.states);
+    let Checked::Accepted = third else {
+        return third;
     };
     check_initial(initial, counts.initial, counts.states)
 }

@@ -1,4 +1,4 @@
--- Tests that tell whether something holds, alone, two in a row, and over the states in turn. Assumes nothing.
+-- Tests that tell whether something holds, alone and over numbers in turn. Assumes nothing.
 use Prim.Native.Nat.{ℕ, _+_, _<_, _≤_}
 use mathlib.Core.Path.{_≡_, sym, _∙_}
 use mathlib.Core.Bool.{Bool, true, false, not}
@@ -28,10 +28,6 @@ holds-not np = record { yes = λ e. false-true e; no = λ e h. np h }
 
 pub holds-so : {P : Type 0} → P → Tells true P
 holds-so p = record { yes = λ e. p; no = λ e h. true-false e }
-
--- the second test is made only if the first holds
-pub both-so : {s : Bool} {P Q : Type 0} → P → Tells s Q → Tells s (P × Q)
-both-so p d = record { yes = λ e. (p, d .yes e); no = λ e h. d .no e (h .1) }
 
 -- a loop over the numbers below n that has found none before i
 pub record Missing (n : ℕ) (P : ℕ → Type 0) (i : ℕ) : Type 0 where

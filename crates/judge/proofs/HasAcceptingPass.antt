@@ -10,47 +10,47 @@ use native.Mathlib.Nat.{mul-le-mul-right, suc-mul}
 use native.Mathlib.Decide.{decLt, le-ind}
 use lib.ListN.{length}
 use Rattle.lasso.specs.Lasso.{letter}
-use Rattle.automaton.specs.Automaton.{Automaton, Step, Accepts, AcceptingPass}
+use Rattle.automaton.specs.Automaton.{Automaton, Accepts, AcceptingPass}
 use Rattle.sets.specs.Sets.{In}
 use Rattle.sets.proofs.Members.{All, map-in, in-map, any-iff}
 use Rattle.automaton.proofs.Passes.{AutomatonOver, Endless, Pass, numbered, pass-iff, endless-pass, pass-endless}
-use Rattle.judge.proofs.Runs.{Leads, same-letter, leads-none, leads-one, leads-on, on-early, leads-snoc}
-use Rattle.judge.specs.Search.{Point, point, member, after, onward, reachedFrom, starts}
+use Rattle.judge.proofs.Runs.{Leads, same-letter, leads-none, leads-one, leads-on, on-early, on-late, leads-snoc}
+use Rattle.rest.specs.Search.{Point, point, member, after, onward, reachedFrom, starts}
 use Rattle.judge.specs.Search.{accepting, hasAcceptingPass}
-use Rattle.judge.proofs.Queue.{Within, few-points, member-iff}
-use Rattle.judge.proofs.Reached.{Reached, search-reaches}
-use Rattle.judge.proofs.Points.{onto, onto-pass, letter-onto, onward-step, step-onward, onward-within}
+use Rattle.rest.proofs.Queue.{Within, few-points, member-iff}
+use Rattle.rest.proofs.Reached.{Reached, search-reaches}
+use Rattle.rest.proofs.Points.{onto, onto-pass, letter-onto, onward-step, step-onward, onward-within}
 use Rattle.automaton.proofs.InRange.{InRange}
 
 module _ (a : Automaton) (range : InRange a) (stem cycle : List ℕ) (pos : 0 < length cycle) where
   abbrev word : ℕ → ℕ
   word = letter stem cycle
 
-  abbrev s : ℕ
+  abbrev pub s : ℕ
   s = length stem
 
-  abbrev n : ℕ
+  abbrev pub n : ℕ
   n = length cycle
 
-  abbrev N : ℕ
+  abbrev pub N : ℕ
   N = length (a .states)
 
   -- ---- what the searches meet
 
   -- from point to point
-  abbrev Go : (i : ℕ) (x y : Point) → Type 0
+  abbrev pub Go : (i : ℕ) (x y : Point) → Type 0
   Go i x y = In y (onward a stem cycle x)
 
   -- some run from one of these points comes to x, within bounds
-  record Comes (from : List Point) (x : Point) : Type 0 where
-    within : Within N (s + n) x
-    start : Point
-    given : In start from
-    count : ℕ
-    run : Leads Go count start x
+  pub record Comes (from : List Point) (x : Point) : Type 0 where
+    pub within : Within N (s + n) x
+    pub start : Point
+    pub given : In start from
+    pub count : ℕ
+    pub run : Leads Go count start x
 
   -- what the search from them meets
-  abbrev Meeting : List Point → Type 0
+  abbrev pub Meeting : List Point → Type 0
   Meeting from = Reached a stem cycle (Comes from) from (reachedFrom a stem cycle from)
 
   searched : (from : List Point) → All (Within N (s + n)) from → Meeting from
@@ -70,13 +70,13 @@ module _ (a : Automaton) (range : InRange a) (stem cycle : List ℕ) (pos : 0 < 
       }
 
   -- an initial state, at position 0
-  started : (x : Point) → In x (starts a stem cycle) → (x .position ≡ 0) × In (x .state) (a .initial)
+  pub started : (x : Point) → In x (starts a stem cycle) → (x .position ≡ 0) × In (x .state) (a .initial)
   unfolding starts
   started x h =
       let (q, m, e) = map-in (point 0) x (a .initial) h in
       (ap (λ (y : Point). y .position) e, subst (λ (k : ℕ). In k (a .initial)) (sym (ap (λ (y : Point). y .state) e)) m)
 
-  from-starts : Meeting (starts a stem cycle)
+  pub from-starts : Meeting (starts a stem cycle)
   from-starts = searched (starts a stem cycle)
       (λ x h. record { position = omega (arith, started x h .0); state = range .initial (x .state) (started x h .1) })
 
@@ -116,26 +116,28 @@ module _ (a : Automaton) (range : InRange a) (stem cycle : List ℕ) (pos : 0 < 
     endless-accepts : AcceptingPass a stem cycle
     endless-accepts = pass-iff a stem cycle .1 (endless-pass s n pos word (numbered a) (λ i. p i .state) states N few)
 
-  module _ (x : Point) (c : Comes (starts a stem cycle) x) (b : Comes (onward a stem cycle x) x) where
-    round : Leads Go (1 + b .count) x x
-    round = leads-on (λ i lt y z h. h) (leads-one (b .given)) (b .run)
-
-    whole : Leads Go (c .count + (1 + b .count)) (c .start) x
+  -- a run that comes to x, and one from there back that accepts on its way
+  module _ (x : Point) (c : Comes (starts a stem cycle) x) (d : ℕ) (some : 0 < d) (round : Leads Go d x x) where
+    whole : Leads Go (c .count + d) (c .start) x
     whole = leads-on (λ i lt y z h. h) (c .run) round
 
     whole-first : whole .at (c .count) ≡ x
     unfolding whole
     whole-first = on-early (λ i lt y z h. h) (c .run) round (c .count) (omega arith) ∙ c .run .to
 
-    looped : Accepts a (x .state) → AcceptingPass a stem cycle
-    looped acc =
-        let (p, run) = pass-endless (c .count) (1 + b .count) (omega arith) (λ i. 0) (λ i l. refl) pointed turned in
+    whole-late : (i : ℕ) → whole .at (c .count + i) ≡ round .at i
+    unfolding whole
+    whole-late i = on-late (λ i lt y z h. h) (c .run) round i
+
+    pub looped : (i : ℕ) → i ≤ d → Accepts a (round .at i .state) → AcceptingPass a stem cycle
+    looped i le acc =
+        let (p, run) = pass-endless (c .count) d some (λ i. 0) (λ i l. refl) pointed turned in
         endless-accepts p run
       where
-        turned : Pass (c .count) (1 + b .count) (λ i. 0) pointed
+        turned : Pass (c .count) d (λ i. 0) pointed
         turned =
-            let z : c .count + 0 * (1 + b .count) ≡ c .count = omega arith in
-            let y : c .count + 1 * (1 + b .count) ≡ c .count + (1 + b .count) = omega arith in
+            let z : c .count + 0 * d ≡ c .count = omega arith in
+            let y : c .count + 1 * d ≡ c .count + d = omega arith in
             record {
               at = whole .at;
               first = 0;
@@ -144,7 +146,7 @@ module _ (a : Automaton) (range : InRange a) (stem cycle : List ℕ) (pos : 0 < 
               begins = rw (whole .from) (c .given);
               steps = λ i l. whole .steps i (omega arith);
               same = ap (whole .at) z ∙ whole-first ∙ sym (ap (whole .at) y ∙ whole .to);
-              accepts = (c .count, omega arith, omega arith, rw whole-first acc);
+              accepts = (c .count + i, omega arith, omega arith, rw (whole-late i) acc);
             }
 
   -- ---- from an accepting pass to a point that leads back to itself
@@ -172,7 +174,7 @@ module _ (a : Automaton) (range : InRange a) (stem cycle : List ℕ) (pos : 0 < 
     here-on : (i : ℕ) → i < high → In (here (suc i)) (onward a stem cycle (here i))
     unfolding here onto
     here-on i l = step-onward a stem cycle (onto stem cycle i) (pass .at i) (pass .at (suc i))
-        (subst (λ (x : ℕ). Step a (pass .at i) x (pass .at (suc i))) (sym (letter-onto stem cycle pos i)) (pass .steps i l))
+        (same-letter a (sym (letter-onto stem cycle pos i)) (pass .at i) (pass .at (suc i)) (pass .steps i l))
 
     -- a search that meets one point of the run meets those after it
     module _ {P : Point → Type 0} {from points : List Point} (c : Reached a stem cycle P from points) where
@@ -184,25 +186,38 @@ module _ (a : Automaton) (range : InRange a) (stem cycle : List ℕ) (pos : 0 < 
     unfolding here onto starts
     start-in = in-map (point 0) (pass .at 0) (a .initial) (pass .begins)
 
+    -- a search from the initial states meets all of it
+    pub met-here : (i : ℕ) → i ≤ high
+        → In (point (onto stem cycle i) (pass .at i)) (reachedFrom a stem cycle (starts a stem cycle))
+    unfolding here
+    met-here i le = taken-later from-starts 0 i (omega arith) le (from-starts .has (here 0) start-in)
+
     found : (i : ℕ) → low ≤ i → i < high → Accepts a (pass .at i) → hasAcceptingPass a stem cycle ≡ true
     unfolding hasAcceptingPass
-    found i l m acc = any-iff (λ x. accepting a stem cycle x && member x (reachedFrom a stem cycle (onward a stem cycle x))) (reachedFrom a stem cycle (starts a stem cycle)) .1 (
-      here i,
-      taken-later from-starts 0 i (omega arith) (omega arith) (from-starts .has (here 0) start-in),
-      and-eq-true-iff (accepting a stem cycle (here i)) _ .1 ((unfold here in acc), member-iff (here i) (reachedFrom a stem cycle (onward a stem cycle (here i))) .1 again),
-    )
+    found i l m acc = any-iff
+        (λ x. accepting a stem cycle x && member x (reachedFrom a stem cycle (onward a stem cycle x)))
+        (reachedFrom a stem cycle (starts a stem cycle)) .1 (
+          here i,
+          (unfold here in met-here i (omega arith)),
+          and-eq-true-iff (accepting a stem cycle (here i)) _ .1 (
+            (unfold here in acc),
+            member-iff (here i) (reachedFrom a stem cycle (onward a stem cycle (here i))) .1 again,
+          ),
+        )
       where
         again : In (here i) (reachedFrom a stem cycle (onward a stem cycle (here i)))
         again = taken-later (from-after (here i)) low i l (omega arith)
             (subst (λ (x : Point). In x (reachedFrom a stem cycle (onward a stem cycle (here i)))) (sym here-round)
-            (taken-later (from-after (here i)) (suc i) high m (omega arith) (from-after (here i) .has (here (suc i)) (here-on i m))))
+            (taken-later (from-after (here i)) (suc i) high m (omega arith)
+            (from-after (here i) .has (here (suc i)) (here-on i m))))
 
     pass-shows : hasAcceptingPass a stem cycle ≡ true
     pass-shows =
         let (i, l, m, acc) = pass .accepts in
         early i l m acc (decLt i high)
       where
-        early : (i : ℕ) → low ≤ i → i ≤ high → Accepts a (pass .at i) → Dec (i < high) → hasAcceptingPass a stem cycle ≡ true
+        early : (i : ℕ) → low ≤ i → i ≤ high → Accepts a (pass .at i) → Dec (i < high)
+            → hasAcceptingPass a stem cycle ≡ true
         early i l m acc (yes lt) = found i l lt acc
         early i l m acc (no ge) =
             let z : i ≡ high = omega arith in
@@ -217,7 +232,10 @@ module _ (a : Automaton) (range : InRange a) (stem cycle : List ℕ) (pos : 0 < 
       let (x, m, t) = found in
       let (acc, again) = and-eq-true-iff (accepting a stem cycle x) _ .0 t in
       let after = member-iff x (reachedFrom a stem cycle (onward a stem cycle x)) .0 again in
-      looped x (from-starts .sound x m) (from-after x .sound x after) acc
+      let b = from-after x .sound x after in
+      let round = leads-on (λ i lt y z h. h) (leads-one (b .given)) (b .run) in
+      looped x (from-starts .sound x m) (1 + b .count) (omega arith) round 0 (omega arith)
+      (subst (λ (y : Point). Accepts a (y .state)) (sym (round .from)) acc)
 
   -- the search is right about accepting passes
   pub has-accepting-pass-iff : (hasAcceptingPass a stem cycle ≡ true) ↔ AcceptingPass a stem cycle

@@ -2,18 +2,19 @@
 use Prim.Native.Nat.{ℕ, _<_, _≤_}
 use mathlib.Core.Path.{_≡_, refl, sym, _∙_}
 use mathlib.Core.List.{List}
-use mathlib.Core.Bool.{Bool, true, false}
+use mathlib.Core.Bool.{Bool, true, false, _||_}
 use lib.ListN.{length, replicate}
 use borrow.Author.Tests.{le-leb, lt-leb}
-use Rattle.lasso.proofs.Checking.{lasso-some}
 use Rattle.answer.specs.Result.{Result, accepted, refused, fine}
 use Rattle.automaton.specs.Automaton.{Automaton, AcceptingPass}
 use Rattle.automaton.specs.Tables.{Counts}
 use Rattle.image.specs.Calls.{checks}
 use Rattle.image.proofs.Contents.{read-of, checks-of, checks-refused}
 use Rattle.judge.specs.Search.{hasAcceptingPass}
-use Rattle.judge.specs.Judge.{workBytes, Verdict, kept, broken, judgeable, verdict, Judgement, judgement, judgedBy, judged, lassoJudgeable}
+use Rattle.judge.specs.Judge.{workBytes, Verdict, kept, broken, finding, lassoJudgeable, judgeable, verdict}
+use Rattle.judge.specs.Judge.{Judgement, judgement, judgedBy, judged}
 use Rattle.lasso.specs.Lasso.{lassoCheck}
+use Rattle.rest.specs.Rest.{restTaken, pairsTaken}
 use Rattle.judge.specs.Memory.{Tells}
 use Rattle.image.specs.Lookup.{imageAutomaton}
 use Rattle.judge.proofs.Decisions.{true-false}
@@ -21,7 +22,8 @@ use Rattle.automaton.proofs.InRange.{InRange}
 use Rattle.judge.proofs.HasAcceptingPass.{has-accepting-pass-iff}
 
 -- a test that tells whether there is an accepting pass is what is computed
-decided-pass : (a : Automaton) (stem cycle : List ℕ) → InRange a → 0 < length cycle → {k : Bool} → Tells k (AcceptingPass a stem cycle) → hasAcceptingPass a stem cycle ≡ k
+pub decided-pass : (a : Automaton) (stem cycle : List ℕ) → InRange a → 0 < length cycle → {k : Bool}
+    → Tells k (AcceptingPass a stem cycle) → hasAcceptingPass a stem cycle ≡ k
 decided-pass a stem cycle range pos {k} tells = go (hasAcceptingPass a stem cycle) refl k refl
   where
     go : (b : Bool) → hasAcceptingPass a stem cycle ≡ b → (d : Bool) → k ≡ d → b ≡ d
@@ -38,17 +40,24 @@ module _ (stem cycle work : List ℕ) where
     pub lasso-refused : {number place : ℕ} → refused number place ≡ lassoCheck stem cycle → judgement (refused number place) work ≡ judgedBy (lassoJudgeable a stem cycle) stem cycle work
     lasso-refused e = judged-refused {x = lassoJudgeable a stem cycle} (rw (← e))
 
-    module _ (range : InRange a) (passed : fine ≡ lassoCheck stem cycle) {k : Bool} (tells : Tells k (AcceptingPass a stem cycle)) {after : List ℕ} (zero : after ≡ replicate (length work) 0) where
-      judged-by : {v : Verdict} → v ≡ verdict a stem cycle → judgement (accepted v) after ≡ judgedBy (lassoJudgeable a stem cycle) stem cycle work
-      judged-by e = rw (e, zero, ← passed)
+    -- the lasso is not refused, so many pairs were taken, and k says whether it is kept
+    module _ (passed : fine ≡ lassoCheck stem cycle) {rests k : Bool} {pairs : ℕ}
+        (at-rest : rests ≡ restTaken a stem cycle) (counted : pairs ≡ pairsTaken a stem cycle)
+        (decided : k ≡ (rests || hasAcceptingPass a stem cycle))
+        {after : List ℕ} (zero : after ≡ replicate (length work) 0) where
+      judged-by : {v : Verdict} → v ≡ verdict a stem cycle
+          → judgement (accepted (finding v pairs)) after ≡ judgedBy (lassoJudgeable a stem cycle) stem cycle work
+      judged-by e = rw (e, counted, zero, ← passed)
 
-      pub lasso-kept : k ≡ true → judgement (accepted kept) after ≡ judgedBy (lassoJudgeable a stem cycle) stem cycle work
+      pub lasso-kept : k ≡ true
+          → judgement (accepted (finding kept pairs)) after ≡ judgedBy (lassoJudgeable a stem cycle) stem cycle work
       unfolding verdict
-      lasso-kept e = judged-by (rw (decided-pass a stem cycle range (lasso-some stem cycle passed) tells, e, verdict))
+      lasso-kept e = judged-by (rw (← at-rest, ← decided, e, verdict))
 
-      pub lasso-broken : k ≡ false → judgement (accepted broken) after ≡ judgedBy (lassoJudgeable a stem cycle) stem cycle work
+      pub lasso-broken : k ≡ false
+          → judgement (accepted (finding broken pairs)) after ≡ judgedBy (lassoJudgeable a stem cycle) stem cycle work
       unfolding verdict
-      lasso-broken e = judged-by (rw (decided-pass a stem cycle range (lasso-some stem cycle passed) tells, e, verdict))
+      lasso-broken e = judged-by (rw (← at-rest, ← decided, e, verdict))
 
   module _ (image : List ℕ) where
     pub work-short : length work < workBytes → judgement (refused 25 0) work ≡ judged image stem cycle work

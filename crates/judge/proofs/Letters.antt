@@ -10,9 +10,9 @@ use native.Mathlib.Numerals.{add-one}
 use native.Mathlib.Decide.{le-ind}
 use lib.ListN.{length, getD, replicate}
 use Rattle.automaton.specs.Automaton.{Automaton, Step, Accepts}
-use Rattle.judge.specs.Memory.{Token, Lifted, Is, Gains, Confined, Tells, Moved, moved, lifted, After, Ran}
-use Rattle.judge.specs.Memory.{AfterAll, SomeStarted}
-use Rattle.judge.specs.Limits.{startBit, metBit, rowsWords}
+use Rattle.judge.specs.Memory.{Token, Lifted, Is, Gains, Confined, Moved, moved, lifted, After, AfterAll}
+use Rattle.judge.specs.Memory.{Ran}
+use Rattle.judge.specs.Limits.{metBit, rowsWords}
 use Rattle.judge.proofs.Gathers.{none-set, is-made}
 use Rattle.judge.proofs.Decisions.{true-false, false-true}
 
@@ -47,21 +47,23 @@ module _ (a : Automaton) (x : ℕ) where
         all (lifted p q j lt h s acc) =
             lift .all q (metBit + j) (inr (acc, record { low = j; half = lt; high = refl; held = new h s }))
 
-  moved-inside : {n : ℕ} {Held : (q k : ℕ) → Type 0} → ((p q : ℕ) → Step a p x q → q < n) → {q k : ℕ} → Moved a x Held q k → q < n
+  moved-inside : {n : ℕ} {Held : (q k : ℕ) → Type 0} → ((p q : ℕ) → Step a p x q → q < n)
+      → {q k : ℕ} → Moved a x Held q k → q < n
   moved-inside target (moved p q k h s) = target p q s
   moved-inside target (lifted p q j lt h s acc) = target p q s
 
-  -- a run from an initial state stands in one of the n states, if one is left
+  -- a run stands in one of the n states, if one is left
   pub advanced : {n : ℕ} {r : Bool} {rows next : List ℕ} → ((p q : ℕ) → Step a p x q → q < n)
-      → Is next (Moved a x (Token rows)) → Tells r (SomeStarted false n next) → Ran r next (Moved a x (Token rows))
-  advanced target is some = record {
+      → Is next (Moved a x (Token rows)) → (r ≡ false → (q k : ℕ) → q < n → Token next q k → ⊥)
+      → Ran r next (Moved a x (Token rows))
+  advanced target is none = record {
     on = λ e. is;
-    lost = λ e q h. some .no e (q, moved-inside target h, is .all q startBit h);
+    lost = λ e q k h. none e q k (moved-inside target h) (is .all q k h);
   }
 
-  moved-low : {Held : (q k : ℕ) → Type 0} {q k : ℕ} → k < metBit → Moved a x Held q k → (p : ℕ) × Held p k
-  moved-low lt (moved p q k h s) = (p, h)
-  moved-low lt (lifted p q j lj h s acc) = absurd (omega arith)
+  moved-from : {Held : (q k : ℕ) → Type 0} {q k : ℕ} → Moved a x Held q k → (p : ℕ) × ((j : ℕ) × Held p j)
+  moved-from (moved p q k h s) = (p, (k, h))
+  moved-from (lifted p q j lt h s acc) = (p, (j, h))
 
   pub moved-map : (P Q : (q k : ℕ) → Type 0) → ((q k : ℕ) → P q k → Q q k)
       → (q k : ℕ) → Moved a x P q k → Moved a x Q q k
@@ -82,17 +84,18 @@ after-covered a w {Held} held (suc i) q k lt h = go refl h (λ p. after-covered 
         let f : j ≡ k = omega arith in
         moved p q k (rw f at h) s
 
-pub after-inside : (a : Automaton) (w : ℕ → ℕ) {n : ℕ} {Held : (q k : ℕ) → Type 0} → ((p x q : ℕ) → Step a p x q → q < n) → ((q k : ℕ) → Held q k → q < n)
+after-inside : (a : Automaton) (w : ℕ → ℕ) {n : ℕ} {Held : (q k : ℕ) → Type 0}
+    → ((p x q : ℕ) → Step a p x q → q < n) → ((q k : ℕ) → Held q k → q < n)
     → (i q k : ℕ) → After a w Held i q k → q < n
 after-inside a w target held zero q k h = held q k h
 after-inside a w target held (suc i) q k h = moved-inside a (w i) (λ p t s. target p (w i) t s) h
 
--- where no run from an initial state is left, none will be
+-- where no run is left, none will be
 lost-later : (a : Automaton) (w : ℕ → ℕ) (Held : (q k : ℕ) → Type 0) (i : ℕ)
-    → ((q : ℕ) → After a w Held i q startBit → ⊥) → (d : ℕ) → i ≤ d → (q : ℕ) → After a w Held d q startBit → ⊥
-lost-later a w Held i lost = le-ind (λ d. (q : ℕ) → After a w Held d q startBit → ⊥) lost (λ d le before q h.
-    let m : (p : ℕ) × After a w Held d p startBit = moved-low a (w d) (omega arith) h in
-    before (m .0) (m .1))
+    → ((q k : ℕ) → After a w Held i q k → ⊥) → (d : ℕ) → i ≤ d → (q k : ℕ) → After a w Held d q k → ⊥
+lost-later a w Held i lost = le-ind (λ d. (q k : ℕ) → After a w Held d q k → ⊥) lost (λ d le before q k h.
+    let (p, (j, m)) = moved-from a (w d) h in
+    before p j m)
 
 -- a loop that has taken the first i letters of a word, with the runs in one of two lists of rows; what stands in the
 -- other does not count
@@ -119,7 +122,7 @@ module _ (a : Automaton) (n : ℕ) (word before : List ℕ) where
     pub run-confined : Confined n x
     run-confined q k h = after-inside a (λ j. getD word j 0) target held i q k (inv .bits .only q k h)
 
-    -- a letter, with the runs after it in the other list; or none from an initial state is left
+    -- a letter, with the runs after it in the other list; or none is left
     module _ (lt : i < length word) {r : Bool} {z : List ℕ} (ran : Ran r z (Moved a (getD word i 0) (Token x))) where
       pub run-steps : r ≡ true → Running a n word before z x (i + 1)
       run-steps e = record {
@@ -133,5 +136,6 @@ module _ (a : Automaton) (n : ℕ) (word before : List ℕ) where
       run-stops e = record {
         on = λ t. false-true t;
         lost = λ t. lost-later a (λ j. getD word j 0) (Token before) (suc i)
-            (λ q h. ran .lost e q (moved-map a (getD word i 0) _ _ (inv .bits .all) q startBit h)) (length word) (omega arith);
+            (λ q k h. ran .lost e q k (moved-map a (getD word i 0) _ _ (inv .bits .all) q k h)) (length word)
+            (omega arith);
       }

@@ -8,10 +8,10 @@ pub mod Closure
 pub mod Runs
 pub mod Arrivals
 pub mod Passes
-pub mod Verdict
-pub mod Queue
-pub mod Points
-pub mod Reached
 pub mod HasAcceptingPass
+pub mod PassStates
+pub mod Verdict
+pub mod AtRest
 pub mod Judgements
 pub mod VerdictIff
+pub mod Pairs

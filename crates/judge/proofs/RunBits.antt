@@ -2,19 +2,19 @@
 use Prim.Native.Nat.{ℕ, zero, suc, _+_, _-_, _*_, _/_, _%_, _^_, _<_, _≤_}
 use mathlib.Core.Path.{_≡_, refl, sym, _∙_, ap, subst}
 use mathlib.Core.List.{List, [], _∷_, _++_}
-use mathlib.Core.Bool.{_&&_}
 use mathlib.Core.Logic.{_⊎_, inl, inr, ⊎-elim, ⊎-map}
 use native.Mathlib.Omega.{arith}
 use native.Mathlib.Decide.{ℕ-discrete, decLt}
 use lib.ListN.{length, getD, set, replicate, drop, length-set, length-replicate, List·getD-append}
 use lib.Seq.{getD-set-same, getD-set-other, getD-append-add, getD-drop}
-use lib.Bits.{bitAnd, bitOr, bitXor, and-mask, and-le-l, and-le-r, or-add-and, xor-add-and, xor-self}
+use lib.Bits.{bitAnd, bitOr, and-mask}
 use lib.Dec.{eqb}
 use lib.Pow.{pow-lt}
 use native.Mathlib.Nat.{one-mul, mod-eq-of-lt, add-zero, sub-zero}
-use borrow.Author.Tests.{eqb-true, eqb-false, eq-eqb, ne-eqb}
+use borrow.Author.Tests.{eqb-true, eqb-false}
 use Rattle.judge.specs.Memory.{Token, Lifted, Gains, Confined, Ored, Tells}
 use Rattle.sets.specs.Bits.{Has}
+use Rattle.rest.proofs.LetterTests.{or-none}
 use Rattle.sets.proofs.Bits.{or-has, has-or-l, has-or-r, zero-has, pow-has, has-pow}
 use Rattle.judge.specs.Limits.{metBit, rowBits}
 use Rattle.judge.proofs.Gathers.{adds-as, none-set}
@@ -166,31 +166,6 @@ module _ (x from y : List ℕ) (t q : ℕ) where
           ((e, omega arith, omega arith), rw (i, m) (l .held .bit))
 
 -- ---- words that are 0
-
-pub or-none : (a b : ℕ) → bitOr a b ≡ 0 → (a ≡ 0) × (b ≡ 0)
-or-none a b e =
-    let l = and-le-l a b in
-    let r = and-le-r a b in
-    let s = or-add-and a b in
-    (omega arith, omega arith)
-
-xor-none : (a b : ℕ) → bitXor a b ≡ 0 → a ≡ b
-xor-none a b e =
-    let l = and-le-l a b in
-    let r = and-le-r a b in
-    let s = xor-add-and a b in
-    omega arith
-
--- two tests in one
-pub tests-joined : (a b c : ℕ) → eqb (bitOr (bitXor a b) c) 0 ≡ (eqb a b && eqb c 0)
-tests-joined a b c = go (ℕ-discrete a b) (ℕ-discrete c 0)
-  where
-    go : Dec (a ≡ b) → Dec (c ≡ 0) → eqb (bitOr (bitXor a b) c) 0 ≡ (eqb a b && eqb c 0)
-    go (no e) d = ne-eqb _ 0 (λ z. e (xor-none a b (or-none (bitXor a b) c z .0))) ∙ rw (ne-eqb a b e)
-    go (yes e) (no f) = ne-eqb _ 0 (λ z. f (or-none (bitXor a b) c z .1)) ∙ rw (eq-eqb a b e, ne-eqb c 0 f)
-    go (yes e) (yes f) =
-        let z : bitOr (bitXor a b) c ≡ 0 = rw (e, f, xor-self b) in
-        eq-eqb _ 0 z ∙ rw (eq-eqb a b e, eq-eqb c 0 f)
 
 -- ---- no bit
 

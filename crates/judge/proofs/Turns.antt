@@ -1,22 +1,19 @@
 -- What each turn of the loops over records and states adds, and what the loops add together. Assumes of the image only
 -- that it is not refused.
-use Prim.Native.Nat.{ℕ, _+_, _-_, _*_, _<_, _≤_}
-use mathlib.Core.Path.{_≡_, refl, sym, _∙_}
+use Prim.Native.Nat.{ℕ, _+_, _*_, _<_, _≤_}
+use mathlib.Core.Path.{_≡_, refl}
 use mathlib.Core.List.{List}
 use native.Mathlib.Omega.{arith}
-use native.Mathlib.Numerals.{add-one}
-use lib.ListN.{length, drop}
-use Rattle.sets.specs.Sets.{In}
+use lib.ListN.{length}
 use Rattle.automaton.specs.Automaton.{Step, Accepts}
-use Rattle.image.specs.Image.{initialAt, contentsBytes}
 use Rattle.answer.specs.Bytes.{numberAt}
-use Rattle.image.specs.Reader.{countsAt, countSum}
+use Rattle.image.specs.Reader.{countsAt}
 use Rattle.judge.specs.Memory.{Token, Lifted, Gains, ByRecord}
 use Rattle.image.specs.Lookup.{imageAutomaton, recordsAt, Readable, AcceptingByte, transitionCountOf}
 use Rattle.automaton.specs.Limits.{maxStates}
-use Rattle.judge.specs.Limits.{startBit}
 use Rattle.judge.proofs.Gathers.{adds-as, lift-as, Gathering, row-was, row-is}
-use Rattle.image.proofs.Lookup.{step-taken, taken-step, accepts-inside, accepts-byte, byte-accepts, initial-number, number-initial, number-drop, records-end, target-inside, initial-inside}
+use Rattle.image.proofs.Lookup.{step-taken, taken-step, accepts-inside, accepts-byte, byte-accepts}
+use Rattle.image.proofs.Lookup.{records-end, target-inside}
 
 -- ---- all records of a state
 
@@ -24,12 +21,6 @@ abbrev pub ByRecords : (image row : List ℕ) (x at i t k : ℕ) → Type 0
 ByRecords image row x at i t k = ByRecord image (at + 4 * i) x row t k
 
 module _ (image : List ℕ) (q : ℕ) {at n : ℕ} (ea : at ≡ recordsAt image q) (en : n ≡ transitionCountOf image q) where
-  pub records-next : at + 4 * n ≡ recordsAt image (q + 1)
-  unfolding countSum
-  records-next =
-      let e : n ≡ numberAt (drop contentsBytes image) (4 * q) = en ∙ sym (number-drop contentsBytes image (4 * q)) in
-      rw (add-one q) (omega arith)
-
   module _ (lq : q < countsAt image .states) where
     pub all-records : {row before after : List ℕ} (x : ℕ)
         → Gains before after (λ t k. (i : ℕ) × (i < n) × ByRecords image row x at i t k)
@@ -69,10 +60,6 @@ pub record Stepping (image rows : List ℕ) (n x : ℕ) (before after : List ℕ
   pub offset : at ≡ recordsAt image q
   pub turns : Gathering before (λ p t k. Step (imageAutomaton image) p x t × Token rows p k) n after q
 
-pub records-begin : (image : List ℕ) (n : ℕ) → n ≡ countsAt image .states → contentsBytes + 4 * n ≡ recordsAt image 0
-unfolding countSum
-records-begin image n e = omega arith
-
 -- what a turn of lifting adds to row p, if state p accepts
 abbrev pub Lifts : (image rows : List ℕ) (p k : ℕ) → Type 0
 Lifts image rows p k = AcceptingByte image p × Lifted (Token rows) p k
@@ -94,30 +81,11 @@ all-lifted image {before} n en adds =
         → Accepts (imageAutomaton image) q × Lifted (Token before) q k
     to q k (p, lt, (e, (b, l))) = rw e (byte-accepts image p (rw en at lt) b, l)
 
--- the initial numbers are the image's last
-module _ (image : List ℕ) (fine : Readable image) (n : ℕ) (en : n ≡ countsAt image .initial) where
-  initial-offset : length image - 2 * n ≡ initialAt (countsAt image)
-  initial-offset = omega (arith, fine .size)
-
-  pub initial-fits : (i : ℕ) → i < n → numberAt image (length image - 2 * n + 2 * i) < maxStates
-  initial-fits i lt = rw initial-offset (omega (arith, fine .few, initial-inside image fine i (rw en at lt)))
-
-  abbrev Given : (q k : ℕ) → Type 0
-  Given q k = (i : ℕ) × (i < n) × ((q ≡ numberAt image (length image - 2 * n + 2 * i)) × (k ≡ startBit))
-
-  pub all-initial : {before after : List ℕ}
-      → Gains before after Given → Gains before after (λ q k. In q (imageAutomaton image .initial) × (k ≡ startBit))
-  all-initial adds = adds-as adds to from
-    where
-      to : (q k : ℕ) → Given q k → In q (imageAutomaton image .initial) × (k ≡ startBit)
-      to q k (i, lt, (e, f)) = (rw (e, initial-offset) (number-initial image i (rw en at lt)), f)
-
-      from : (q k : ℕ) → In q (imageAutomaton image .initial) × (k ≡ startBit) → Given q k
-      from q k (h, f) =
-          let (i, lt, e) = initial-number image q h in
-          (i, rw en lt, (rw initial-offset e, f))
-
-pub all-states : {before after : List ℕ} (n : ℕ) → Gains before after (λ q k. (p : ℕ) × (p < n) × ((q ≡ p) × (k ≡ p)))
-    → Gains before after (λ q k. (q < n) × (k ≡ q))
-all-states n adds =
-    adds-as adds (λ q k h. (omega (arith, h .1, h .2), omega (arith, h .2))) (λ q k h. (q, h .0, (refl, h .1)))
+-- what is added of each state by itself, said of all
+pub all-states : {before after : List ℕ} {P : ℕ → Type 0} (n : ℕ)
+    → Gains before after (λ q k. (p : ℕ) × (p < n) × ((q ≡ p) × (P p × (k ≡ p))))
+    → Gains before after (λ q k. (q < n) × (P q × (k ≡ q)))
+all-states {before} {after} {P} n adds = adds-as adds to (λ q k h. (q, h .0, (refl, h .1)))
+  where
+    to : (q k : ℕ) → ((p : ℕ) × (p < n) × ((q ≡ p) × (P p × (k ≡ p)))) → (q < n) × (P q × (k ≡ q))
+    to q k (p, lt, (e, h)) = rw e (lt, h)

@@ -4,7 +4,7 @@ use Prim.Native.Nat.{ℕ, _+_, _<_, _≤_}
 use mathlib.Core.Path.{_≡_, refl, sym, _∙_, subst}
 use mathlib.Core.Logic.{_↔_}
 use mathlib.Core.List.{List}
-use mathlib.Core.Bool.{Bool, true, false, false≢true}
+use mathlib.Core.Bool.{Bool, true, false, _||_, false≢true}
 use native.Mathlib.Omega.{arith}
 use lib.ListN.{length}
 use borrow.Author.Tests.{lt-ltb, le-leb}
@@ -18,10 +18,13 @@ use Rattle.image.specs.Reader.{readImage}
 use Rattle.image.proofs.ImageAccepted.{image-accepted}
 use Rattle.image.proofs.Contents.{read-of}
 use Rattle.judge.specs.Search.{hasAcceptingPass}
-use Rattle.judge.specs.Judge.{workBytes, kept, broken, Exactly, workCheck, judgeable, verdict, judgement, judged}
+use Rattle.judge.specs.Judge.{workBytes, kept, broken, finding, Exactly, workCheck, judgeable, verdict, found}
+use Rattle.judge.specs.Judge.{judgement, judged}
 use Rattle.lasso.specs.Lasso.{maxLetters, lassoCheck}
 use Rattle.automaton.proofs.InRange.{InRange}
+use Rattle.rest.specs.Rest.{restTaken, pairsTaken}
 use Rattle.judge.proofs.HasAcceptingPass.{has-accepting-pass-iff}
+use Rattle.judge.proofs.AtRest.{full-search}
 use Rattle.image.proofs.Accepted.{readable, readable-in-range}
 use Rattle.lasso.proofs.Checking.{lasso-some}
 
@@ -37,14 +40,16 @@ image-in-range image a e =
     subst InRange (sym (read .automaton)) (readable-in-range image (readable read))
 
 -- kept exactly where P holds, if that is where there is an accepting pass
-pub verdict-exactly : (a : Automaton) (stem cycle : List ℕ) → InRange a → 0 < length cycle → {P : Type 0} → AcceptingPass a stem cycle ↔ P → Exactly (accepted (verdict a stem cycle)) P
+pub verdict-exactly : (a : Automaton) (stem cycle : List ℕ) → InRange a → 0 < length cycle → {P : Type 0}
+    → AcceptingPass a stem cycle ↔ P → Exactly (accepted (found a stem cycle)) P
 unfolding verdict
-verdict-exactly a stem cycle range pos {P} iff = go (hasAcceptingPass a stem cycle) refl
+verdict-exactly a stem cycle range pos {P} iff = go (restTaken a stem cycle || hasAcceptingPass a stem cycle) refl
   where
-    shown : hasAcceptingPass a stem cycle ≡ true ↔ AcceptingPass a stem cycle
-    shown = has-accepting-pass-iff a range stem cycle pos
+    shown : (restTaken a stem cycle || hasAcceptingPass a stem cycle) ≡ true ↔ AcceptingPass a stem cycle
+    shown = rw (full-search a range stem cycle pos) (has-accepting-pass-iff a range stem cycle pos)
 
-    go : (b : Bool) → hasAcceptingPass a stem cycle ≡ b → Exactly (accepted (elim b [ true ↦ kept | false ↦ broken ])) P
+    go : (b : Bool) → (restTaken a stem cycle || hasAcceptingPass a stem cycle) ≡ b
+        → Exactly (accepted (finding (elim b [ true ↦ kept | false ↦ broken ]) (pairsTaken a stem cycle))) P
     go true e =
         let p : P = iff .0 (shown .0 e) in
         ((λ _. p, λ _. refl), (λ w. absurd (one-verdict w), λ no. absurd (no p)))
@@ -66,12 +71,13 @@ judged-exactly image stem cycle work a e =
 
 module _ (a : Automaton) (formed : WellFormed a) (stem cycle : List ℕ) where
   -- the reader accepts the image, so that the verdict of the automaton is given
-  pub image-judged : (work : List ℕ) → lassoCheck stem cycle ≡ fine → workBytes ≤ length work → judged (imageBytes a) stem cycle work ≡ judgement (accepted (verdict a stem cycle)) (zeros work)
+  pub image-judged : (work : List ℕ) → lassoCheck stem cycle ≡ fine → workBytes ≤ length work
+      → judged (imageBytes a) stem cycle work ≡ judgement (accepted (found a stem cycle)) (zeros work)
   unfolding judged judgeable
   image-judged work fits enough = rw (le-leb workBytes (length work) enough, image-accepted a formed, fits)
 
   module _ {P : (stem cycle : List ℕ) → Type 0} (recognizes : Recognizes P a) (some : 0 < length cycle) where
-    pub recognized-exactly : Exactly (accepted (verdict a stem cycle)) (P stem cycle)
+    pub recognized-exactly : Exactly (accepted (found a stem cycle)) (P stem cycle)
     recognized-exactly = verdict-exactly a stem cycle (image-in-range (imageBytes a) a (image-accepted a formed)) some (recognizes stem cycle some)
 
     -- with letters within the limit and enough working bytes, judging the image says so

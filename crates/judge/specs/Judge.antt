@@ -3,7 +3,7 @@ use Prim.Native.Nat.{ℕ, _*_}
 use mathlib.Core.Path.{_≡_}
 use mathlib.Core.Logic.{_↔_}
 use mathlib.Core.List.{List}
-use mathlib.Core.Bool.{true, false}
+use mathlib.Core.Bool.{true, false, _||_}
 use lib.ListN.{length}
 use lib.Dec.{leb}
 use Rattle.answer.specs.Result.{Result, accepted, refused, andThen, Check, require}
@@ -12,6 +12,7 @@ use Rattle.lasso.specs.Lasso.{maxLetters, lassoCheck}
 use Rattle.automaton.specs.Automaton.{Automaton}
 use Rattle.automaton.specs.Limits.{maxStates}
 use Rattle.image.specs.Reader.{readImage}
+use Rattle.rest.specs.Rest.{restTaken, pairsTaken}
 use Rattle.judge.specs.declared.Judged.{Judged}
 use Rattle.judge.specs.declared.Judged.the-variants.{Kept, Broken, Refused}
 use Rattle.judge.specs.Search.{hasAcceptingPass}
@@ -20,14 +21,26 @@ pub data Verdict : Type 0 where
   kept : Verdict
   broken : Verdict
 
+-- what judging finds: the verdict, and how many pairs of position and state it took (02, R-5)
+pub record Finding : Type 0 where
+  pub verdict : Verdict
+  pub pairs : ℕ
+
+abbrev pub finding : Verdict → (pairs : ℕ) → Finding
+finding verdict pairs = record { verdict = verdict; pairs = pairs }
+
+-- the verdict of an answer, or its refusal
+abbrev pub verdictOf : Result Finding → Result Verdict
+verdictOf r = andThen r (λ f. accepted (f .verdict))
+
 -- an answer says kept exactly where P holds, and broken exactly where it does not
-abbrev pub Exactly : Result Verdict → Type 0 → Type 0
-Exactly r P = ((r ≡ accepted kept) ↔ P) × ((r ≡ accepted broken) ↔ (P → ⊥))
+abbrev pub Exactly : Result Finding → Type 0 → Type 0
+Exactly r P = ((verdictOf r ≡ accepted kept) ↔ P) × ((verdictOf r ≡ accepted broken) ↔ (P → ⊥))
 
 -- what an answer says in document 01's numbers and values
-abbrev pub judgeAnswer : Judged → Result Verdict
-judgeAnswer Kept = accepted kept
-judgeAnswer Broken = accepted broken
+abbrev pub judgeAnswer : Judged → Result Finding
+judgeAnswer (Kept pairs) = accepted (finding kept pairs)
+judgeAnswer (Broken pairs) = accepted (finding broken pairs)
 judgeAnswer (Refused number place) = refused number place
 
 -- the working bytes that judging asks for, one for each state that an automaton may have and each letter: 96 times 336
@@ -48,21 +61,27 @@ unfoldable pub judgeable : (image stem cycle work : List ℕ) → Result Automat
 judgeable image stem cycle work =
     andThen (workCheck work) (λ _. andThen (readImage image) (λ a. lassoJudgeable a stem cycle))
 
--- kept exactly where there is an accepting pass (01, Judging, sentence 6)
+-- kept where a pair at rest is taken, else where there is an accepting pass (01, Judging, sentence 6, and 02, R-5); the
+-- first alone changes no verdict: `full-search` (proofs/AtRest.antt)
 unfoldable pub verdict : Automaton → (stem cycle : List ℕ) → Verdict
-verdict a stem cycle = elim (hasAcceptingPass a stem cycle) [ true ↦ kept | false ↦ broken ]
+verdict a stem cycle =
+    elim (restTaken a stem cycle || hasAcceptingPass a stem cycle) [ true ↦ kept | false ↦ broken ]
+
+-- the verdict with the number of pairs taken
+abbrev pub found : Automaton → (stem cycle : List ℕ) → Finding
+found a stem cycle = finding (verdict a stem cycle) (pairsTaken a stem cycle)
 
 -- an answer, and the lent working bytes afterwards
 pub record Judgement : Type 0 where
-  pub answer : Result Verdict
+  pub answer : Result Finding
   pub work : List ℕ
 
-abbrev pub judgement : Result Verdict → List ℕ → Judgement
+abbrev pub judgement : Result Finding → List ℕ → Judgement
 judgement answer work = record { answer = answer; work = work }
 
 -- a refusal leaves the working bytes as they were, a verdict leaves them zero, all that were lent
 abbrev pub judgedBy : Result Automaton → (stem cycle work : List ℕ) → Judgement
-judgedBy (accepted a) stem cycle work = judgement (accepted (verdict a stem cycle)) (zeros work)
+judgedBy (accepted a) stem cycle work = judgement (accepted (found a stem cycle)) (zeros work)
 judgedBy (refused number place) stem cycle work = judgement (refused number place) work
 
 -- an automaton on a lasso

@@ -6,10 +6,6 @@ use Rattle.automaton.specs.Limits.{maxStates}
 abbrev pub rowBits : ℕ
 rowBits = 4 * 64
 
--- the bit of runs from an initial state at letter 0: the first that is no state's number
-abbrev pub startBit : ℕ
-startBit = maxStates
-
 -- how far above a bit the one lies that says the same of runs that have met an accepting state: half a row
 abbrev pub metBit : ℕ
 metBit = rowBits / 2

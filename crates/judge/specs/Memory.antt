@@ -1,8 +1,8 @@
 -- What the rows of bits hold while a lasso is judged, and what each step of judging makes of them. For every state
 -- there is a row of `rowBits` in four words of 64. Bit p of row q, p being a state: a run that stood in p when the pass
--- began stands in q now. Bit `startBit`: a run from an initial state at letter 0 stands in q now. Bit `metBit` + p: the
--- same as bit p, of a run that has stood in an accepting state since the pass began, now included and then not: a run
--- that comes back to where it stood then is there now.
+-- began stands in q now. Passes begin in those states alone in which a run from an initial state stands when some pass
+-- begins. Bit `metBit` + p: the same as bit p, of a run that has stood in an accepting state since the pass began, now
+-- included and then not: a run that comes back to where it stood then is there now.
 use Prim.Native.Nat.{ℕ, zero, suc, _+_, _*_, _/_, _%_, _<_, _≤_}
 use mathlib.Core.Path.{_≡_}
 use mathlib.Core.List.{List}
@@ -14,7 +14,7 @@ use Rattle.answer.specs.Bytes.{numberAt}
 use Rattle.sets.specs.Bits.{Has}
 use Rattle.automaton.specs.Automaton.{Automaton, reads, Step, Accepts}
 use Rattle.image.specs.Lookup.{recordAt}
-use Rattle.judge.specs.Limits.{rowBits, startBit, metBit}
+use Rattle.judge.specs.Limits.{rowBits, metBit}
 
 -- ---- rows
 
@@ -77,11 +77,10 @@ After a w Held (suc i) q k = Moved a (w i) (After a w Held i) q k
 abbrev pub AfterAll : (a : Automaton) (word : List ℕ) (Held : (q k : ℕ) → Type 0) (q k : ℕ) → Type 0
 AfterAll a word Held q k = After a (λ i. getD word i 0) Held (length word) q k
 
--- the letters of a word have been read and the rows hold this; or, where the answer is false, it has no run from an
--- initial state
+-- the letters of a word have been read and the rows hold this; or, where the answer is false, no run is left
 pub record Ran (r : Bool) (rows : List ℕ) (Held : (q k : ℕ) → Type 0) : Type 0 where
   pub on : r ≡ true → Is rows Held
-  pub lost : r ≡ false → (q : ℕ) → Held q startBit → ⊥
+  pub lost : r ≡ false → (q k : ℕ) → Held q k → ⊥
 
 -- the runs to m, and those of the lower half lifted if m comes back to itself
 abbrev pub Through : (rows : List ℕ) (m k : ℕ) → Type 0
@@ -107,13 +106,3 @@ pub data Linked (n : ℕ) (Held : (q k : ℕ) → Type 0) : (q k : ℕ) → Type
   join : (m q k : ℕ) → m < n → q < n → Linked n Held q m → Linked n Held m k → Linked n Held q k
   joinMet : (m q k : ℕ) → m < n → q < n → k < metBit → Linked n Held q (metBit + m) → Linked n Held m k
       → Linked n Held q (metBit + k)
-
--- a run from an initial state at letter 0 stands in q; with `back`, q also comes back to itself through an accepting
--- state
-abbrev pub Started : (back : Bool) (rows : List ℕ) (q : ℕ) → Type 0
-Started false rows q = Token rows q startBit
-Started true rows q = Token rows q startBit × Token rows q (metBit + q)
-
--- and that of one of n states
-abbrev pub SomeStarted : (back : Bool) (n : ℕ) (rows : List ℕ) → Type 0
-SomeStarted back n rows = (q : ℕ) × (q < n) × Started back rows q

@@ -1,74 +1,20 @@
 -- Whether an automaton has an accepting pass on a lasso, as a value: a search over points, each a position of the lasso
 -- and a state. `has-accepting-pass-iff` (proofs/HasAcceptingPass.antt) says that it is true exactly where there is an
 -- `AcceptingPass`, which renders 01, Judging, sentences 1 to 4.
-use Prim.Native.Nat.{ℕ, zero, suc, _+_, _*_}
-use mathlib.Core.List.{List, [], _∷_, _++_, map}
-use mathlib.Core.Bool.{Bool, true, false, cond, _&&_}
-use lib.ListN.{getD, length}
-use lib.Dec.{eqb, ltb}
+use Prim.Native.Nat.{ℕ}
+use mathlib.Core.List.{List}
+use mathlib.Core.Bool.{Bool, _&&_}
+use lib.ListN.{getD}
 use Rattle.sets.specs.Sets.{any}
-use Rattle.lasso.specs.Lasso.{letter}
-use Rattle.automaton.specs.Automaton.{Transition, Automaton, noState, reads}
-
-pub record Point : Type 0 where
-  pub position : ℕ
-  pub state : ℕ
-
-abbrev pub point : ℕ → ℕ → Point
-point position state = record { position = position; state = state }
-
-abbrev pub samePoint : Point → Point → Bool
-samePoint x y = eqb (x .position) (y .position) && eqb (x .state) (y .state)
-
-abbrev pub member : Point → List Point → Bool
-member x ys = any (samePoint x) ys
-
--- the points met so far, and one that was not among them at their end
-unfoldable pub visit : Point → List Point → List Point
-visit x met = elim (member x met) [ true ↦ met | false ↦ met ++ (x ∷ []) ]
-
-unfoldable pub visitAll : List Point → List Point → List Point
-visitAll [] met = met
-visitAll (x ∷ xs) met = visitAll xs (visit x met)
-
--- where the transitions that read the letter lead, in order, at the next position
-unfoldable pub readTargets : (letter next : ℕ) → List Transition → List Point
-readTargets x next [] = []
-readTargets x next (t ∷ ts) = elim (reads t x) [
-  | true ↦ point next (t .target) ∷ readTargets x next ts
-  | false ↦ readTargets x next ts
-]
-
--- positions run over stem and cycle; after the last comes the cycle's first
-unfoldable pub after : (stem cycle : List ℕ) (position : ℕ) → ℕ
-after stem cycle p = cond (ltb (suc p) (length stem + length cycle)) (suc p) (length stem)
+use Rattle.automaton.specs.Automaton.{Automaton, noState}
+use Rattle.rest.specs.Search.{Point, member, onward, reachedFrom, starts}
 
 module _ (a : Automaton) (stem cycle : List ℕ) where
-  -- the points that a step leads to
-  unfoldable pub onward : Point → List Point
-  onward x =
-      readTargets (letter stem cycle (x .position)) (after stem cycle (x .position))
-      (getD (a .states) (x .state) noState .transitions)
-
-  -- the points met, when the first `taken` of them have been taken: each one taken meets those that it leads to
-  unfoldable pub reach : (fuel taken : ℕ) (met : List Point) → List Point
-  reach zero taken met = met
-  reach (suc fuel) taken met = elim (ltb taken (length met)) [
-    | true ↦ reach fuel (suc taken) (visitAll (onward (getD met taken (point 0 0))) met)
-    | false ↦ met
-  ]
-
-  -- all points that can be reached from the given ones: each is taken once, so states times positions are enough
-  unfoldable pub reachedFrom : List Point → List Point
-  reachedFrom from = reach (length (a .states) * (length stem + length cycle)) 0 (visitAll from [])
-
-  -- the initial states, at letter 0
-  unfoldable pub starts : List Point
-  starts = map (point 0) (a .initial)
-
   abbrev pub accepting : Point → Bool
   accepting x = getD (a .states) (x .state) noState .accepting
 
   -- some point that can be reached accepts, and can be reached again from those after it
   unfoldable pub hasAcceptingPass : Bool
-  hasAcceptingPass = any (λ x. accepting x && member x (reachedFrom (onward x))) (reachedFrom starts)
+  hasAcceptingPass =
+      any (λ x. accepting x && member x (reachedFrom a stem cycle (onward a stem cycle x)))
+      (reachedFrom a stem cycle (starts a stem cycle))

@@ -5,24 +5,24 @@ use answer::number_at;
 use answer::zero;
 use automaton::Counted;
 use image::CONTENTS_BYTES;
-use image::INITIAL_COUNT_AT;
 use image::check;
 use lasso::check_lasso;
+use rest::reads_letter;
+use rest::take_pairs;
 ghost use mathlib.Core.Path.{_≡_};
-ghost use mathlib.Core.Bool.{true, _&&_};
+ghost use mathlib.Core.Bool.{true, false, _||_};
 ghost use Prim.Native.Nat.{ℕ, _+_, _*_, _<_, _≤_};
 ghost use mathlib.Core.List.{_++_};
-ghost use lib.ListN.{length, replicate, drop};
-ghost use lib.Dec.{eqb};
-ghost use lib.Bits.{bitOr, bitAnd};
+ghost use lib.ListN.{length, getD, replicate, drop};
 ghost use Rattle.automaton.specs.Automaton.{AcceptingPass, Accepts, Step};
 ghost use Rattle.automaton.specs.Limits.{maxStates};
-ghost use Rattle.sets.specs.Sets.{In};
 ghost use Rattle.answer.specs.Bytes.{numberAt};
-ghost use Rattle.judge.specs.Judge.{judgeAnswer, judgement, judgedOn, judged};
-ghost use Rattle.judge.specs.Limits.{startBit, metBit, rowBits};
+ghost use Rattle.judge.specs.Judge.{workBytes, judgeAnswer, judgement, judgedOn, judged};
+ghost use Rattle.judge.specs.Search.{hasAcceptingPass};
+ghost use Rattle.judge.specs.Limits.{metBit, rowBits};
 ghost use Rattle.judge.specs.Memory.{Token, Lifted, Is, Gains, Ored, Tells, Onward, ByRecord, Moved, AfterAll};
-ghost use Rattle.judge.specs.Memory.{Confined, Ran, Through, Via, Joined, Covered, Linked, Started, SomeStarted};
+ghost use Rattle.judge.specs.Memory.{Confined, Ran, Through, Via, Joined, Covered, Linked};
+ghost use Rattle.rest.specs.Memory.{ReachedMarked};
 ghost use Rattle.image.specs.Image.{acceptingAt};
 ghost use Rattle.image.specs.Reader.{countsAt};
 ghost use Rattle.image.specs.Lookup.{imageAutomaton, AcceptingByte, transitionCountOf, recordsAt, Readable};
@@ -38,28 +38,17 @@ type Rows = [u64; ROWS_WORDS];
 // One of them by itself.
 type Row = [u64; 4];
 
-// The bit of the runs from an initial state at letter 0, and how far above a bit the one lies that says the same of
-// runs that have met an accepting state.
-const START: usize = automaton::MAX_STATES;
-
+// How far above a bit the one lies that says the same of runs that have met an accepting state.
 const MET: usize = 128;
 
 // Where the accepting byte of the first state record is.
 const ACCEPTING_AT: usize = CONTENTS_BYTES + 2;
 
-// The answer of judge: the verdict, or a refusal's number and place.
+// The answer of judge: the verdict with the number of pairs taken, or a refusal's number and place.
 pub enum Judged {
-    Kept,
-    Broken,
+    Kept(usize),
+    Broken(usize),
     Refused(u8, usize),
-}
-
-// Whether a transition with these propositions reads the letter, by one test: those that must hold and do not, joined
-// with those that must not and do, are none.
-fn reads_letter(must: u8, must_not: u8, letter: u8) -> bool
-    ensures { λ r. ⌜ r ≡ (eqb (bitOr must letter) letter && eqb (bitAnd «must_not» letter) 0) ⌝ }
-{
-    ((must | letter) ^ letter) | (must_not & letter) == 0
 }
 
 // n words from index a on, each joined with one of those from index b on.
@@ -224,29 +213,15 @@ fn step(image: &[u8], n: usize, letter: u8, rows: &Rows, next: &mut Rows)
     lift(image, n, next);
 }
 
-// Whether a run from an initial state at letter 0 stands in state q; with `back`, whether q also comes back to itself
-// through an accepting state.
-fn started(rows: &Rows, q: usize, back: bool) -> bool
-    requires { ⌜ q < maxStates ⌝ }
-    ensures { λ r. ⌜ Tells r (Started back (now (rows .entry)) q) ⌝ }
-{
-    if !has_bit(rows, q, START) {
-        return false;
-    }
-    if !back {
-        return true;
-    }
-    has_bit(rows, q, MET + q)
-}
-
-// Whether that is so of any state.
-fn some_started(rows: &Rows, n: usize, back: bool) -> bool
+// Whether a run stands in one of n states. Callers rest on a no alone.
+fn some_run(rows: &Rows, n: usize) -> bool
     requires { ⌜ n ≤ maxStates ⌝ }
-    ensures { λ r. ⌜ Tells r (SomeStarted back n (now (rows .entry))) ⌝ }
+    ensures { λ r. ⌜ (r ≡ false → (q k : ℕ) → q < n → Token (now (rows .entry)) q k → ⊥) ⌝ }
 {
     let mut q = 0;
     while q < n {
-        if started(rows, q, back) {
+        let row = row_of(rows, q);
+        if !row_empty(&row) {
             return true;
         }
         q += 1;
@@ -254,18 +229,18 @@ fn some_started(rows: &Rows, n: usize, back: bool) -> bool
     false
 }
 
-// The runs after one letter, in `next`; false if none from an initial state is left.
+// The runs after one letter, in `next`; false if none is left.
 fn advance(image: &[u8], n: usize, letter: u8, rows: &Rows, next: &mut Rows) -> bool
     requires { ⌜ Readable (now image) × (n ≡ countsAt (now image) .states) × Confined n (now next) ⌝ }
     ensures { λ r. ⌜ Ran r (now (next .exit))
         (Moved (imageAutomaton (now (image .entry))) letter (Token (now (rows .entry)))) ⌝ }
 {
     step(image, n, letter, rows, next);
-    some_started(next, n, false)
+    some_run(next, n)
 }
 
-// The runs after all letters of a word. False at the first letter after which none from an initial state is left: then
-// none will be. Two letters lead from `rows` to `next` and back; what the last of an odd word leads to is copied.
+// The runs after all letters of a word. False at the first letter after which none is left: then none will be. Two
+// letters lead from `rows` to `next` and back; what the last of an odd word leads to is copied.
 fn run(image: &[u8], n: usize, word: &[u8], rows: &mut Rows) -> bool
     requires { ⌜ Readable (now image) × (n ≡ countsAt (now image) .states) × Confined n (now rows) ⌝ }
     ensures { λ r. ⌜ Ran r (now (rows .exit))
@@ -292,29 +267,27 @@ fn run(image: &[u8], n: usize, word: &[u8], rows: &mut Rows) -> bool
     true
 }
 
-// A run begins in each initial state. Their numbers are the image's last.
-fn begin_runs(image: &[u8], rows: &mut Rows)
-    requires { ⌜ Readable (now image) ⌝ }
+// A pass begins in state q, if its mark is 1. The marks begin at byte `at`.
+fn begin_pass(work: &[u8], at: usize, q: usize, rows: &mut Rows)
+    requires { ⌜ (q < maxStates) × (at + q < length (now work)) ⌝ }
     ensures { λ _. ⌜ Gains (now (rows .entry)) (now (rows .exit))
-        (λ q k. In q (imageAutomaton (now (image .entry)) .initial) × (k ≡ startBit)) ⌝ }
+        (λ r k. (r ≡ q) × ((getD (now (work .entry)) (at + q) 0 ≡ 1) × (k ≡ q))) ⌝ }
 {
-    let count = number_at(image, INITIAL_COUNT_AT);
-    let at = image.len() - 2 * count;
-    let mut i = 0;
-    while i < count {
-        set_bit(rows, number_at(image, at + 2 * i), START);
-        i += 1;
+    if work[at + q] != 1 {
+        return;
     }
+    set_bit(rows, q, q);
 }
 
-// A pass begins in each state.
-fn begin_passes(n: usize, rows: &mut Rows)
-    requires { ⌜ n ≤ maxStates ⌝ }
-    ensures { λ _. ⌜ Gains (now (rows .entry)) (now (rows .exit)) (λ q k. (q < n) × (k ≡ q)) ⌝ }
+// A pass begins in each marked state.
+fn begin_passes(work: &[u8], at: usize, n: usize, rows: &mut Rows)
+    requires { ⌜ (n ≤ maxStates) × (at + n ≤ length (now work)) ⌝ }
+    ensures { λ _. ⌜ Gains (now (rows .entry)) (now (rows .exit))
+        (λ q k. (q < n) × ((getD (now (work .entry)) (at + q) 0 ≡ 1) × (k ≡ q))) ⌝ }
 {
     let mut q = 0;
     while q < n {
-        set_bit(rows, q, q);
+        begin_pass(work, at, q, rows);
         q += 1;
     }
 }
@@ -377,6 +350,21 @@ fn close(rows: &mut Rows, n: usize)
     }
 }
 
+// Whether some state comes back to itself through an accepting state.
+fn some_back(rows: &Rows, n: usize) -> bool
+    requires { ⌜ n ≤ maxStates ⌝ }
+    ensures { λ r. ⌜ Tells r ((q : ℕ) × (q < n) × Token (now (rows .entry)) q (metBit + q)) ⌝ }
+{
+    let mut q = 0;
+    while q < n {
+        if has_bit(rows, q, MET + q) {
+            return true;
+        }
+        q += 1;
+    }
+    false
+}
+
 // Whether some state accepts.
 fn some_accepting(image: &[u8], n: usize) -> bool
     requires { ⌜ Readable (now image) × (n ≡ countsAt (now image) .states) ⌝ }
@@ -392,9 +380,12 @@ fn some_accepting(image: &[u8], n: usize) -> bool
     false
 }
 
-// Whether the automaton of an image that is not refused has an accepting pass on the lasso.
-fn search(image: &[u8], n: usize, stem: &[u8], cycle: &[u8]) -> bool
-    requires { ⌜ Readable (now image) × (n ≡ countsAt (now image) .states) × (0 < length (now cycle)) ⌝ }
+// Whether the automaton of an image that is not refused has an accepting pass on the lasso. The marks say in which
+// states a run stands when some pass begins: only from these can a run come back to where it stood.
+fn search(image: &[u8], n: usize, stem: &[u8], cycle: &[u8], work: &[u8]) -> bool
+    requires { ⌜ Readable (now image) × (n ≡ countsAt (now image) .states) × (0 < length (now cycle))
+        × (maxStates * (length (now stem) + length (now cycle)) ≤ length (now work))
+        × ReachedMarked (imageAutomaton (now image)) (now stem) (now cycle) (now work) ⌝ }
     ensures { λ r. ⌜ Tells r
         (AcceptingPass (imageAutomaton (now (image .entry))) (now (stem .entry)) (now (cycle .entry))) ⌝ }
 {
@@ -402,21 +393,32 @@ fn search(image: &[u8], n: usize, stem: &[u8], cycle: &[u8]) -> bool
         return false;
     }
     let mut rows = [0u64; ROWS_WORDS];
-    begin_runs(image, &mut rows);
-    if !run(image, n, stem, &mut rows) {
-        return false;
-    }
-    begin_passes(n, &mut rows);
+    begin_passes(work, automaton::MAX_STATES * stem.len(), n, &mut rows);
     if !run(image, n, cycle, &mut rows) {
         return false;
     }
     close(&mut rows, n);
-    some_started(&rows, n, true)
+    some_back(&rows, n)
 }
 
-// 8 and 9, then the verdict of an image that is not refused, and the working bytes zero.
+// Whether the lasso is kept: a pair at rest was taken, or else the full search says so, which begins at the marks that
+// the search to rest has left.
+fn is_kept(image: &[u8], n: usize, stem: &[u8], cycle: &[u8], rests: bool, work: &[u8]) -> bool
+    requires { ⌜ Readable (now image) × (n ≡ countsAt (now image) .states) × (0 < length (now cycle))
+        × (maxStates * (length (now stem) + length (now cycle)) ≤ length (now work))
+        × (rests ≡ false → ReachedMarked (imageAutomaton (now image)) (now stem) (now cycle) (now work)) ⌝ }
+    ensures { λ r. ⌜ r
+        ≡ (rests || hasAcceptingPass (imageAutomaton (now (image .entry))) (now (stem .entry)) (now (cycle .entry))) ⌝ }
+{
+    if rests {
+        return true;
+    }
+    search(image, n, stem, cycle, work)
+}
+
+// 8 and 9, then the verdict of an image that is not refused and the number of pairs taken, and the working bytes zero.
 fn judge_lasso(image: &[u8], n: usize, stem: &[u8], cycle: &[u8], work: &mut [u8]) -> Judged
-    requires { ⌜ Readable (now image) × (n ≡ countsAt (now image) .states) ⌝ }
+    requires { ⌜ Readable (now image) × (n ≡ countsAt (now image) .states) × (workBytes ≤ length (now work)) ⌝ }
     ensures { λ r. ⌜ judgement (judgeAnswer r) (now (work .exit))
         ≡ judgedOn (imageAutomaton (now (image .entry)))
         (now (stem .entry)) (now (cycle .entry)) (now (work .entry)) ⌝ }
@@ -425,12 +427,13 @@ fn judge_lasso(image: &[u8], n: usize, stem: &[u8], cycle: &[u8], work: &mut [u8
     if let Checked::Refused(number, place) = checked {
         return Judged::Refused(number, place);
     }
-    let kept = search(image, n, stem, cycle);
+    let taken = take_pairs(image, n, stem, cycle, work);
+    let kept = is_kept(image, n, stem, cycle, taken.rests, work);
     zero(work);
     if kept {
-        return Judged::Kept;
+        return Judged::Kept(taken.pairs);
     }
-    Judged::Broken
+    Judged::Broken(taken.pairs)
 }
 
 // The verdict on a lasso: 25, then 10 to 13 of the image, then 8 and 9 of the lasso.

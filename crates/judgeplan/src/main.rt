@@ -14,10 +14,10 @@ const ENOUGH: usize = 2 + 65535 + 2 + 65535 + MAX_LETTERS + 1;
 
 fn print_judged(answer: Judged) {
     match answer {
-        Judged::Kept => {
+        Judged::Kept(_) => {
             print(b"kept\n");
         }
-        Judged::Broken => {
+        Judged::Broken(_) => {
             print(b"broken\n");
         }
         Judged::Refused(number, place) => {

@@ -7,9 +7,9 @@ use native.Mathlib.Omega.{arith}
 use native.Mathlib.Decide.{decLt}
 use lib.ListN.{length}
 use lib.Dec.{leb, ltb}
-use borrow.Author.Tests.{lt-ltb, le-ltb, ltb-true, le-leb, lt-leb, not-true, not-false}
+use borrow.Author.Tests.{lt-ltb, le-ltb, ltb-true, leb-true, le-leb, lt-leb, not-true, not-false}
 use Rattle.answer.specs.Result.{refused, fine, require}
-use Rattle.answer.proofs.Lowest.{fine-first}
+use Rattle.answer.proofs.Lowest.{fine-first, fine-second}
 use Rattle.answer.proofs.Results.{require-fine}
 use Rattle.lasso.specs.Lasso.{maxLetters, lassoCheck}
 
@@ -41,3 +41,10 @@ module _ (stem cycle : List ℕ) where
   lasso-some e =
       ltb-true 0 (length cycle)
       (require-fine (ltb 0 (length cycle)) 8 0 (fine-first (require (ltb 0 (length cycle)) 8 0) _ (sym e)))
+
+  -- and no more letters than a lasso may have
+  pub lasso-few : fine ≡ lassoCheck stem cycle → length stem + length cycle ≤ maxLetters
+  unfolding lassoCheck
+  lasso-few e =
+      leb-true (length stem + length cycle) maxLetters
+      (require-fine _ 9 0 (fine-second (require (ltb 0 (length cycle)) 8 0) _ (sym e)))

@@ -6,7 +6,7 @@ use mathlib.Core.List.{List}
 use Rattle.answer.specs.Result.{Result}
 use Rattle.automaton.specs.Tables.{Counts, Outcome, outcome}
 use Rattle.answer.specs.Buffer.{Buffer, buffer}
-use Rattle.judge.specs.Judge.{Verdict, Judgement, judgement}
+use Rattle.judge.specs.Judge.{Finding, Judgement, judgement}
 use Rattle.demands.specs.Demand.{Decision, decision}
 use Rattle.office.specs.Packing.{packCounts, packLength, packVerdict, packedTables, packOutcome, packedSlice}
 use Rattle.office.specs.Packing.{packBuffer, packJudgement, packedDecision, packDecision}
@@ -22,12 +22,12 @@ pub packed-buffer : (a : Result ℕ) (image : List ℕ) (b : Buffer) (r : ℕ) �
 packed-buffer a image b r packs says = ap (λ (n : ℕ). packedSlice n image) packs ∙ ap packBuffer says
 
 -- of judge
-pub packed-judgement : (a : Result Verdict) (work : List ℕ) (j : Judgement) (r : ℕ) → r ≡ packVerdict a
+pub packed-judgement : (a : Result Finding) (work : List ℕ) (j : Judgement) (r : ℕ) → r ≡ packVerdict a
     → judgement a work ≡ j → packedSlice r work ≡ packJudgement j
 packed-judgement a work j r packs says = ap (λ (n : ℕ). packedSlice n work) packs ∙ ap packJudgement says
 
 -- of decide
-pub packed-decision : (a : Result Verdict) (s t i image work : List ℕ) (d : Decision) (r : ℕ) → r ≡ packVerdict a
+pub packed-decision : (a : Result Finding) (s t i image work : List ℕ) (d : Decision) (r : ℕ) → r ≡ packVerdict a
     → decision a s t i image work ≡ d → packedDecision r s t i image work ≡ packDecision d
 packed-decision a s t i image work d r packs says =
     ap (λ (n : ℕ). packedDecision n s t i image work) packs ∙ ap packDecision says

@@ -26,7 +26,9 @@ use Rattle.automaton.specs.Tables.{Counts, tableCheck}
 use Rattle.translation.specs.Translate.{writtenTranslation, stored, unless, translated}
 use Rattle.image.specs.Memory.{Small}
 use Rattle.image.specs.Reader.{countsAt, countsFit, contentsCheck, stateCheck, statePass, statesCheck}
-use Rattle.image.specs.Reader.{transitionRecordCheck, initialCheck, recordsCheck, readTables, readImage}
+use Rattle.image.specs.Reader.{restCheck, restsCheck, transitionRecordCheck, initialCheck, recordsCheck}
+use Rattle.image.specs.Reader.{readTables, readImage}
+use Rattle.automaton.specs.Automaton.{State}
 use Rattle.image.specs.Calls.{bufferCheck, written, readCounted, writes, loaded, readInto}
 use Rattle.image.proofs.Tests.{counts-small}
 use Rattle.image.proofs.Contents.{contents-fine}
@@ -252,6 +254,10 @@ state-proper s k le = search proper
 pass-proper : (s : List ℕ) (n : ℕ) → n ≤ maxTransitions → Proper (statePass s n)
 pass-proper s n le = rw (one-pass s n) (search (proper, state-proper))
 
+rest-proper : (read : List State) (s : List ℕ) (k : ℕ) → k ≤ maxTransitions → Proper (restCheck read s k)
+unfolding restCheck
+rest-proper read s k le = search proper
+
 -- 12
 transition-proper : (states : ℕ) (t : List ℕ) (k : ℕ) → k ≤ maxTransitions → Proper (transitionRecordCheck states t k)
 unfolding transitionRecordCheck
@@ -265,11 +271,11 @@ initial-proper states i (suc k) le = search proper
 
 -- 11 to 13, of counts that 10 lets pass
 records-proper : (c : Counts) (s t i : List ℕ) → Small c → Proper (readTables c s t i)
-unfolding readTables recordsCheck statesCheck
+unfolding readTables recordsCheck statesCheck restsCheck
 records-proper c s t i small =
     let states : c .states ≤ maxTransitions = omega (arith, small .states) in
     let initial : c .initial ≤ maxTransitions = omega (arith, small .initial) in
-    search (proper, pass-proper, transition-proper, initial-proper, small .transitions) depth 8
+    search (proper, pass-proper, rest-proper, transition-proper, initial-proper, small .transitions) depth 8
 
 -- 10
 contents-proper : (image : List ℕ) → Proper (contentsCheck image)

@@ -5,35 +5,39 @@ use mathlib.Core.Path.{_≡_, refl, sym, _∙_, ap, subst, subst₂}
 use mathlib.Core.List.{List}
 use native.Mathlib.Omega.{arith}
 use lib.ListN.{length}
-use Rattle.answer.specs.Result.{Result, accepted, refused, andThen, Check, require}
+use Rattle.answer.specs.Result.{Result, accepted, refused, andThen, Check, fine, require}
 use Rattle.formula.specs.Limits.{ruleBytes}
 use Rattle.formula.specs.Rule.{releaseKind}
 use Rattle.formula.proofs.Accepted.{formed-fine}
 use Rattle.normalform.specs.NormalForm.{normalForm, writtenChecked}
 use Rattle.normalform.specs.Normalize.{formRoom, formStored, normalizes}
 use Rattle.normalform.proofs.Passes.{normal-form-passes}
-use Rattle.answer.proofs.Results.{never-both, require-fine}
+use Rattle.answer.proofs.Results.{never-both, require-fine, then-accepted}
 use Rattle.automaton.specs.Automaton.{Automaton}
 use Rattle.automaton.specs.Tables.{Counts, counts, outcome, tableCheck}
 use Rattle.translation.specs.Translate.{writtenTranslation, stored, unless, translated}
 use Rattle.image.specs.Memory.{Small}
-use Rattle.image.specs.Image.{imageLength, largestImage}
+use Rattle.image.specs.Image.{imageBytes, imageLength, largestImage}
 use Rattle.image.specs.Reader.{countsFit, recordsCheck, automatonFrom, readTables}
 use Rattle.image.specs.Calls.{bufferCheck, writes, readInto, checks}
 use Rattle.answer.specs.Buffer.{buffer}
+use Rattle.image.proofs.ImageAccepted.{image-accepted}
 use Rattle.image.proofs.Before.{follows, passes}
 use Rattle.image.proofs.Tests.{counts-small}
 use Rattle.image.proofs.Contents.{checks-sized}
 use Rattle.image.proofs.Sizes.{image-size}
 use Rattle.image.proofs.Tables.{counts-back}
 use Rattle.image.proofs.Outcomes.{writes-of, reads-of}
-use Rattle.judge.specs.Judge.{Verdict, kept, broken, judged}
-use Rattle.demands.specs.Demand.{decided}
+use Rattle.lasso.specs.Lasso.{lassoCheck}
+use Rattle.judge.specs.Judge.{workBytes, Verdict, kept, broken, Finding, finding, found, judged}
+use Rattle.judge.proofs.VerdictIff.{image-in-range}
+use Rattle.judge.proofs.Pairs.{found-few, judged-few}
+use Rattle.demands.specs.Demand.{roomCheck, inputCheck, concluded, decidedBy, decided}
 use Rattle.automaton.proofs.WellFormed.{few-together}
 use Rattle.correctness.proofs.WellFormed.{written-well-formed}
 use Rattle.office.proofs.Refusals.{Refusal, Proper, normalizes-proper, translated-proper, reads-proper, writes-proper}
 use Rattle.office.proofs.Refusals.{judged-proper, decided-proper}
-use Rattle.office.specs.Packing.{packRefusal, packThree, packCounts, packLength, packVerdict}
+use Rattle.office.specs.Packing.{packRefusal, packThree, packCounts, packLength, packFinding, packVerdict}
 
 -- ---- the parts of an answer, as the header reads them
 
@@ -64,6 +68,10 @@ lengthOf answer = answer / 256 % 2 ^ 32
 -- zimboralo_kept: answer >> 8 & 1
 abbrev pub keptOf : ℕ → ℕ
 keptOf answer = answer / 256 % 2
+
+-- zimboralo_pairs: answer >> 16 & 0xffff
+abbrev pub pairsOf : ℕ → ℕ
+pairsOf answer = answer / 65536 % 65536
 
 -- ---- values that fit
 
@@ -131,6 +139,35 @@ writes-small c s t i image n e =
     ∙ ap imageLength (counts-back c s t i (answer .passed)) in
     omega (arith, size, small .states, small .transitions, small .initial)
 
+-- of an accepted decide, as many pairs as there are working bytes; of an accepted judge that is `judged-few`
+pub decided-few : (rule stem cycle s t i image work : List ℕ) (f : Finding)
+    → decided rule stem cycle s t i image work .answer ≡ accepted f → f .pairs ≤ workBytes
+unfolding decided inputCheck
+decided-few rule stem cycle s t i image work f e =
+    first (inputCheck rule stem cycle s t i image work) refl e
+  where
+    fits : inputCheck rule stem cycle s t i image work ≡ fine → fine ≡ lassoCheck stem cycle
+    fits e =
+        let (_, _, after-room) = then-accepted (roomCheck s t i image work) _ e in
+        let (_, _, lasso) = then-accepted (writtenChecked rule) _ after-room in
+        sym lasso
+
+    second : (r : Result Automaton) → writtenTranslation rule ≡ r → fine ≡ lassoCheck stem cycle
+        → concluded r stem cycle s t i image work .answer ≡ accepted f → f .pairs ≤ workBytes
+    second (refused number place) known lasso e = never-both e
+    second (accepted a) known lasso e =
+        let formed = written-well-formed rule a known in
+        let range = image-in-range (imageBytes a) a (image-accepted a formed) in
+        let same : found a stem cycle ≡ f = cc in
+        rw (← ap (λ (g : Finding). g .pairs) same) (found-few a range (formed .states) stem cycle lasso)
+
+    first : (check : Check) → inputCheck rule stem cycle s t i image work ≡ check
+        → decidedBy check (concluded (writtenTranslation rule) stem cycle s t i image work) s t i image work .answer
+        ≡ accepted f
+        → f .pairs ≤ workBytes
+    first (refused number place) known e = never-both e
+    first (accepted u) known e = second (writtenTranslation rule) refl (fits known) e
+
 -- ---- what C reads off
 
 -- of a refusal: the number, which is not 0, and the place
@@ -156,10 +193,10 @@ pub record CountsRead (packed : ℕ) (c : Counts) : Type 0 where
 abbrev pub LengthRead : (packed n : ℕ) → Type 0
 LengthRead packed n = lengthOf packed ≡ n
 
--- the verdict: 1 for kept, 0 for broken
-abbrev pub VerdictRead : (packed : ℕ) → Verdict → Type 0
-VerdictRead packed kept = keptOf packed ≡ 1
-VerdictRead packed broken = keptOf packed ≡ 0
+-- the verdict, 1 for kept and 0 for broken, and how many pairs were taken
+pub record VerdictRead (packed : ℕ) (f : Finding) : Type 0 where
+  pub verdict : keptOf packed ≡ elim (f .verdict) [ kept ↦ 1 | broken ↦ 0 ]
+  pub pairs : pairsOf packed ≡ f .pairs
 
 -- ---- the packings
 
@@ -219,11 +256,18 @@ unfolding packLength
 length-unpacks (accepted n) p fits = unpacks-accepted _ n (omega arith) (omega (arith, fits n refl))
 length-unpacks (refused number place) p fits = unpacks-refused number place (p .refusal number place refl)
 
-verdict-unpacks : (r : Result Verdict) → Proper r → Unpacks VerdictRead (packVerdict r) r
+finding-unpacks : (v : Verdict) (pairs : ℕ) → pairs ≤ workBytes
+    → Unpacks VerdictRead (packFinding v pairs) (accepted (finding v pairs))
+finding-unpacks kept pairs few =
+    unpacks-accepted _ (finding kept pairs) (omega arith) (record { verdict = omega arith; pairs = omega arith })
+finding-unpacks broken pairs few =
+    unpacks-accepted _ (finding broken pairs) (omega arith) (record { verdict = omega arith; pairs = omega arith })
+
+verdict-unpacks : (r : Result Finding) → Proper r → ((f : Finding) → r ≡ accepted f → f .pairs ≤ workBytes)
+    → Unpacks VerdictRead (packVerdict r) r
 unfolding packVerdict
-verdict-unpacks (accepted kept) p = unpacks-accepted 256 kept refl refl
-verdict-unpacks (accepted broken) p = unpacks-accepted 0 broken refl refl
-verdict-unpacks (refused number place) p = unpacks-refused number place (p .refusal number place refl)
+verdict-unpacks (accepted f) p fits = finding-unpacks (f .verdict) (f .pairs) (fits f refl)
+verdict-unpacks (refused number place) p fits = unpacks-refused number place (p .refusal number place refl)
 
 -- ---- the calls
 
@@ -257,9 +301,11 @@ pub judge-unpacks : (image stem cycle work : List ℕ)
     → Unpacks VerdictRead (packVerdict (judged image stem cycle work .answer)) (judged image stem cycle work .answer)
 judge-unpacks image stem cycle work =
     verdict-unpacks (judged image stem cycle work .answer) (judged-proper image stem cycle work)
+    (judged-few image stem cycle work)
 
 -- zimboralo_decide
 pub decide-unpacks : (rule stem cycle s t i image work : List ℕ)
     → Unpacks VerdictRead (packVerdict (decided rule stem cycle s t i image work .answer)) (decided rule stem cycle s t i image work .answer)
 decide-unpacks rule stem cycle s t i image work =
     verdict-unpacks (decided rule stem cycle s t i image work .answer) (decided-proper rule stem cycle s t i image work)
+    (decided-few rule stem cycle s t i image work)

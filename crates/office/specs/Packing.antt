@@ -1,11 +1,12 @@
 -- An answer as one number of 64 bits. The lowest byte is the refusal's number, 0 where there is none. Above it stands
--- the refusal's place, or the values: the three counts, the length of what is stored, or 1 for kept and 0 for broken.
+-- the refusal's place, or the values: the three counts, the length of what is stored, or 1 for kept and 0 for broken
+-- with the number of pairs taken.
 use Prim.Native.Nat.{ℕ, _+_, _*_, _%_, _^_}
 use mathlib.Core.List.{List}
 use Rattle.answer.specs.Result.{Result, accepted, refused}
 use Rattle.automaton.specs.Tables.{Counts, Outcome}
 use Rattle.answer.specs.Buffer.{Buffer}
-use Rattle.judge.specs.Judge.{Verdict, kept, broken, Judgement}
+use Rattle.judge.specs.Judge.{Verdict, kept, broken, Finding, Judgement}
 use Rattle.demands.specs.Demand.{Decision}
 
 -- number in bits 0 to 7, place in bits 8 to 39
@@ -28,10 +29,17 @@ unfoldable pub packLength : Result ℕ → ℕ
 packLength (accepted n) = packSize n
 packLength (refused number place) = packRefusal number place
 
--- the verdict in bit 8
-unfoldable pub packVerdict : Result Verdict → ℕ
-packVerdict (accepted kept) = 256
-packVerdict (accepted broken) = 0
+-- the number of pairs taken in bits 16 to 31
+abbrev pub packPairs : ℕ → ℕ
+packPairs n = 65536 * (n % 65536)
+
+-- and the verdict in bit 8
+abbrev pub packFinding : Verdict → (pairs : ℕ) → ℕ
+packFinding kept pairs = 256 + packPairs pairs
+packFinding broken pairs = packPairs pairs
+
+unfoldable pub packVerdict : Result Finding → ℕ
+packVerdict (accepted f) = packFinding (f .verdict) (f .pairs)
 packVerdict (refused number place) = packRefusal number place
 
 -- a packed answer with the three tables afterwards

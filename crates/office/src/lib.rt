@@ -17,8 +17,8 @@ ghost use Rattle.answer.specs.Buffer.{storedAnswer};
 ghost use Rattle.automaton.specs.Tables.{told};
 ghost use Rattle.judge.specs.Judge.{judgeAnswer, judged};
 ghost use Rattle.demands.specs.Demand.{decided};
-ghost use Rattle.office.specs.Packing.{packRefusal, packThree, packSize, packCounts, packLength, packVerdict};
-ghost use Rattle.office.specs.Packing.{packedTables, packOutcome, packedSlice, packBuffer, packJudgement};
+ghost use Rattle.office.specs.Packing.{packRefusal, packThree, packSize, packPairs, packCounts, packLength};
+ghost use Rattle.office.specs.Packing.{packVerdict, packedTables, packOutcome, packedSlice, packBuffer, packJudgement};
 ghost use Rattle.office.specs.Packing.{packedDecision, packDecision, countsOf};
 
 // A refusal's number and place.
@@ -64,13 +64,20 @@ fn pack_stored(stored: Stored) -> u64
     }
 }
 
-// The answer of judge: 1 above the lowest byte for kept, 0 for broken, or the refusal.
+// How many pairs were taken.
+fn pack_pairs(pairs: usize) -> u64
+    ensures { λ r. ⌜ r ≡ packPairs pairs ⌝ }
+{
+    65536 * ((pairs % 65536) as u64)
+}
+
+// The answer of judge: 1 above the lowest byte for kept, 0 for broken, and above that the pairs taken; or the refusal.
 fn pack_judged(judged: Judged) -> u64
     ensures { λ r. ⌜ r ≡ packVerdict (judgeAnswer judged) ⌝ }
 {
     match judged {
-        Judged::Kept => 256,
-        Judged::Broken => 0,
+        Judged::Kept(pairs) => 256 + pack_pairs(pairs),
+        Judged::Broken(pairs) => pack_pairs(pairs),
         Judged::Refused(number, place) => pack_refusal(number, place),
     }
 }

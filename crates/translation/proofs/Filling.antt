@@ -26,12 +26,14 @@ front-record bytesOf xs x table after at next front e fits put =
     front-more table after at next (bytesOf x) e fits put ∙ rw (front, records-last bytesOf xs x)
 
 -- the stores of one record, as the code makes them
-pub state-stores : (table after : List ℕ) (at count f : ℕ) (accepting : Bool) → after ≡ sets table at (twoBytes count) → f ≡ cond accepting 1 0 → set (set after (at + 2) f) (at + 3) 0 ≡ sets table at (stateBytes count accepting)
+pub state-stores : (table after : List ℕ) (at count f g : ℕ) (accepting rests : Bool)
+    → after ≡ sets table at (twoBytes count) → f ≡ cond accepting 1 0 → g ≡ cond rests 1 0
+    → set (set after (at + 2) f) (at + 3) g ≡ sets table at (stateBytes count accepting rests)
 unfolding twoBytes
-state-stores table after at count f accepting e ef =
+state-stores table after at count f g accepting rests e ef eg =
     let two : at + 2 ≡ suc (suc at) = omega arith in
     let three : at + 3 ≡ suc (suc (suc at)) = omega arith in
-    rw (e, ef, two, three)
+    rw (e, ef, eg, two, three)
 
 pub transition-stores : (table after : List ℕ) (at a b must mustNot target : ℕ) → a ≡ must → b ≡ mustNot → after ≡ sets (set (set table at a) (at + 1) b) (at + 2) (twoBytes target) → after ≡ sets table at (transitionBytes must mustNot target)
 unfolding twoBytes

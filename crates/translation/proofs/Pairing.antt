@@ -25,6 +25,7 @@ use Rattle.translation.specs.declared.Paired.the-variants.{Count, Stop}
 use Rattle.translation.specs.Memory.{rowStart, rowCount, row, levelPlaces, targetN, targetsN, codeNumbering, codeWalk, transitionN, rowN, rowsN, Within, Leads, PairRows, PairsNumbered, AddsRecords, AddedRows, AddsRows}
 use Rattle.translation.proofs.Levels.{target-state}
 use Rattle.translation.proofs.Within.{state-within, row-rises, row-inside, row-few}
+use Rattle.translation.proofs.Within.{OwnRow, own-is, own-begins, own-fits, own-leads}
 use Rattle.translation.proofs.Filling.{adds-more}
 use Rattle.translation.proofs.Meeting.{among}
 
@@ -49,15 +50,6 @@ pub record Pairing (ends transitions : List ℕ) (r : ℕ) (all : Result (List �
   pub few : m ≤ place * maxOfState
   pub written : (more : List ℕ)
       → AddsRecords before 0 (rowsN ends transitions r (take place pairs) (take k pairs ++ more)) table m
-
--- where the row of a pair begins and ends in the table
-pub record OwnRow (ends : List ℕ) (code start end : ℕ) : Type 0 where
-  pub begins : start ≡ rowStart ends (code / levelPlaces)
-  pub ending : end ≡ getD ends (code / levelPlaces) 0
-
-pub own-row : {ends : List ℕ} {code s t start end : ℕ} → s ≡ code / levelPlaces → t ≡ code / levelPlaces
-    → start ≡ rowStart ends s → end ≡ getD ends t 0 → OwnRow ends code start end
-own-row es et b e = record { begins = rw (← es) b; ending = rw (← et) e }
 
 module _ {ends transitions : List ℕ} {r : ℕ} where
   pub pairing-begins : {before pairs index : List ℕ} {n : ℕ} → PairRows ends transitions r (take n pairs)
@@ -126,30 +118,26 @@ module _ {ends transitions : List ℕ} {r : ℕ} where
           length-take-le (rowCount ends state) (drop (rowStart ends state) transitions)
           (omega (arith, length-drop (rowStart ends state) transitions, rises, ends-inside))
 
-      own-few : length own ≤ maxOfState
-      own-few = omega (arith, own-size, row-few ends codes code (inv .rows .listed) here state refl)
+      few-own : length own ≤ maxOfState
+      few-own = omega (arith, own-size, row-few ends codes code (inv .rows .listed) here state refl)
 
       -- the row as the code reads it
       module _ {start end : ℕ} (at : OwnRow ends code start end) where
         abbrev read : List ℕ
         read = take (end - start) (drop start transitions)
 
-        own-is : read ≡ own
-        own-is = rw (at .begins, at .ending)
-
         pub row-begins : start ≤ end
-        row-begins = rw (at .begins, at .ending) rises
+        row-begins = own-begins (inv .rows) here at
 
         pub row-fits : end ≤ length transitions
-        row-fits = rw (at .ending) ends-inside
+        row-fits = own-fits (inv .rows) here at
 
         pub row-leads : Leads read
-        row-leads =
-            rw own-is
-            (λ x h. omega (arith, inv .rows .closed state state-here x h, inv .rows .listed .rows .states))
+        row-leads = own-leads (inv .rows) here at
 
         pub row-room : (m + length read) * 4 ≤ length table
-        row-room = rw own-is (omega (arith, own-few, inv .few, inv .size, inv .numbered .few))
+        row-room =
+            rw (own-is (inv .rows) here at) (omega (arith, few-own, inv .few, inv .size, inv .numbered .few))
 
         module _ {level : ℕ} (el : level ≡ code % levelPlaces) (met : Paired) (pairs′ index′ table′ : List ℕ)
             (meets : (count : ℕ)
@@ -163,7 +151,7 @@ module _ {ends transitions : List ℕ} {r : ℕ} where
           met-all = meetAll codeNumbering place targets (inv .count) codes
 
           met-is : AddsRows met-all (λ _ codes. rowN ends transitions r codes code) table m met pairs′ index′ table′
-          met-is = rw (← own-is, ← el) (meets (inv .count))
+          met-is = rw (← own-is (inv .rows) here at, ← el) (meets (inv .count))
 
           fuel : maxStates - place ≡ suc (maxStates - suc place)
           fuel = omega (arith, inv .numbered .few)
@@ -244,7 +232,7 @@ module _ {ends transitions : List ℕ} {r : ℕ} where
                   reached = omega (arith, longer);
                   left = rw add-one left-now;
                   size = same ∙ inv .size;
-                  few = omega (arith, inv .few, counted .written [] .count, bytes-many, own-few);
+                  few = omega (arith, inv .few, counted .written [] .count, bytes-many, few-own);
                   written = λ more.
                       let rows = rowN ends transitions r (codes′ ++ more) in
                       rw (add-one, done-more, records-last rows (take place pairs) code)

@@ -3,7 +3,7 @@
 use mathlib.Core.Path.{_≡_, refl, sym, ap, _∙_}
 use mathlib.Core.Logic.{inl, inr}
 use mathlib.Core.List.{List, [], _∷_, map, map-map, append-nil}
-use mathlib.Core.Bool.{false, _&&_}
+use mathlib.Core.Bool.{Bool, false, _&&_}
 use Prim.Native.Nat.{ℕ, suc, _+_, _*_, _/_, _%_, _≤_, _<_}
 use native.Mathlib.Decide.{ℕ-discrete}
 use native.Mathlib.Omega.{arith}
@@ -13,8 +13,8 @@ use lib.Dec.{eqb}
 use borrow.Author.Tests.{eqb-true, eq-eqb, ne-eqb}
 use Rattle.answer.specs.Result.{accepted, refused, fine}
 use Rattle.answer.specs.Bytes.{twoBytes, filled}
-use Rattle.sets.specs.Sets.{In}
-use Rattle.sets.proofs.Members.{at-in}
+use Rattle.sets.specs.Sets.{In, any}
+use Rattle.sets.proofs.Members.{at-in, any-map}
 use Rattle.formula.specs.Limits.{maxUntils}
 use Rattle.term.specs.Term.{Term}
 use Rattle.term.specs.Size.{sizesChecked}
@@ -24,7 +24,7 @@ use Rattle.acceptance.specs.Acceptance.{untilCount}
 use Rattle.translation.specs.declared.StateNumber.{StateNumber}
 use Rattle.translation.specs.declared.Paired.{Paired}
 use Rattle.translation.specs.declared.Paired.the-variants.{Count, Stop}
-use Rattle.automaton.specs.Automaton.{Transition, State, Automaton}
+use Rattle.automaton.specs.Automaton.{Transition, State, Automaton, freeTo, atRest}
 use Rattle.automaton.specs.Limits.{maxStates}
 use Rattle.automaton.specs.Records.{records, numbered, numberedRecords, stateBytes, stateRecord, transitionRecord, stateRecords, transitionRecords, initialRecords}
 use Rattle.automaton.specs.Tables.{transitionCount, counts, outcome, Outcome}
@@ -33,16 +33,18 @@ use Rattle.translation.specs.Degeneralized.{Pair, pair, samePair, number
 use Rattle.translation.specs.Translate.{stored}
 use Rattle.generalized.specs.Memory.{kept, keptTarget}
 use Rattle.generalized.proofs.Kept.{Parts}
-use Rattle.translation.specs.Memory.{row, levelPlaces, codeOf, pairOf, targetN, targetsN, codeNumbering, codeWalk, pairBytes, transitionN, rowN, rowsN, FirstWalk, Within, PairRows, PairsNumbered, AddsRecords, AddedRows, AddsRows, WalksPairs}
+use Rattle.translation.specs.Memory.{row, levelPlaces, codeOf, pairOf, targetN, targetsN, codeNumbering, codeWalk}
+use Rattle.translation.specs.Memory.{staysN, pairBytes, transitionN, rowN, rowsN, FirstWalk, Within, PairRows}
+use Rattle.translation.specs.Memory.{PairsNumbered, AddsRecords, AddedRows, AddsRows, WalksPairs}
 use Rattle.translation.proofs.Levels.{target-state, target-level, next-level-is}
-use Rattle.generalized.proofs.Explored.{Explored, walk-explored}
+use Rattle.generalized.proofs.Explored.{find-at, Explored, walk-explored}
 use Rattle.generalized.proofs.Passed.{initial-few}
 use Rattle.acceptance.proofs.Gathering.{untils-few}
 use Rattle.term.proofs.Sizes.{bytes-fine}
 use Rattle.translation.proofs.Mapped.{mapped, find-map, explore-map}
 use Rattle.translation.proofs.FirstWalk.{count-is, rows-of, row-is, parts-of, row-leads, initial-states}
 use Rattle.translation.proofs.Pairing.{targets-within}
-use Rattle.translation.proofs.Codes.{numbers-length, starts, starts-within}
+use Rattle.translation.proofs.Codes.{numbers-length, starts, starts-within, starts-once}
 use Rattle.answer.proofs.Filling.{filled-as}
 
 -- the state and the level of a code
@@ -160,13 +162,6 @@ module _ {rule : List ℕ} {initial : ℕ} {kepts ends : List ℕ} {r : ℕ} {pa
         ∙ ap (map (λ x. pairOf (targetN r (levelN code) x))) (sym own-row)
         ∙ sym (map-map pairOf (targetN r (levelN code)) (row ends kepts (stateN code)))
 
-    state-is : (number : ℕ) (pairs : List Pair)
-        → pairBytes ends r number code ≡ stateRecord number (stateOf rule states pairs (pairOf code))
-    unfolding stateRecord stateOf pairTransitions
-    state-is number pairs =
-        rw (count-is rule (b .passed) (b .walked-first) (stateN code) lt, length-map)
-        (ap (λ (q : ℕ). stateBytes (length own) (eqb (levelN code) q)) (b .levels))
-
     keeps-within : Within n (targetsN ends kepts r code)
     keeps-within = targets-within ends kepts r n few-untils closed-are code lt
 
@@ -249,6 +244,12 @@ module _ {rule : List ℕ} {initial : ℕ} {kepts ends : List ℕ} {r : ℕ} {pa
     abbrev moved : (code : ℕ) → Term → Transition
     moved code = transitionOf rule states pairs-are (pairOf code)
 
+    number-is : (code : ℕ) (inside : stateN code < n) (u : Term) → In u (own code inside)
+        → find eqb (targetOf code inside u) codes ≡ moved code u .target
+    number-is code inside u h =
+        sym (find-map codeNumbering samePair pairOf same-codes (targetOf code inside u) codes)
+        ∙ rw (target-is code inside u h)
+
     row-bytes : (code : ℕ) → In code codes
         → rowN ends kepts r codes code ≡ records transitionRecord (made code .transitions)
     unfolding stateOf pairTransitions transitionRecord
@@ -265,10 +266,52 @@ module _ {rule : List ℕ} {initial : ℕ} {kepts ends : List ℕ} {r : ℕ} {pa
 
         each : (u : Term) → In u (own code inside) → bytes code u ≡ transitionRecord (moved code u)
         each u h =
-            let to = targetOf code inside u in
-            let number : find eqb to codes ≡ find samePair (target rule states (pairOf code) u) pairs-are =
-            sym (find-map codeNumbering samePair pairOf same-codes to codes) ∙ rw (target-is code inside u h) in
-            rw (parts code inside u h .must, parts code inside u h .mustNot, number)
+            rw (parts code inside u h .must, parts code inside u h .mustNot, number-is code inside u h)
+
+    -- a pair leads to itself where it leads to its own number
+    own-number : (i : ℕ) → i < length codes → (x : ℕ) → eqb x (getD codes i 0) ≡ eqb (find eqb x codes) i
+    own-number i lt x = pick (ℕ-discrete x (getD codes i 0))
+      where
+        pick : Dec (x ≡ getD codes i 0) → eqb x (getD codes i 0) ≡ eqb (find eqb x codes) i
+        pick (yes e) =
+            let number = ap (λ (y : ℕ). find eqb y codes) e ∙ whole .once (starts-once initial) i lt in
+            rw (eq-eqb x (getD codes i 0) e) (sym (eq-eqb (find eqb x codes) i number))
+        pick (no ne) =
+            rw (ne-eqb x (getD codes i 0) ne)
+            (sym (ne-eqb (find eqb x codes) i
+            (λ e. ne (sym (find-at eqb eqb-true 0 x codes (rw e lt)) ∙ ap (λ (k : ℕ). getD codes k 0) e))))
+
+    -- what is free and stays in the code's eyes is so in the automaton's
+    stays-is : (i : ℕ) → i < length codes → (inside : stateN (getD codes i 0) < n) (u : Term)
+        → In u (own (getD codes i 0) inside)
+        → staysN r (getD codes i 0) (kept rule states u) ≡ freeTo i (moved (getD codes i 0) u)
+    stays-is i lt inside u h =
+        let code = getD codes i 0 in
+        rw (
+          parts code inside u h .must,
+          parts code inside u h .mustNot,
+          own-number i lt (targetOf code inside u),
+          number-is code inside u h,
+        )
+
+    state-is : (i : ℕ) → i < length codes
+        → pairBytes ends kepts r i (getD codes i 0) ≡ stateRecord i (made (getD codes i 0))
+    unfolding stateRecord stateOf pairTransitions atRest
+    state-is i lt =
+        let code = getD codes i 0 in
+        let inside = codes-within code (at-in 0 codes i lt) in
+        let own-terms = own code inside in
+        let free : Term → Bool = λ u. freeTo i (moved code u) in
+        let stays = any-map (kept rule states) (staysN r code) free own-terms (stays-is i lt inside) in
+        let frees = any-map (moved code) (freeTo i) free own-terms (λ u _. refl) in
+        rw (
+          own-row code inside,
+          count-is rule (b .passed) (b .walked-first) (stateN code) inside,
+          length-map,
+          stays,
+          frees,
+        ) (ap (λ (q : ℕ). stateBytes (length own-terms) (eqb (levelN code) q) (eqb (levelN code) q && any free own-terms))
+        (b .levels))
 
     abbrev automaton : Automaton
     automaton = record { states = map (stateOf rule states pairs-are) pairs-are; initial = initialNumbers rule }
@@ -277,12 +320,12 @@ module _ {rule : List ℕ} {initial : ℕ} {kepts ends : List ℕ} {r : ℕ} {pa
     unfolding translation
     walk-accepted = rw (b .passed, b .walked-first .found, walk-is, done .are)
 
-    states-are : numberedRecords (pairBytes ends r) 0 codes ≡ stateRecords automaton
+    states-are : numberedRecords (pairBytes ends kepts r) 0 codes ≡ stateRecords automaton
     unfolding stateRecords
     states-are =
         rw (map-map (stateOf rule states pairs-are) pairOf codes)
-        (numbered-same (pairBytes ends r) stateRecord made 0 0 codes
-        (λ i l. state-is _ (codes-within _ (at-in 0 codes i l)) _ pairs-are))
+        (numbered-same (pairBytes ends kepts r) stateRecord made 0 0 codes
+        (λ i l. let e : 0 + i ≡ i = omega arith in rw e (state-is i l)))
 
     transitions-are : records (rowN ends kepts r codes) codes ≡ transitionRecords automaton
     unfolding transitionRecords
@@ -313,7 +356,8 @@ module _ {rule : List ℕ} {initial : ℕ} {kepts ends : List ℕ} {r : ℕ} {pa
 
     -- tables filled with these records have the automaton
     pub written-is : length table ≡ length t → (s i s′ t′ i′ : List ℕ)
-        → s′ ≡ filled s (numberedRecords (pairBytes ends r) 0 codes) → t′ ≡ filled table (take (written * 4) table)
+        → s′ ≡ filled s (numberedRecords (pairBytes ends kepts r) 0 codes)
+        → t′ ≡ filled table (take (written * 4) table)
         → i′ ≡ filled i (records twoBytes (numbers initial))
         → outcome (accepted (record { states = count; transitions = written; initial = initial })) s′ t′ i′
         ≡ stored (translation rule) s t i

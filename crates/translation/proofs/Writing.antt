@@ -1,20 +1,20 @@
 -- The loops that write the records of states and initial numbers: what is written so far stands in front.
 -- Assumes nothing.
-use mathlib.Core.Path.{_≡_, refl, ap, _∙_}
+use mathlib.Core.Path.{_≡_, refl, _∙_}
 use mathlib.Core.List.{List}
+use mathlib.Core.Bool.{Bool}
 use Prim.Native.Nat.{ℕ, suc, _+_, _-_, _*_, _/_, _%_, _≤_, _<_}
 use native.Mathlib.Numerals.{add-one}
 use native.Mathlib.Omega.{arith}
-use lib.ListN.{length, getD, take}
+use lib.ListN.{length, getD, take, drop}
 use lib.Seq.{sets, take-suc, take-all, length-take-le}
 use lib.Dec.{eqb}
 use Rattle.sets.specs.Sets.{In}
 use Rattle.translation.specs.Degeneralized.{numbers}
-use Rattle.automaton.specs.Limits.{maxOfState}
 use Rattle.automaton.specs.Records.{records, numbered, numberedRecords, stateBytes}
 use Rattle.answer.specs.Bytes.{twoBytes, filled}
-use Rattle.translation.specs.Memory.{rowStart, rowCount, levelPlaces, pairBytes, InRows}
-use Rattle.translation.proofs.Within.{row-rises, row-few}
+use Rattle.translation.specs.Memory.{rowCount, row, levelPlaces, restsN, pairBytes, PairRows}
+use Rattle.translation.proofs.Within.{OwnRow, own-is}
 use Rattle.translation.proofs.Filling.{front-record}
 use Rattle.answer.proofs.Filling.{filled-as}
 use Rattle.automaton.proofs.Records.{numbered-last, number-length, state-length}
@@ -47,45 +47,49 @@ initials-end before n table after i ge inv e =
 -- ---- the states
 
 -- a loop that writes the records of the pairs and stands at p
-pub record States (ends : List ℕ) (r : ℕ) (pairs before table : List ℕ) (p : ℕ) : Type 0 where
+pub record States (ends kept : List ℕ) (r : ℕ) (pairs before table : List ℕ) (p : ℕ) : Type 0 where
   pub within : p ≤ length pairs
   pub size : length table ≡ length before
-  pub front : take (p * 4) table ≡ numberedRecords (pairBytes ends r) 0 (take p pairs)
+  pub front : take (p * 4) table ≡ numberedRecords (pairBytes ends kept r) 0 (take p pairs)
 
-pub states-begin : (ends : List ℕ) (r : ℕ) (pairs before : List ℕ) → States ends r pairs before before 0
+pub states-begin : (ends kept : List ℕ) (r : ℕ) (pairs before : List ℕ) → States ends kept r pairs before before 0
 unfolding records numbered
-states-begin ends r pairs before = record { within = omega arith; size = refl; front = refl }
+states-begin ends kept r pairs before = record { within = omega arith; size = refl; front = refl }
 
-module _ (ends : List ℕ) (r : ℕ) (pairs before table : List ℕ) (p : ℕ) (inv : States ends r pairs before table p) where
-  pub states-end : (after : List ℕ) → length pairs ≤ p → after ≡ filled table (take (length pairs * 4) table) → after ≡ filled before (numberedRecords (pairBytes ends r) 0 pairs)
+module _ (ends kept : List ℕ) (r : ℕ) (pairs before table : List ℕ) (p : ℕ)
+    (inv : States ends kept r pairs before table p) where
+  pub states-end : (after : List ℕ) → length pairs ≤ p → after ≡ filled table (take (length pairs * 4) table)
+      → after ≡ filled before (numberedRecords (pairBytes ends kept r) 0 pairs)
   states-end after le e =
       let last : p ≡ length pairs = omega (arith, inv .within) in
       let all : take p pairs ≡ pairs = take-all p pairs le in
-      filled-as before table after (numberedRecords (pairBytes ends r) 0 pairs) (length pairs * 4) (rw (all, last) at (inv .front)) (inv .size) e
+      filled-as before table after (numberedRecords (pairBytes ends kept r) 0 pairs) (length pairs * 4)
+      (rw (all, last) at (inv .front)) (inv .size) e
 
   module _ (lt : p < length pairs) (room : length pairs * 4 ≤ length before) where
     pub state-room : p * 4 + 4 ≤ length table
     state-room = omega (arith, inv .size)
 
-    pub states-step : (after : List ℕ) (s t level start end : ℕ) → s ≡ getD pairs p 0 / levelPlaces → t ≡ getD pairs p 0 / levelPlaces → level ≡ getD pairs p 0 % levelPlaces → start ≡ rowStart ends s → end ≡ getD ends t 0
-        → length after ≡ length table → after ≡ sets table (p * 4) (stateBytes (end - start) (eqb level r)) → States ends r pairs before after (p + 1)
-    states-step after s t level start end es et el estart eend same e =
-        let is : stateBytes (end - start) (eqb level r) ≡ pairBytes ends r p (getD pairs p 0) = rw (estart, eend, el, es, et) in
+    pub states-step : (after : List ℕ) → length after ≡ length table
+        → after ≡ sets table (p * 4) (pairBytes ends kept r p (getD pairs p 0))
+        → States ends kept r pairs before after (p + 1)
+    states-step after same e =
         let number : 0 + length (take p pairs) ≡ p = omega (arith, length-take-le p pairs (inv .within)) in
+        let code = getD pairs p 0 in
+        let size =
+        state-length (rowCount ends (code / levelPlaces)) (eqb (code % levelPlaces) r)
+        (restsN r code (row ends kept (code / levelPlaces))) in
         record {
           within = omega arith;
           size = same ∙ inv .size;
           front = rw (add-one p, take-suc pairs p 0 lt, numbered-last 0 (take p pairs) (getD pairs p 0), number)
-              (front-record (λ x. pairBytes ends r (x .0) (x .1)) (numbered 0 (take p pairs)) (p, getD pairs p 0) table after (p * 4) (suc p * 4) (inv .front) (rw (state-length (rowCount ends (getD pairs p 0 / levelPlaces)) (eqb (getD pairs p 0 % levelPlaces) r)) (omega arith)) (omega (arith, state-room)) (e ∙ ap (sets table (p * 4)) is));
+              (front-record (λ x. pairBytes ends kept r (x .0) (x .1)) (numbered 0 (take p pairs)) (p, getD pairs p 0)
+              table after (p * 4) (suc p * 4) (inv .front) (omega (arith, size)) (omega (arith, state-room)) e);
         }
 
--- a row as the code reads it: by its start and its end
-module _ (ends codes : List ℕ) (code : ℕ) (listed : InRows ends codes) (among : In code codes) {s t start end : ℕ} (es : s ≡ code / levelPlaces) (et : t ≡ code / levelPlaces) (estart : start ≡ rowStart ends s) (eend : end ≡ getD ends t 0) where
-  same-row : s ≡ t
-  same-row = omega arith
-
-  pub count-rises : start ≤ end
-  count-rises = rw (estart, eend, same-row) (row-rises ends codes code listed among t et)
-
-  pub count-few : end - start ≤ maxOfState
-  count-few = rw (estart, eend, same-row) (row-few ends codes code listed among t et)
+-- the record of one pair, by its row as the code reads it
+pub pair-record : {ends kept : List ℕ} {r : ℕ} {codes : List ℕ} {code : ℕ} → PairRows ends kept r codes → In code codes
+    → {start end : ℕ} → OwnRow ends code start end → (number : ℕ) {level : ℕ} → level ≡ code % levelPlaces
+    → {rests : Bool} → rests ≡ restsN r code (take (end - start) (drop start kept))
+    → stateBytes (end - start) (eqb level r) rests ≡ pairBytes ends kept r number code
+pair-record rows among at number el er = rw (er, own-is rows among at, el, at .begins, at .ending)

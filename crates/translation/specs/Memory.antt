@@ -3,11 +3,11 @@
 use Prim.Native.Nat.{ℕ, zero, suc, _+_, _-_, _*_, _/_, _%_, _<_, _≤_}
 use mathlib.Core.Path.{_≡_}
 use mathlib.Core.List.{List, _++_, map}
-use mathlib.Core.Bool.{true, false, cond}
+use mathlib.Core.Bool.{Bool, true, false, cond, _&&_}
 use lib.ListN.{length, getD, take, drop}
 use lib.Dec.{eqb, ltb}
 use Rattle.answer.specs.Result.{Result, accepted, refused, fine}
-use Rattle.sets.specs.Sets.{In}
+use Rattle.sets.specs.Sets.{In, any}
 use Rattle.sets.specs.Bits.{has}
 use Rattle.formula.specs.Limits.{maxUntils}
 use Rattle.formula.specs.Formula.{formula}
@@ -93,9 +93,20 @@ codeNumbering = record { same = eqb; limit = maxStates; full = 24; each = λ _ _
 abbrev pub numberN : (index : List ℕ) (code : ℕ) → ℕ
 numberN index code = getD index code 0 - 1
 
+-- the transition x is free and leads from the pair that has a code back to it
+abbrev pub staysN : (r code x : ℕ) → Bool
+staysN r code x =
+    eqb (keptMust x) 0 && (eqb (keptMustNot x) 0 && eqb (targetN r (code % levelPlaces) x) code)
+
+-- the pair that has a code is at rest, where these are its transitions
+abbrev pub restsN : (r code : ℕ) (row : List ℕ) → Bool
+restsN r code row = eqb (code % levelPlaces) r && any (staysN r code) row
+
 -- the record of the pair that has a number, and of its transition x from a level when the pairs codes are numbered
-abbrev pub pairBytes : (ends : List ℕ) (r number code : ℕ) → List ℕ
-pairBytes ends r number code = stateBytes (rowCount ends (code / levelPlaces)) (eqb (code % levelPlaces) r)
+abbrev pub pairBytes : (ends transitions : List ℕ) (r number code : ℕ) → List ℕ
+pairBytes ends transitions r number code =
+    stateBytes (rowCount ends (code / levelPlaces)) (eqb (code % levelPlaces) r)
+    (restsN r code (row ends transitions (code / levelPlaces)))
 
 abbrev pub transitionN : (codes : List ℕ) (r level x : ℕ) → List ℕ
 transitionN codes r level x = transitionBytes (keptMust x) (keptMustNot x) (find eqb (targetN r level x) codes)

@@ -33,7 +33,7 @@ ghost use Rattle.automaton.specs.Records.{records, numberedRecords, stateBytes,
 ghost use Rattle.automaton.specs.Tables.{told, outcome, TablesRoom};
 ghost use Rattle.translation.specs.Degeneralized.{numbers};
 ghost use Rattle.translation.specs.Memory.{FirstWalk, rowStart, levelPlaces, codeOf, codePlaces, climbN};
-ghost use Rattle.translation.specs.Memory.{nextLevelN, targetN, numberN, pairBytes, InRows, PairRows};
+ghost use Rattle.translation.specs.Memory.{nextLevelN, targetN, numberN, staysN, restsN, pairBytes, PairRows};
 ghost use Rattle.translation.specs.Memory.{PairsNumbered, Leads, MeetsPair, MeetsRow, WalksPairs};
 ghost use Rattle.translation.specs.Memory.{Leaves, Builds};
 ghost use Rattle.translation.specs.Translate.{translated};
@@ -149,6 +149,38 @@ fn target(transition: u32, r: usize, level: usize) -> usize
         generalized::target_of(transition),
         next_level(generalized::fulfilled_by(transition), r, level),
     )
+}
+
+// Whether a transition is free and leads from the pair that has a code back to it.
+fn stays(transition: u32, r: usize, code: usize) -> bool
+    requires { ⌜ (keptTarget transition < maxGeneralizedStates) × (r ≤ maxUntils) ⌝ }
+    ensures { λ b. ⌜ b ≡ staysN r code transition ⌝ }
+{
+    if generalized::must_of(transition) != 0 {
+        return false;
+    }
+    if generalized::must_not_of(transition) != 0 {
+        return false;
+    }
+    target(transition, r, level_of(code)) == code
+}
+
+// Whether the pair that has a code is at rest, where the row has its transitions (R-5).
+fn rests(row: &[u32], r: usize, code: usize) -> bool
+    requires { ⌜ Leads (now row) × (r ≤ maxUntils) ⌝ }
+    ensures { λ b. ⌜ b ≡ restsN r code (now (row .entry)) ⌝ }
+{
+    if level_of(code) != r {
+        return false;
+    }
+    let mut i = 0;
+    while i < row.len() {
+        if stays(row[i], r, code) {
+            return true;
+        }
+        i += 1;
+    }
+    false
 }
 
 // A pair that is not met yet takes number n.
@@ -284,14 +316,14 @@ fn flag(accepting: bool) -> u8
 }
 
 // The record of a state: how many transitions it has, and whether it accepts.
-fn put_state(table: &mut [u8], state: StateNumber, count: usize, accepting: bool)
+fn put_state(table: &mut [u8], state: StateNumber, count: usize, accepting: bool, rests: bool)
     requires { ⌜ (state .0 * 4 + 4 ≤ length (now table)) × (count < 65536) ⌝ }
-    ensures { λ _. ⌜ now (table .exit) ≡ sets (now (table .entry)) (state .0 * 4) (stateBytes count accepting) ⌝ }
+    ensures { λ _. ⌜ now (table .exit) ≡ sets (now (table .entry)) (state .0 * 4) (stateBytes count accepting rests) ⌝ }
 {
     let at = state.0 * 4;
     put_number(table, at, count);
     table[at + 2] = flag(accepting);
-    table[at + 3] = 0;
+    table[at + 3] = flag(rests);
 }
 
 // The record of transition number k, a transition of the first walk with its target among the pairs.
@@ -315,19 +347,37 @@ fn put_initial(table: &mut [u8], i: usize, state: StateNumber)
     put_number(table, i * 2, state.0);
 }
 
-// The records of all pairs, as states of the automaton.
-fn write_states(table: &mut [u8], ends: &[usize], r: usize, pairs: &[usize])
-    requires { ⌜ InRows (now ends) (now pairs) × (length (now pairs) * 4 ≤ length (now table)) ⌝ }
+// The record of the pair that has a number and a code, as a state of the automaton.
+fn write_state(
+    table: &mut [u8],
+    ends: &[usize],
+    kept: &[u32],
+    r: usize,
+    pair: StateNumber,
+    code: usize,
+)
+    requires { ⌜ PairRows (now ends) (now kept) r (code ∷ []) × (pair .0 * 4 + 4 ≤ length (now table)) ⌝ }
     ensures { λ _. ⌜ now (table .exit)
-        ≡ filled (now (table .entry)) (numberedRecords (pairBytes (now (ends .entry)) r) 0 (now (pairs .entry))) ⌝ }
+        ≡ sets (now (table .entry)) (pair .0 * 4)
+        (pairBytes (now (ends .entry)) (now (kept .entry)) r (pair .0) code) ⌝ }
+{
+    let start = row_start(ends, state_of(code));
+    let end = row_end(ends, state_of(code));
+    let at_rest = rests(&kept[start..end], r, code);
+    put_state(table, pair, end - start, level_of(code) == r, at_rest);
+}
+
+// The records of all pairs.
+fn write_states(table: &mut [u8], ends: &[usize], kept: &[u32], r: usize, pairs: &[usize])
+    requires { ⌜ PairRows (now ends) (now kept) r (now pairs) × (length (now pairs) * 4 ≤ length (now table)) ⌝ }
+    ensures { λ _. ⌜ now (table .exit)
+        ≡ filled (now (table .entry))
+        (numberedRecords (pairBytes (now (ends .entry)) (now (kept .entry)) r) 0 (now (pairs .entry))) ⌝ }
 {
     let mut pair = StateNumber(0);
     while pair.0 < pairs.len() {
         let number = pair.0;
-        let code = pairs[number];
-        let start = row_start(ends, state_of(code));
-        let end = row_end(ends, state_of(code));
-        put_state(table, pair, end - start, level_of(code) == r);
+        write_state(table, ends, kept, r, pair, pairs[number]);
         pair = StateNumber(pair.0 + 1);
     }
     zero_behind(table, pairs.len() * 4);
@@ -390,7 +440,7 @@ fn degeneralize(
     match walked {
         Paired::Stop(pair) => refuse(TOO_MANY_PAIRS, pair.0, states, transitions, initial),
         Paired::Count(count, written) => {
-            write_states(states, ends, r, &pairs[..count]);
+            write_states(states, ends, kept, r, &pairs[..count]);
             zero_behind(transitions, written * 4);
             write_initial(initial, first);
             let counts = Counts {

@@ -26,18 +26,18 @@ returns-2 : tie.Need-returns-2 Inv-loop μ-loop
 returns-2 c =
     let at = c .before .before .before .before in
     rw (← (at .before .before .owes .ensures), at .before .if1 .left)
-    (seek-finds _ _ (at .loop .i) (at .loop .inv) (omega arith) (c .before .shows .ensures) (c .if2 .taken))
+    (seek-finds 0 _ _ (at .loop .i) (at .loop .inv) (omega arith) (c .before .shows .ensures) (c .if2 .taken))
 
 loop-again : tie.Need-loop-again Inv-loop μ-loop
 loop-again c =
     let at = c .before .before .before .before in
-    seek-steps _ _ (at .loop .i) (at .loop .inv) (omega arith) (c .before .shows .ensures) (c .if2 .left)
+    seek-steps 0 _ _ (at .loop .i) (at .loop .inv) (omega arith) (c .before .shows .ensures) (c .if2 .left)
 
 returns-3 : tie.Need-returns-3 Inv-loop μ-loop
 returns-3 c =
     let at = c .before in
     rw (← (at .before .before .owes .ensures), at .before .if1 .left)
-    (seek-ends _ _ (at .loop .i) (at .loop .inv) (c .loop-test .left))
+    (seek-ends 0 _ _ (at .loop .i) (at .loop .inv) (c .loop-test .left))
 
 pub fulfils-spec : {M : Type 1} → statement M
 fulfils-spec =

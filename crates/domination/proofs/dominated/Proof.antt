@@ -36,10 +36,10 @@ module _ (ts bytes : List ℕ) (t byte : ℕ) where
         e ∙ rw (at, own)
 
     finds : b ≡ true → ForUntils (λ untils. true ≡ any (test untils) ts)
-    finds f untils told own = seek-finds _ _ i (inv untils told own) lt (tested untils told own) f
+    finds f untils told own = seek-finds 0 _ _ i (inv untils told own) lt (tested untils told own) f
 
     steps : b ≡ false → Searching (i + 1)
-    steps f untils told own = seek-steps _ _ i (inv untils told own) lt (tested untils told own) f
+    steps f untils told own = seek-steps 0 _ _ i (inv untils told own) lt (tested untils told own) f
 
 abbrev Inv-loop : tie.InvT-loop
 Inv-loop ts bytes t byte i₀ i = (i ≤ length ts) × Searching ts bytes t byte i
@@ -62,7 +62,7 @@ loop-again c =
 
 returns-2 : tie.Need-returns-2 Inv-loop μ-loop
 returns-2 c untils told own =
-    seek-ends _ _ (c .before .loop .i) (c .before .loop .inv .1 untils told own) (c .loop-test .left)
+    seek-ends 0 _ _ (c .before .loop .i) (c .before .loop .inv .1 untils told own) (c .loop-test .left)
 
 pub dominated-spec : {M : Type 1} → statement M
 dominated-spec =

@@ -1,7 +1,7 @@
 -- `image::entries_have` meets its contract: each way through the code settles the three tests in a row.
 -- Assumes nothing.
 use borrow.Author.Needs.{needs}
-use Rattle.image.proofs.Tests.{first-differs, second-differs, third-agrees}
+use Rattle.answer.proofs.InARow.{first-differs, second-differs, third-agrees}
 use Rattle.image.proofs.entries_have.Statement.{statement}
 use Rattle.image.proofs.entries_have.Tie as tie
 

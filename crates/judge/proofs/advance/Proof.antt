@@ -1,4 +1,4 @@
--- `judge::advance` meets its contract: what no state has no run has, since every run stands in a state.
+-- `judge::advance` meets its contract: where no run stands in a state none is left, since each stands in one.
 -- Assumes nothing.
 use borrow.Author.Needs.{needs}
 use Rattle.image.specs.Lookup.{imageAutomaton}
@@ -13,7 +13,7 @@ returns c =
     let image = s .args .image .now in
     advanced (imageAutomaton image) (s .args .letter)
     (λ p q h. rw (s .pre .1) (step-target image (s .pre .0) p (s .args .letter) q h)) (c .before .before .step .ensures)
-    (c .some-started .ensures)
+    (c .some-run .ensures)
 
 pub advance-spec : {M : Type 1} → statement M
 advance-spec = tie.close (tie.spec (λ c κs. search needs) (λ c κs. search needs) returns)

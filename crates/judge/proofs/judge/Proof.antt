@@ -30,7 +30,7 @@ accepts c = sym (ap told (c .counts .given .1)) ∙ c .before .before .check .en
 judge-lasso-requires : tie.Need-judge-lasso-requires
 judge-lasso-requires c κs =
     let checked = accepts (c .before .before) in
-    (known _ checked, ap (λ (c : Counts). c .states) (checks-of _ _ checked .same))
+    (known _ checked, ap (λ (c : Counts). c .states) (checks-of _ _ checked .same), omega arith)
 
 returns-3 : tie.Need-returns-3
 returns-3 c =

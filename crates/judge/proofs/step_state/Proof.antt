@@ -7,7 +7,8 @@ use mathlib.Core.Path.{_≡_, refl}
 use lib.ListN.{length}
 use Rattle.image.specs.Lookup.{recordsAt}
 use Rattle.judge.proofs.Gathers.{adds-none, adds-row}
-use Rattle.judge.proofs.Turns.{records-next, records-fit}
+use Rattle.image.proofs.Lookup.{records-next}
+use Rattle.judge.proofs.Turns.{records-fit}
 use Rattle.judge.proofs.step_state.Statement.{statement}
 use Rattle.judge.proofs.step_state.Tie as tie
 

@@ -4,7 +4,8 @@ use borrow.Author.Needs.{needs}
 use native.Mathlib.Omega.{arith}
 use Prim.Native.Nat.{_-_}
 use Rattle.judge.proofs.Gathers.{gather-begins, gather-steps, gather-ends}
-use Rattle.judge.proofs.Turns.{Stepping, records-begin}
+use Rattle.image.proofs.Lookup.{records-begin}
+use Rattle.judge.proofs.Turns.{Stepping}
 use Rattle.judge.proofs.step_states.Statement.{statement}
 use Rattle.judge.proofs.step_states.Tie as tie
 

@@ -74,7 +74,7 @@ write-states-requires c κs =
     let walked = c .before .before .before in
     let pairs = first (explored walked) in
     let few = codes-few (begun pairs) (done walked) in
-    (all-rows (begun pairs) (done walked) .listed, omega (arith, few, start pairs .pre .2 .states))
+    (all-rows (begun pairs) (done walked), omega (arith, few, start pairs .pre .2 .states))
 
 mul-zero-behind : tie.Need-mul-zero-behind
 mul-zero-behind c =

@@ -8,9 +8,9 @@ use lib.ListN.{length, getD, take}
 use Rattle.automaton.specs.Limits.{maxStates}
 use Rattle.generalized.specs.Explore.{walked}
 use Rattle.translation.specs.Memory.{levelPlaces, codeWalk}
-use Rattle.translation.proofs.Within.{state-inside}
+use Rattle.translation.proofs.Within.{state-inside, OwnRow, own-row}
 use Rattle.translation.proofs.Meeting.{among}
-use Rattle.translation.proofs.Pairing.{Pairing, OwnRow, own-row, row-begins, row-fits, row-leads, row-room}
+use Rattle.translation.proofs.Pairing.{Pairing, row-begins, row-fits, row-leads, row-room}
 use Rattle.translation.proofs.Pairing.{pairing-begins, pairing-ends, pairing-stops, pairing-steps}
 use Rattle.translation.proofs.explore_pairs.Statement.{statement}
 use Rattle.translation.proofs.explore_pairs.Tie as tie

@@ -6,7 +6,8 @@ use mathlib.Core.Logic.{_⊎_, inl, inr, _↔_}
 use mathlib.Core.List.{List, [], _∷_, _++_}
 use mathlib.Core.Bool.{Bool, true, false, false≢true, and-eq-true-iff}
 use native.Mathlib.Omega.{arith}
-use native.Mathlib.Nat.{eq-of-mul-eq-mul-right, mul-add-mod-self-right, mod-eq-of-lt, mul-le-mul-right, suc-mul, mul-comm}
+use native.Mathlib.Nat.{eq-of-mul-eq-mul-right, mul-add-mod-self-right, mod-eq-of-lt, mul-le-mul-right}
+use native.Mathlib.Nat.{suc-mul, mul-comm}
 use native.Mathlib.Decide.{decLt}
 use lib.ListN.{getD, length, length-append, List·getD-append}
 use lib.Seq.{getD-append-add}
@@ -15,7 +16,7 @@ use borrow.Author.Tests.{eqb-true, eq-eqb}
 use Rattle.sets.specs.Sets.{In}
 use Rattle.sets.proofs.Members.{All, at-in, in-at, in-append, append-in, any-iff}
 use Rattle.lasso.proofs.Positions.{pigeon}
-use Rattle.judge.specs.Search.{Point, point, samePoint, member, visit, visitAll}
+use Rattle.rest.specs.Search.{Point, point, samePoint, member, visit, visitAll}
 
 -- ---- members
 
@@ -30,14 +31,18 @@ same-iff x y = (there, back)
         λ i. record { position = u i; state = v i }
 
     back : x ≡ y → samePoint x y ≡ true
-    back e = and-eq-true-iff (eqb (x .position) (y .position)) _ .1
-        (eq-eqb (x .position) (y .position) (ap (λ (z : Point). z .position) e), eq-eqb (x .state) (y .state) (ap (λ (z : Point). z .state) e))
+    back e = and-eq-true-iff (eqb (x .position) (y .position)) _ .1 (
+      eq-eqb (x .position) (y .position) (ap (λ (z : Point). z .position) e),
+      eq-eqb (x .state) (y .state) (ap (λ (z : Point). z .state) e),
+    )
 
 pub member-iff : (x : Point) (ys : List Point) → member x ys ≡ true ↔ In x ys
 member-iff x ys = (there, back)
   where
     there : member x ys ≡ true → In x ys
-    there e = let (y, m, q) = any-iff (samePoint x) ys .0 e in subst (λ (z : Point). In z ys) (sym (same-iff x y .0 q)) m
+    there e =
+        let (y, m, q) = any-iff (samePoint x) ys .0 e in
+        subst (λ (z : Point). In z ys) (sym (same-iff x y .0 q)) m
 
     back : In x ys → member x ys ≡ true
     back m = any-iff (samePoint x) ys .1 (x, m, same-iff x x .1 refl)
@@ -55,13 +60,17 @@ pub record Unique (xs : List Point) : Type 0 where
 unique-snoc : (x : Point) (xs : List Point) → Unique xs → (In x xs → ⊥) → Unique (xs ++ (x ∷ []))
 unique-snoc x xs u new = record { apart = λ i j l m e. go i j l m e (decLt j (length xs)) }
   where
-    go : (i j : ℕ) → i < j → j < length (xs ++ (x ∷ [])) → at (xs ++ (x ∷ [])) i ≡ at (xs ++ (x ∷ [])) j → Dec (j < length xs) → ⊥
-    go i j l m e (yes k) = u .apart i j l k (sym (List·getD-append xs (x ∷ []) (point 0 0) i (omega arith)) ∙ e ∙ List·getD-append xs (x ∷ []) (point 0 0) j k)
+    old : (i : ℕ) → i < length xs → at (xs ++ (x ∷ [])) i ≡ at xs i
+    old i l = List·getD-append xs (x ∷ []) (point 0 0) i l
+
+    go : (i j : ℕ) → i < j → j < length (xs ++ (x ∷ [])) → at (xs ++ (x ∷ [])) i ≡ at (xs ++ (x ∷ [])) j
+        → Dec (j < length xs) → ⊥
+    go i j l m e (yes k) = u .apart i j l k (sym (old i (omega arith)) ∙ e ∙ old j k)
     go i j l m e (no k) =
         let z : j ≡ length xs + 0 = omega (arith, length-append xs (x ∷ [])) in
         let last : at (xs ++ (x ∷ [])) j ≡ x = ap (at (xs ++ (x ∷ []))) z ∙ getD-append-add xs (x ∷ []) 0 (point 0 0) in
         let lt : i < length xs = omega arith in
-        new (subst (λ (y : Point). In y xs) (sym (List·getD-append xs (x ∷ []) (point 0 0) i lt) ∙ e ∙ last) (at-in (point 0 0) xs i lt))
+        new (subst (λ (y : Point). In y xs) (sym (old i lt) ∙ e ∙ last) (at-in (point 0 0) xs i lt))
 
 -- ---- points are met
 
@@ -86,7 +95,10 @@ met-one x met = go (member x met) refl
     go true q = record {
       longer = omega arith;
       there = λ i l. refl;
-      has = λ y h. elim h [ inl e ↦ subst (λ (z : Point). In z met) (sym e) (member-iff x met .0 q) | inr n ↦ absurd n ];
+      has = λ y h. elim h [
+        | inl e ↦ subst (λ (z : Point). In z met) (sym e) (member-iff x met .0 q)
+        | inr n ↦ absurd n
+      ];
       unique = λ u. u;
       from = λ y h. inl h;
     }
@@ -118,7 +130,13 @@ met-on x {xs} {met} {more} {most} g h = record {
 
 pub met-all : (xs met : List Point) → Met xs met (visitAll xs met)
 unfolding visitAll
-met-all [] met = record { longer = omega arith; there = λ i l. refl; has = λ y h. absurd h; unique = λ u. u; from = λ y h. inl h }
+met-all [] met = record {
+  longer = omega arith;
+  there = λ i l. refl;
+  has = λ y h. absurd h;
+  unique = λ u. u;
+  from = λ y h. inl h;
+}
 met-all (x ∷ xs) met = met-on x (met-one x met) (met-all xs (visit x met))
 
 -- ---- at most as many as there are
@@ -138,11 +156,16 @@ module _ (N L : ℕ) where
       let h : suc (x .position) * N ≤ L * N = mul-le-mul-right N (w .position) in
       omega (arith, suc-mul (x .position) N, mul-comm N L, w .state)
 
+  code-state : (x : Point) → Within N L x → code x % N ≡ x .state
+  unfolding code
+  code-state x w = mul-add-mod-self-right (x .position) N (x .state) ∙ mod-eq-of-lt (w .state)
+
   code-same : (x y : Point) → Within N L x → Within N L y → code x ≡ code y → x ≡ y
   unfolding code
   code-same x y v w e =
-      let s : x .state ≡ y .state = sym (mod-eq-of-lt (v .state)) ∙ sym (mul-add-mod-self-right (x .position) N (x .state)) ∙ ap (λ (k : ℕ). k % N) e ∙ mul-add-mod-self-right (y .position) N (y .state) ∙ mod-eq-of-lt (w .state) in
-      let p : x .position ≡ y .position = eq-of-mul-eq-mul-right N (omega (arith, v .state)) (x .position) (y .position) (omega arith) in
+      let s : x .state ≡ y .state = sym (code-state x v) ∙ ap (λ (k : ℕ). k % N) e ∙ code-state y w in
+      let p : x .position ≡ y .position =
+      eq-of-mul-eq-mul-right N (omega (arith, v .state)) (x .position) (y .position) (omega arith) in
       λ i. record { position = p i; state = s i }
 
   pub few-points : (xs : List Point) → Unique xs → All (Within N L) xs → length xs ≤ N * L
@@ -152,8 +175,12 @@ module _ (N L : ℕ) where
       inside i l = all (at xs i) (at-in (point 0 0) xs i l)
 
       clash : N * L < length xs → (i j : ℕ) × (i < j) × (j ≤ N * L) × (code (at xs i) ≡ code (at xs j)) → ⊥
-      clash l (i, j, lt, le, e) = u .apart i j lt (omega arith) (code-same (at xs i) (at xs j) (inside i (omega arith)) (inside j (omega arith)) e)
+      clash l (i, j, lt, le, e) =
+          let same = code-same (at xs i) (at xs j) (inside i (omega arith)) (inside j (omega arith)) e in
+          u .apart i j lt (omega arith) same
 
       go : Dec (N * L < length xs) → length xs ≤ N * L
-      go (yes l) = absurd (clash l (pigeon (N * L) (λ i. code (at xs i)) (λ i le. code-small (at xs i) (inside i (omega arith)))))
+      go (yes l) =
+          let same = pigeon (N * L) (λ i. code (at xs i)) (λ i le. code-small (at xs i) (inside i (omega arith))) in
+          absurd (clash l same)
       go (no l) = omega arith

@@ -16,8 +16,8 @@ use Rattle.sets.specs.Sets.{In}
 use Rattle.lasso.proofs.Letters.{letter-round}
 use Rattle.sets.proofs.Members.{All}
 use Rattle.automaton.proofs.InRange.{InRange}
-use Rattle.judge.specs.Search.{Point, point, readTargets, after, onward}
-use Rattle.judge.proofs.Queue.{Within}
+use Rattle.rest.specs.Search.{Point, point, readTargets, after, onward}
+use Rattle.rest.proofs.Queue.{Within}
 
 module _ (stem cycle : List ℕ) where
   abbrev s : ℕ
@@ -94,7 +94,12 @@ module _ (stem cycle : List ℕ) where
 
 -- ---- what follows from a point
 
-targets-in : (x next : ℕ) (ts : List Transition) (z : Point) → In z (readTargets x next ts) → (z .position ≡ next) × ((t : Transition) × In t ts × (reads t x ≡ true) × (z .state ≡ t .target))
+-- the points of a list, and before them x if the test holds
+abbrev pub addIf : Bool → Point → List Point → List Point
+addIf b x xs = elim b [ true ↦ x ∷ xs | false ↦ xs ]
+
+pub targets-in : (x next : ℕ) (ts : List Transition) (z : Point) → In z (readTargets x next ts)
+    → (z .position ≡ next) × ((t : Transition) × In t ts × (reads t x ≡ true) × (z .state ≡ t .target))
 unfolding readTargets
 targets-in x next [] z h = absurd h
 targets-in x next (t ∷ ts) z h = go (reads t x) refl h (targets-in x next ts z)
@@ -105,34 +110,45 @@ targets-in x next (t ∷ ts) z h = go (reads t x) refl h (targets-in x next ts z
     on : Led ts → Led (t ∷ ts)
     on (p, (u, m, r, e)) = (p, (u, inr m, r, e))
 
-    go : (b : Bool) → reads t x ≡ b → In z (elim b [ true ↦ point next (t .target) ∷ readTargets x next ts | false ↦ readTargets x next ts ]) → (In z (readTargets x next ts) → Led ts) → Led (t ∷ ts)
+    go : (b : Bool) → reads t x ≡ b → In z (addIf b (point next (t .target)) (readTargets x next ts))
+        → (In z (readTargets x next ts) → Led ts) → Led (t ∷ ts)
     go true q (inl e) ih = (ap (λ (y : Point). y .position) e, (t, inl refl, q, ap (λ (y : Point). y .state) e))
     go true q (inr h) ih = on (ih h)
     go false q h ih = on (ih h)
 
-in-targets : (x next : ℕ) (ts : List Transition) (t : Transition) → In t ts → reads t x ≡ true → In (point next (t .target)) (readTargets x next ts)
+in-targets : (x next : ℕ) (ts : List Transition) (t : Transition) → In t ts → reads t x ≡ true
+    → In (point next (t .target)) (readTargets x next ts)
 unfolding readTargets
 in-targets x next [] t m r = absurd m
-in-targets x next (u ∷ ts) t (inl e) r = subst (λ (b : Bool). In (point next (t .target)) (elim b [ true ↦ point next (u .target) ∷ readTargets x next ts | false ↦ readTargets x next ts ])) (sym (subst (λ (v : Transition). reads v x ≡ true) e r)) (inl (ap (λ (v : Transition). point next (v .target)) e))
+in-targets x next (u ∷ ts) t (inl e) r =
+    let read : reads u x ≡ true = subst (λ (v : Transition). reads v x ≡ true) e r in
+    subst (λ (b : Bool). In (point next (t .target)) (addIf b (point next (u .target)) (readTargets x next ts)))
+    (sym read) (inl (ap (λ (v : Transition). point next (v .target)) e))
 in-targets x next (u ∷ ts) t (inr m) r = go (reads u x) (in-targets x next ts t m r)
   where
-    go : (b : Bool) → In (point next (t .target)) (readTargets x next ts) → In (point next (t .target)) (elim b [ true ↦ point next (u .target) ∷ readTargets x next ts | false ↦ readTargets x next ts ])
+    go : (b : Bool) → In (point next (t .target)) (readTargets x next ts)
+        → In (point next (t .target)) (addIf b (point next (u .target)) (readTargets x next ts))
     go true h = inr h
     go false h = h
 
 module _ (a : Automaton) (stem cycle : List ℕ) where
-  pub onward-step : (x z : Point) → In z (onward a stem cycle x) → (z .position ≡ after stem cycle (x .position)) × Step a (x .state) (letter stem cycle (x .position)) (z .state)
+  pub onward-step : (x z : Point) → In z (onward a stem cycle x)
+      → (z .position ≡ after stem cycle (x .position)) × Step a (x .state) (letter stem cycle (x .position)) (z .state)
   unfolding onward
-  onward-step x z h = targets-in (letter stem cycle (x .position)) (after stem cycle (x .position)) (getD (a .states) (x .state) noState .transitions) z h
+  onward-step x z h =
+      targets-in (letter stem cycle (x .position)) (after stem cycle (x .position))
+      (getD (a .states) (x .state) noState .transitions) z h
 
-  pub step-onward : (p q r : ℕ) → Step a q (letter stem cycle p) r → In (point (after stem cycle p) r) (onward a stem cycle (point p q))
+  pub step-onward : (p q r : ℕ) → Step a q (letter stem cycle p) r
+      → In (point (after stem cycle p) r) (onward a stem cycle (point p q))
   unfolding onward
   step-onward p q r (t, m, reads-it, e) =
       subst (λ (k : ℕ). In (point (after stem cycle p) k) (onward a stem cycle (point p q))) (sym e)
       (in-targets (letter stem cycle p) (after stem cycle p) (getD (a .states) q noState .transitions) t m reads-it)
 
 -- what follows from a point is within bounds
-pub onward-within : (a : Automaton) (stem cycle : List ℕ) → InRange a → 0 < length cycle → (x : Point) → All (Within (length (a .states)) (length stem + length cycle)) (onward a stem cycle x)
+pub onward-within : (a : Automaton) (stem cycle : List ℕ) → InRange a → 0 < length cycle → (x : Point)
+    → All (Within (length (a .states)) (length stem + length cycle)) (onward a stem cycle x)
 onward-within a stem cycle range pos x z h =
     let (p, st) = onward-step a stem cycle x z h in
     record { position = omega (arith, after-small stem cycle pos (x .position)); state = range .targets _ _ _ st }

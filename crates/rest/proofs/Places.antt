@@ -1,0 +1,77 @@
+-- Where things are: the letter at a position and the position after it, and where the records of each state begin.
+-- Assumes nothing.
+use Prim.Native.Nat.{ℕ, suc, _+_, _-_, _*_, _<_, _≤_}
+use mathlib.Core.Path.{_≡_, sym, _∙_, ap}
+use mathlib.Core.List.{List}
+use native.Mathlib.Omega.{arith}
+use native.Mathlib.Nat.{mod-eq-of-lt}
+use native.Mathlib.Numerals.{add-one}
+use native.Mathlib.Decide.{ℕ-discrete}
+use lib.ListN.{getD, length, set, length-set}
+use lib.Seq.{getD-set-same, getD-set-other}
+use borrow.Author.Tests.{lt-ltb, le-ltb}
+use Rattle.lasso.specs.Lasso.{letter}
+use Rattle.automaton.specs.Limits.{maxStates}
+use Rattle.image.specs.Image.{contentsBytes}
+use Rattle.image.specs.Reader.{countsAt}
+use Rattle.image.specs.Lookup.{recordsAt, transitionCountOf, Readable}
+use Rattle.image.proofs.Lookup.{records-begin, records-next}
+use Rattle.rest.specs.Search.{after}
+use Rattle.rest.specs.Memory.{Placed}
+
+module _ (stem cycle : List ℕ) (p : ℕ) where
+  pub letter-stem : p < length stem → getD stem p 0 ≡ letter stem cycle p
+  unfolding letter
+  letter-stem l = sym (rw (lt-ltb p (length stem) l))
+
+  pub letter-cycle : length stem ≤ p → p < length stem + length cycle
+      → getD cycle (p - length stem) 0 ≡ letter stem cycle p
+  unfolding letter
+  letter-cycle l m =
+      let lt : p - length stem < length cycle = omega arith in
+      sym (rw (le-ltb p (length stem) l) (ap (λ (i : ℕ). getD cycle i 0) (mod-eq-of-lt lt)))
+
+  pub after-next : p + 1 < length stem + length cycle → p + 1 ≡ after stem cycle p
+  unfolding after
+  after-next l = add-one p ∙ sym (rw (lt-ltb (suc p) (length stem + length cycle) (omega arith)))
+
+  pub after-last : length stem + length cycle ≤ p + 1 → length stem ≡ after stem cycle p
+  unfolding after
+  after-last l = sym (rw (le-ltb (suc p) (length stem + length cycle) (omega arith)))
+
+-- the loop over the states that stands at q, with the records of state q at byte `at`
+pub record Placing (image places : List ℕ) (at q : ℕ) : Type 0 where
+  pub within : q ≤ countsAt image .states
+  pub size : length places ≡ maxStates
+  pub here : at ≡ recordsAt image q
+  pub done : (p : ℕ) → p < q → getD places p 0 ≡ recordsAt image p
+
+module _ (image : List ℕ) where
+  pub placing-begins : {places : List ℕ} {n : ℕ} → n ≡ countsAt image .states → length places ≡ maxStates
+      → Placing image places (contentsBytes + 4 * n) 0
+  placing-begins {n = n} e size = record {
+    within = omega arith;
+    size = size;
+    here = records-begin image n e;
+    done = λ p lt. absurd (omega arith);
+  }
+
+  pub placing-steps : {places : List ℕ} {at records : ℕ} (q : ℕ) → Readable image → q < countsAt image .states
+      → records ≡ transitionCountOf image q → Placing image places at q
+      → Placing image (set places q at) (at + 4 * records) (q + 1)
+  placing-steps {places} {at} q fine lt er inv = record {
+    within = omega arith;
+    size = length-set places q at ∙ inv .size;
+    here = records-next image q (inv .here) er;
+    done = λ p l. pick p l (ℕ-discrete p q);
+  }
+    where
+      pick : (p : ℕ) → p < q + 1 → Dec (p ≡ q) → getD (set places q at) p 0 ≡ recordsAt image p
+      pick p l (yes e) =
+          ap (λ (k : ℕ). getD (set places q at) k 0) e
+          ∙ getD-set-same places q at 0 (omega (arith, inv .size, fine .few)) ∙ inv .here ∙ ap (recordsAt image) (sym e)
+      pick p l (no e) = getD-set-other places q p at 0 e ∙ inv .done p (omega arith)
+
+  pub placing-ends : {places : List ℕ} {at : ℕ} (q : ℕ) → countsAt image .states ≤ q → Placing image places at q
+      → Placed image places
+  placing-ends q le inv = record { begin = λ p l. inv .done p (omega arith) }
