@@ -1,5 +1,5 @@
 /* bench FILE REPEAT: the sum of the answers and the nanoseconds of one round over the cases of FILE, the best of REPEAT.
- * The cases are those of tests/host/serve.c, T, J and R alone; R reads an image and writes nothing. */
+ * The cases are those of tests/host/serve.c, T, J, R and S alone; R reads an image and writes nothing. */
 #include <stdio.h>
 #include <stdlib.h>
 #include <time.h>
@@ -13,7 +13,7 @@ struct slice {
 
 struct one {
     int kind;
-    struct slice slices[3];
+    struct slice slices[4];
 };
 
 static struct zimboralo_tables tables;
@@ -26,8 +26,14 @@ static uint64_t answer(const struct one *c)
         return zimboralo_translate_rule(s[0].at, s[0].length, &tables);
     if (c->kind == 'R')
         return zimboralo_read_image(s[0].at, s[0].length, &tables);
+    if (c->kind == 'S')
+        return zimboralo_same_word(s[0].at, s[0].length, s[1].at, s[1].length, s[2].at, s[2].length, s[3].at,
+                                   s[3].length);
     return zimboralo_judge(s[0].at, s[0].length, s[1].at, s[1].length, s[2].at, s[2].length, work, sizeof work);
 }
+
+/* How many slices a case has. */
+static int slices_of(int kind) { return kind == 'S' ? 4 : kind == 'J' ? 3 : 1; }
 
 static long long now(void)
 {
@@ -52,7 +58,7 @@ int main(int count, char **words)
     size_t n = 0;
     for (long at = 0; at < size; n++) {
         cases[n].kind = bytes[at++];
-        for (int k = 0; k < (cases[n].kind == 'J' ? 3 : 1); k++) {
+        for (int k = 0; k < slices_of(cases[n].kind); k++) {
             size_t length = bytes[at] | (size_t)bytes[at + 1] << 8 | (size_t)bytes[at + 2] << 16 | (size_t)bytes[at + 3] << 24;
             cases[n].slices[k] = (struct slice){bytes + at + 4, length};
             at += 4 + (long)length;

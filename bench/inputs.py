@@ -1,4 +1,4 @@
-"""The benchmark's inputs, a file of cases for each group, in the form that tests/host/serve.c reads (T, J and R)."""
+"""The benchmark's inputs, a file of cases for each group, in the form that tests/host/serve.c reads (T, J, R and S)."""
 import os
 import random
 import struct
@@ -7,6 +7,7 @@ import sys
 sys.path.insert(0, os.path.join(os.path.dirname(os.path.abspath(__file__)), "..", "tests"))
 import lassos  # noqa: E402
 import rules  # noqa: E402
+import words  # noqa: E402
 import written  # noqa: E402
 from nodes import (ALWAYS, AND, EVENTUALLY, FALSE, IMPLIES, NEGATION, NEXT, NOT, OR, PROPOSITION,  # noqa: E402
                    RELEASE, TRUE, UNTIL, Builder, second)
@@ -156,6 +157,17 @@ def loads(images, kind=b"R"):
     return b"".join(framed(kind, image) for image in images)
 
 
+def plans_twice(count):
+    """Plans of up to as many letters as there may be, each in two ways that are not the same."""
+    rng = random.Random(6)
+    while count:
+        stem, cycle = lassos.letters(rng, rng.randrange(MOST // 2)), lassos.letters(rng, rng.randrange(1, MOST // 4))
+        other = words.rewritten(rng, stem, cycle)
+        if other != (stem, cycle):
+            yield framed(b"S", stem, cycle, *other)
+            count -= 1
+
+
 def accepted_rules(draw, seed, count):
     """Random rules that are accepted, and not only small ones; drawn by the function given."""
     rng, out = random.Random(seed), []
@@ -170,7 +182,8 @@ def accepted_rules(draw, seed, count):
 
 
 def groups():
-    """Name and cases of each group: first those to translate, all of kinds 0 to 8, then those to judge."""
+    """Name and cases of each group: first those to translate, all of kinds 0 to 8, then those to judge, then those to
+    compare."""
     random_rules = accepted_rules(rules.first_edition, 7, 200)
     letters = random.Random(3)
     images = [second.write(second.translate(rule)) for rule in random_rules]
@@ -191,6 +204,7 @@ def groups():
         (f"judge: {len(WAITING)} eventually rules on 20 plans of {MOST} slots each", plans(waiting_plans(20))),
         ("judge: a full image, 128 slots", plans([(full, b"", word[:128])])),
         (f"judge: a full image, {MOST} slots", plans([(full, b"", word)])),
+        ("compare: 200 plans, each in two ways", b"".join(plans_twice(200))),
     ]
 
 

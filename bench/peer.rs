@@ -1,5 +1,5 @@
-//! The peer of the benchmark: the same translation, loading and judging in idiomatic Rust, with the standard library
-//! alone. `bench/run` holds its answers against the library's while both are timed.
+//! The peer of the benchmark: the same translation, loading, judging and comparing in idiomatic Rust, with the standard
+//! library alone. `bench/run` holds its answers against the library's while both are timed.
 #[derive(Clone, Copy, PartialEq, Eq)]
 pub struct Refusal {
     pub number: u8,
@@ -557,7 +557,7 @@ fn cases(bytes: &[u8]) -> Vec<(u8, Vec<&[u8]>)> {
         let kind = bytes[at];
         at += 1;
         let mut slices = Vec::new();
-        for _ in 0..if kind == b'J' { 3 } else { 1 } {
+        for _ in 0..match kind { b'S' => 4, b'J' => 3, _ => 1 } {
             let n = u32::from_le_bytes(bytes[at..at + 4].try_into().unwrap()) as usize;
             slices.push(&bytes[at + 4..at + 4 + n]);
             at += 4 + n;
@@ -565,6 +565,25 @@ fn cases(bytes: &[u8]) -> Vec<(u8, Vec<&[u8]>)> {
         out.push((kind, slices));
     }
     out
+}
+
+/// 8 and 9 of a lasso, at this place.
+fn check_lasso(stem: &[u8], cycle: &[u8], place: usize) -> Answer<()> {
+    match (stem.len(), cycle.len()) {
+        (_, 0) => refuse(8, place),
+        (s, c) if s + c > 336 => refuse(9, place),
+        _ => Ok(()),
+    }
+}
+
+/// Whether two lassos are one word: the letters of the longer stem agree, and as many behind it as both cycles have.
+fn same_word(stem: &[u8], cycle: &[u8], other_stem: &[u8], other_cycle: &[u8]) -> Answer<bool> {
+    check_lasso(stem, cycle, 0)?;
+    check_lasso(other_stem, other_cycle, 1)?;
+    let n = stem.len().max(other_stem.len()) + cycle.len() + other_cycle.len();
+    let word = stem.iter().chain(cycle.iter().cycle());
+    let other = other_stem.iter().chain(other_cycle.iter().cycle());
+    Ok(word.zip(other).take(n).all(|(a, b)| a == b))
 }
 
 /// What a case comes to, as one number, so that both sides can be held against each other.
@@ -580,15 +599,11 @@ fn answer(kind: u8, slices: &[&[u8]], tables: &mut Tables) -> u64 {
         }),
         b'R' => load(slices[0], in_one, tables).map_or_else(refused, counted),
         b'r' => load(slices[0], in_two, tables).map_or_else(refused, counted),
-        _ => match read(slices[0]) {
-            Err(r) => refused(r),
-            Ok(_) if slices[2].is_empty() => 8,
-            Ok(_) if slices[1].len() + slices[2].len() > 336 => 9,
-            Ok(a) => {
-                let (kept, taken) = judge(&a, slices[1], slices[2]);
-                256 * kept as u64 + 65536 * taken as u64
-            }
-        },
+        b'S' => same_word(slices[0], slices[1], slices[2], slices[3]).map_or_else(refused, |same| 256 * same as u64),
+        _ => read(slices[0]).and_then(|a| check_lasso(slices[1], slices[2], 0).map(|()| a)).map_or_else(refused, |a| {
+            let (kept, taken) = judge(&a, slices[1], slices[2]);
+            256 * kept as u64 + 65536 * taken as u64
+        }),
     }
 }
 

@@ -108,6 +108,13 @@ uint64_t zimboralo_decide(const uint8_t *rule, size_t rule_len, const uint8_t *s
                           uint8_t *transitions, size_t transitions_len, uint8_t *initial, size_t initial_len,
                           uint8_t *image, size_t image_len, uint8_t *work, size_t work_len);
 
+/* Whether two lassos are one word, one plan written in two ways: their letters agree one by one, for ever. Then every
+ * rule that is accepted gives both the same verdict; the pairs that judging takes may differ. Yes or no, or the first
+ * refusal: 8 and 9 of the first lasso, at place 0, then of the other, at place 1. */
+uint64_t zimboralo_same_word(const uint8_t *stem, size_t stem_len, const uint8_t *cycle, size_t cycle_len,
+                             const uint8_t *other_stem, size_t other_stem_len, const uint8_t *other_cycle,
+                             size_t other_cycle_len);
+
 /* ---- the parts of an answer */
 
 /* Of a refusal: its number and place. */
@@ -127,6 +134,9 @@ static inline size_t zimboralo_length(uint64_t answer) { return (size_t)(answer 
  * to; without one, all that runs reach. That is at most the states times the letters, which fits 16 bits. */
 static inline int zimboralo_kept(uint64_t answer) { return (int)(answer >> 8 & 1); }
 static inline unsigned zimboralo_pairs(uint64_t answer) { return (unsigned)(answer >> 16 & 0xffff); }
+
+/* Of an accepted same_word: whether the two lassos are one word. */
+static inline int zimboralo_same(uint64_t answer) { return (int)(answer >> 8 & 1); }
 
 /* ---- the calls over structs of the right sizes */
 

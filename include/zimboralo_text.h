@@ -9,7 +9,8 @@
 #define ZIMBORALO_DIGITS_OF(limit) #limit
 #define ZIMBORALO_DIGITS(limit) ZIMBORALO_DIGITS_OF(limit)
 
-/* Why a call refused, and what the place of this refusal is; where nothing is said of it, the place is always 0. */
+/* Why a call refused, and what the place of this refusal is; where nothing is said of it, the place is always 0, but
+ * that of 8 and 9 is 1 where two plans are compared and the second one is refused. */
 static inline const char *zimboralo_text(unsigned number)
 {
     switch (number) {

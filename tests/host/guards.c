@@ -1,7 +1,8 @@
 /* Every lent buffer at its exact smallest size between guard bytes that must stay as they were; and one byte shorter,
  * which is refused by 25 with every byte as it was. The functions over structs against the plain calls, the header's
  * limits against what the library takes, the bytes of rules in negation normal form, refusal 11 at every state record,
- * and verdicts with a known number of pairs. Prints one line and exits 1 where something is wrong. */
+ * verdicts with a known number of pairs, and lassos that are one word or are not. Prints one line and exits 1 where
+ * something is wrong. */
 #include <stdio.h>
 #include <stdlib.h>
 #include <string.h>
@@ -747,6 +748,91 @@ static void lassos(void)
     lasso(most + 1, most + 1, ZIMBORALO_TOO_MANY_LETTERS);
 }
 
+/* A lasso: so many letters in its stem and, behind them, in its cycle. */
+struct word {
+    size_t stem, cycle;
+    uint8_t letters[ZIMBORALO_MAX_LETTERS + 1];
+};
+
+static uint64_t same_word(const struct word *a, const struct word *b)
+{
+    return zimboralo_same_word(a->letters, a->stem, a->letters + a->stem, a->cycle, b->letters, b->stem,
+                               b->letters + b->stem, b->cycle);
+}
+
+/* Two lassos, in either order, are one word or are not; each is one with itself. */
+static void expect_words(const struct word *a, const struct word *b, unsigned same, const char *what)
+{
+    const uint64_t yes = 1 << 8;
+    expect(same_word(a, b) == (same ? yes : 0) && same_word(b, a) == (same ? yes : 0), what, "another answer");
+    expect(same_word(a, a) == yes && same_word(b, b) == yes, what, "not one with itself");
+}
+
+/* Lassos that are one word or are not, told by hand. */
+static const struct {
+    struct word first, second;
+    unsigned same;
+} WORDS[] = {
+    /* the cycle twice, also with one pass in the stem of the other */
+    {{0, 1, {0}}, {0, 2, {0, 0}}, 1},
+    {{2, 2, {1, 2, 1, 2}}, {0, 4, {1, 2, 1, 2}}, 1},
+    /* turned, with what it was turned by in the stem, and without */
+    {{0, 2, {1, 2}}, {1, 2, {1, 2, 1}}, 1},
+    {{0, 2, {1, 2}}, {0, 2, {2, 1}}, 0},
+    {{0, 2, {1, 2}}, {1, 2, {1, 1, 2}}, 0},
+    /* stems of other lengths; another letter at the stem's end, and at its beginning in the highest bit alone */
+    {{3, 1, {0, 0, 1, 0}}, {5, 2, {0, 0, 1, 0, 0, 0, 0}}, 1},
+    {{3, 1, {0, 0, 1, 0}}, {5, 2, {0, 0, 1, 0, 1, 0, 0}}, 0},
+    {{3, 1, {0, 0, 1, 0}}, {3, 1, {128, 0, 1, 0}}, 0},
+    /* cycles of 3 and 5 letters whose words agree on six letters */
+    {{0, 3, {0, 1, 0}}, {0, 5, {0, 1, 0, 0, 1}}, 0},
+};
+
+/* The list above; and with as many letters as there may be: a cycle and the half of it, until its last letter is
+ * another one; and two cycles, one a letter longer, whose words agree on all letters that both have but two. */
+static void words(void)
+{
+    enum { MOST = ZIMBORALO_MAX_LETTERS };
+    for (size_t i = 0; i < sizeof WORDS / sizeof *WORDS; i++)
+        expect_words(&WORDS[i].first, &WORDS[i].second, WORDS[i].same, "a word");
+    struct word half = {0, MOST / 2, {0}}, whole_cycle = {0, MOST, {0}};
+    for (size_t i = 0; i < MOST / 2; i++)
+        half.letters[i] = whole_cycle.letters[i] = whole_cycle.letters[MOST / 2 + i] = pattern(i);
+    expect_words(&half, &whole_cycle, 1, "half of the cycle");
+    whole_cycle.letters[MOST - 1] ^= 1;
+    expect_words(&half, &whole_cycle, 0, "another last letter");
+    struct word longest = {0, MOST, {0}}, shorter = {0, MOST - 1, {0}};
+    longest.letters[MOST - 2] = shorter.letters[MOST - 2] = 1;
+    expect_words(&longest, &shorter, 0, "words that agree for long");
+}
+
+/* 8 before 9, and the first of two lassos, at place 0, before the second, at place 1. */
+static void words_refused(void)
+{
+    enum { MOST = ZIMBORALO_MAX_LETTERS };
+    /* how many letters stem and cycle have, and the number by which that is refused */
+    static const struct {
+        size_t stem, cycle;
+        uint64_t number;
+    } sizes[] = {
+        {0, 1, ZIMBORALO_ACCEPTED},
+        {MOST - 1, 1, ZIMBORALO_ACCEPTED},
+        {0, MOST, ZIMBORALO_ACCEPTED},
+        {0, 0, ZIMBORALO_EMPTY_CYCLE},
+        {MOST + 1, 0, ZIMBORALO_EMPTY_CYCLE},
+        {0, MOST + 1, ZIMBORALO_TOO_MANY_LETTERS},
+        {MOST, 1, ZIMBORALO_TOO_MANY_LETTERS},
+    };
+    const size_t count = sizeof sizes / sizeof *sizes;
+    for (size_t i = 0; i < count * count; i++) {
+        struct word a = {sizes[i / count].stem, sizes[i / count].cycle, {0}};
+        struct word b = {sizes[i % count].stem, sizes[i % count].cycle, {0}};
+        uint64_t first = sizes[i / count].number, second = sizes[i % count].number;
+        uint64_t want = first ? first : second ? second | 1 << 8 : 1 << 8;
+        expect(same_word(&a, &b) == want, "two words of so many letters", "another answer");
+    }
+}
+
 int main(void)
 {
     const struct zimboralo_rule over = stacked(ALWAYS, ZIMBORALO_MAX_NODES - 1);
@@ -776,6 +862,8 @@ int main(void)
     known_pairs();
     most_pairs();
     lassos();
+    words();
+    words_refused();
     printf("guards: %d looked at, %d wrong\n", looked, wrong);
     for (int b = 0; b < BUFFERS; b++)
         free(blocks[b]);

@@ -1,12 +1,13 @@
 /* The office program: a written rule and a lasso, from bytes to the verdict in words, with how many pairs of a slot and
- * a state judging took.
+ * a state judging took; or two lassos, and whether they are one plan.
  *
- *     office RULE STEM CYCLE       each in hexadecimal, or @FILE for a file's bytes; - for none
+ *     office RULE STEM CYCLE                   each in hexadecimal, or @FILE for a file's bytes; - for none
+ *     office same STEM CYCLE STEM CYCLE        likewise
  *
  * The rule may have every kind of FORMAT.md, among them not, implies, always and eventually. The place of 3 to 6 is a
  * node of the rule as written, that of 20 a node of its negation normal form.
  *
- * Exits 0 for a kept lasso, 1 for a broken one, 2 for a refusal or bad words. */
+ * Exits 0 for a kept lasso or one plan, 1 for a broken lasso or two plans, 2 for a refusal or bad words. */
 #include <ctype.h>
 #include <stdio.h>
 #include <stdlib.h>
@@ -61,22 +62,50 @@ static struct bytes from_word(const char *word)
     return b;
 }
 
-int main(int count, char **words)
+/* A refusal in words; behind them, of two plans, which one. The exit status. */
+static int refused(uint64_t answer, const char *which)
+{
+    printf("refused %u place %u: %s%s\n", zimboralo_number(answer), zimboralo_place(answer),
+           zimboralo_text(zimboralo_number(answer)), which);
+    return 2;
+}
+
+static int decide(char **words)
 {
     static struct zimboralo_buffers buffers;
-    if (count != 4)
-        stop("usage", "office RULE STEM CYCLE");
-    struct bytes rule = from_word(words[1]), stem = from_word(words[2]), cycle = from_word(words[3]);
+    struct bytes rule = from_word(words[0]), stem = from_word(words[1]), cycle = from_word(words[2]);
     uint64_t answer =
         zimboralo_decide_plan(rule.at, rule.length, stem.at, stem.length, cycle.at, cycle.length, &buffers);
     free(rule.at);
     free(stem.at);
     free(cycle.at);
-    if (zimboralo_number(answer) != ZIMBORALO_ACCEPTED) {
-        printf("refused %u place %u: %s\n", zimboralo_number(answer), zimboralo_place(answer),
-               zimboralo_text(zimboralo_number(answer)));
-        return 2;
-    }
+    if (zimboralo_number(answer) != ZIMBORALO_ACCEPTED)
+        return refused(answer, "");
     printf("%s, pairs taken: %u\n", zimboralo_kept(answer) ? "kept" : "broken", zimboralo_pairs(answer));
     return zimboralo_kept(answer) ? 0 : 1;
+}
+
+static int compare(char **words)
+{
+    struct bytes parts[4];
+    for (int i = 0; i < 4; i++)
+        parts[i] = from_word(words[i]);
+    uint64_t answer = zimboralo_same_word(parts[0].at, parts[0].length, parts[1].at, parts[1].length, parts[2].at,
+                                          parts[2].length, parts[3].at, parts[3].length);
+    for (int i = 0; i < 4; i++)
+        free(parts[i].at);
+    if (zimboralo_number(answer) != ZIMBORALO_ACCEPTED)
+        return refused(answer, zimboralo_place(answer) == 0 ? " (the first plan)" : " (the second plan)");
+    puts(zimboralo_same(answer) ? "one plan" : "two plans");
+    return zimboralo_same(answer) ? 0 : 1;
+}
+
+int main(int count, char **words)
+{
+    if (count == 4)
+        return decide(words + 1);
+    if (count == 6 && strcmp(words[1], "same") == 0)
+        return compare(words + 2);
+    stop("usage", "office RULE STEM CYCLE, or office same STEM CYCLE STEM CYCLE");
+    return 2;
 }

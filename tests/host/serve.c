@@ -9,6 +9,7 @@
  *     R image                  `same` if read and then written it is the same bytes, `other` if not, or the refusal
  *     W counts and three tables   the image's bytes, or the refusal; the counts are three numbers of four bytes
  *     D rule stem cycle        as J, of deciding in one call; `other` where a buffer is not as the calls leave it
+ *     S stem cycle stem cycle  `one word` or `two words`, or the refusal
  *
  * One line each. It ends where the input does. */
 #include <stdio.h>
@@ -187,6 +188,19 @@ static void decide(void)
     free(cycle);
 }
 
+static void same_word(void)
+{
+    size_t s, c, t, d;
+    uint8_t *stem = slice(&s), *cycle = slice(&c), *other_stem = slice(&t), *other_cycle = slice(&d);
+    uint64_t answer = zimboralo_same_word(stem, s, cycle, c, other_stem, t, other_cycle, d);
+    if (!refused(answer))
+        puts(zimboralo_same(answer) ? "one word" : "two words");
+    free(stem);
+    free(cycle);
+    free(other_stem);
+    free(other_cycle);
+}
+
 int main(void)
 {
     for (int letter; (letter = getchar()) != EOF;) {
@@ -202,6 +216,8 @@ int main(void)
             write_tables();
         else if (letter == 'D')
             decide();
+        else if (letter == 'S')
+            same_word();
         else
             return 1;
     }

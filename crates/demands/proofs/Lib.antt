@@ -2,5 +2,6 @@
 pub mod Rows
 pub mod RuleImage
 pub mod Verdict
+pub mod SameVerdict
 pub mod Deciding
 pub mod Decided

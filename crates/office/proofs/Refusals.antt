@@ -34,6 +34,7 @@ use Rattle.image.proofs.Tests.{counts-small}
 use Rattle.image.proofs.Contents.{contents-fine}
 use Rattle.image.proofs.OnePass.{one-pass}
 use Rattle.lasso.specs.Lasso.{lassoCheck}
+use Rattle.sameword.specs.Words.{ofSecond, lassosCheck, compared}
 use Rattle.judge.specs.Judge.{judgeable, judgedBy, judged}
 use Rattle.demands.specs.Demand.{roomCheck, inputCheck, concluded, decidedBy, decided}
 
@@ -314,6 +315,17 @@ writes-proper c s t i image =
 lasso-proper : (stem cycle : List ℕ) → Proper (lassoCheck stem cycle)
 unfolding lassoCheck
 lasso-proper stem cycle = search proper
+
+-- 8 and 9, of two lassos
+second-proper : (check : Check) → Proper check → Proper (ofSecond check)
+second-proper (accepted u) p = accepts
+second-proper (refused number place) p =
+    let h = p .refusal number place refl in
+    refuses (record { some = h .some; byte = h .byte; near = omega arith })
+
+pub compared-proper : (stem cycle otherStem otherCycle : List ℕ) → Proper (compared stem cycle otherStem otherCycle)
+unfolding compared lassosCheck
+compared-proper stem cycle otherStem otherCycle = search (proper, lasso-proper, second-proper) depth 7
 
 -- 25, 10 to 13, 8 and 9
 pub judged-proper : (image stem cycle work : List ℕ) → Proper (judged image stem cycle work .answer)

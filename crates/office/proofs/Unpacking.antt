@@ -3,6 +3,7 @@
 use Prim.Native.Nat.{ℕ, _+_, _*_, _/_, _%_, _^_, _≤_, _<_}
 use mathlib.Core.Path.{_≡_, refl, sym, _∙_, ap, subst, subst₂}
 use mathlib.Core.List.{List}
+use mathlib.Core.Bool.{Bool, true, false}
 use native.Mathlib.Omega.{arith}
 use lib.ListN.{length}
 use Rattle.answer.specs.Result.{Result, accepted, refused, andThen, Check, fine, require}
@@ -29,6 +30,7 @@ use Rattle.image.proofs.Sizes.{image-size}
 use Rattle.image.proofs.Tables.{counts-back}
 use Rattle.image.proofs.Outcomes.{writes-of, reads-of}
 use Rattle.lasso.specs.Lasso.{lassoCheck}
+use Rattle.sameword.specs.Words.{compared}
 use Rattle.judge.specs.Judge.{workBytes, Verdict, kept, broken, Finding, finding, found, judged}
 use Rattle.judge.proofs.VerdictIff.{image-in-range}
 use Rattle.judge.proofs.Pairs.{found-few, judged-few}
@@ -36,8 +38,9 @@ use Rattle.demands.specs.Demand.{roomCheck, inputCheck, concluded, decidedBy, d
 use Rattle.automaton.proofs.WellFormed.{few-together}
 use Rattle.correctness.proofs.WellFormed.{written-well-formed}
 use Rattle.office.proofs.Refusals.{Refusal, Proper, normalizes-proper, translated-proper, reads-proper, writes-proper}
-use Rattle.office.proofs.Refusals.{judged-proper, decided-proper}
+use Rattle.office.proofs.Refusals.{judged-proper, decided-proper, compared-proper}
 use Rattle.office.specs.Packing.{packRefusal, packThree, packCounts, packLength, packFinding, packVerdict}
+use Rattle.office.specs.Packing.{packSame}
 
 -- ---- the parts of an answer, as the header reads them
 
@@ -72,6 +75,10 @@ keptOf answer = answer / 256 % 2
 -- zimboralo_pairs: answer >> 16 & 0xffff
 abbrev pub pairsOf : ℕ → ℕ
 pairsOf answer = answer / 65536 % 65536
+
+-- zimboralo_same: answer >> 8 & 1
+abbrev pub sameOf : ℕ → ℕ
+sameOf answer = answer / 256 % 2
 
 -- ---- values that fit
 
@@ -198,6 +205,10 @@ pub record VerdictRead (packed : ℕ) (f : Finding) : Type 0 where
   pub verdict : keptOf packed ≡ elim (f .verdict) [ kept ↦ 1 | broken ↦ 0 ]
   pub pairs : pairsOf packed ≡ f .pairs
 
+-- whether two lassos are one word, 1 for yes and 0 for no
+abbrev pub SameRead : (packed : ℕ) → Bool → Type 0
+SameRead packed b = sameOf packed ≡ elim b [ true ↦ 1 | false ↦ 0 ]
+
 -- ---- the packings
 
 above-byte : (low high : ℕ) → low < 256 → (low + 256 * high) / 256 ≡ high
@@ -269,6 +280,12 @@ unfolding packVerdict
 verdict-unpacks (accepted f) p fits = finding-unpacks (f .verdict) (f .pairs) (fits f refl)
 verdict-unpacks (refused number place) p fits = unpacks-refused number place (p .refusal number place refl)
 
+same-unpacks : (r : Result Bool) → Proper r → Unpacks SameRead (packSame r) r
+unfolding packSame
+same-unpacks (accepted true) p = unpacks-accepted _ true (omega arith) (omega arith)
+same-unpacks (accepted false) p = unpacks-accepted _ false (omega arith) (omega arith)
+same-unpacks (refused number place) p = unpacks-refused number place (p .refusal number place refl)
+
 -- ---- the calls
 
 -- zimboralo_normalize
@@ -309,3 +326,9 @@ pub decide-unpacks : (rule stem cycle s t i image work : List ℕ)
 decide-unpacks rule stem cycle s t i image work =
     verdict-unpacks (decided rule stem cycle s t i image work .answer) (decided-proper rule stem cycle s t i image work)
     (decided-few rule stem cycle s t i image work)
+
+-- zimboralo_same_word
+pub same-word-unpacks : (stem cycle otherStem otherCycle : List ℕ)
+    → Unpacks SameRead (packSame (compared stem cycle otherStem otherCycle)) (compared stem cycle otherStem otherCycle)
+same-word-unpacks stem cycle otherStem otherCycle =
+    same-unpacks (compared stem cycle otherStem otherCycle) (compared-proper stem cycle otherStem otherCycle)

@@ -1,8 +1,9 @@
 -- An answer as one number of 64 bits. The lowest byte is the refusal's number, 0 where there is none. Above it stands
--- the refusal's place, or the values: the three counts, the length of what is stored, or 1 for kept and 0 for broken
--- with the number of pairs taken.
+-- the refusal's place, or the values: the three counts, the length of what is stored, 1 for kept and 0 for broken with
+-- the number of pairs taken, or 1 for one word and 0 for two.
 use Prim.Native.Nat.{ℕ, _+_, _*_, _%_, _^_}
 use mathlib.Core.List.{List}
+use mathlib.Core.Bool.{Bool, true, false}
 use Rattle.answer.specs.Result.{Result, accepted, refused}
 use Rattle.automaton.specs.Tables.{Counts, Outcome}
 use Rattle.answer.specs.Buffer.{Buffer}
@@ -41,6 +42,12 @@ packFinding broken pairs = packPairs pairs
 unfoldable pub packVerdict : Result Finding → ℕ
 packVerdict (accepted f) = packFinding (f .verdict) (f .pairs)
 packVerdict (refused number place) = packRefusal number place
+
+-- whether two lassos are one word, in bit 8
+unfoldable pub packSame : Result Bool → ℕ
+packSame (accepted true) = 256
+packSame (accepted false) = 0
+packSame (refused number place) = packRefusal number place
 
 -- a packed answer with the three tables afterwards
 pub record PackedTables : Type 0 where

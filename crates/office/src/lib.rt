@@ -8,6 +8,8 @@ use image::write;
 use judge::Judged;
 use judge::judge;
 use normalform::normalize;
+use sameword::Compared;
+use sameword::compare;
 use translation::translate;
 ghost use mathlib.Core.Path.{_≡_};
 ghost use Rattle.normalform.specs.Normalize.{normalizes};
@@ -17,9 +19,10 @@ ghost use Rattle.answer.specs.Buffer.{storedAnswer};
 ghost use Rattle.automaton.specs.Tables.{told};
 ghost use Rattle.judge.specs.Judge.{judgeAnswer, judged};
 ghost use Rattle.demands.specs.Demand.{decided};
+ghost use Rattle.sameword.specs.Words.{compared, comparison};
 ghost use Rattle.office.specs.Packing.{packRefusal, packThree, packSize, packPairs, packCounts, packLength};
 ghost use Rattle.office.specs.Packing.{packVerdict, packedTables, packOutcome, packedSlice, packBuffer, packJudgement};
-ghost use Rattle.office.specs.Packing.{packedDecision, packDecision, countsOf};
+ghost use Rattle.office.specs.Packing.{packedDecision, packDecision, countsOf, packSame};
 
 // A refusal's number and place.
 fn pack_refusal(number: u8, place: usize) -> u64
@@ -79,6 +82,17 @@ fn pack_judged(judged: Judged) -> u64
         Judged::Kept(pairs) => 256 + pack_pairs(pairs),
         Judged::Broken(pairs) => pack_pairs(pairs),
         Judged::Refused(number, place) => pack_refusal(number, place),
+    }
+}
+
+// The answer of compare: 1 above the lowest byte for one word, 0 for two; or the refusal.
+fn pack_compared(compared: Compared) -> u64
+    ensures { λ r. ⌜ r ≡ packSame (comparison compared) ⌝ }
+{
+    match compared {
+        Compared::Same => 256,
+        Compared::Different => 0,
+        Compared::Refused(number, place) => pack_refusal(number, place),
     }
 }
 
@@ -172,4 +186,18 @@ pub extern "C" fn zimboralo_decide(
         (now (image .entry)) (now (work .entry))) ⌝ }
 {
     pack_judged(decide(rule, stem, cycle, states, transitions, initial, image, work))
+}
+
+// Whether two lassos are one word; or a refusal, at place 0 for the first lasso and 1 for the second.
+#[no_mangle]
+pub extern "C" fn zimboralo_same_word(
+    stem: &[u8],
+    cycle: &[u8],
+    other_stem: &[u8],
+    other_cycle: &[u8],
+) -> u64
+    ensures { λ r. ⌜ r ≡ packSame (compared (now (stem .entry)) (now (cycle .entry))
+        (now («other_stem» .entry)) (now («other_cycle» .entry))) ⌝ }
+{
+    pack_compared(compare(stem, cycle, other_stem, other_cycle))
 }

@@ -141,7 +141,7 @@ fn find_places(image: &[u8], n: usize) -> Places
 }
 
 // The position after one.
-fn position_after(stem: &[u8], cycle: &[u8], position: usize) -> usize
+pub fn position_after(stem: &[u8], cycle: &[u8], position: usize) -> usize
     requires { ⌜ (position < length (now stem) + length (now cycle)) × (0 < length (now cycle)) ⌝ }
     ensures { λ r. ⌜ r ≡ after (now (stem .entry)) (now (cycle .entry)) position ⌝ }
 {
@@ -155,7 +155,7 @@ fn position_after(stem: &[u8], cycle: &[u8], position: usize) -> usize
 }
 
 // The letter at a position.
-fn letter_at(stem: &[u8], cycle: &[u8], position: usize) -> u8
+pub fn letter_at(stem: &[u8], cycle: &[u8], position: usize) -> u8
     requires { ⌜ position < length (now stem) + length (now cycle) ⌝ }
     ensures { λ r. ⌜ r ≡ letter (now (stem .entry)) (now (cycle .entry)) position ⌝ }
 {

@@ -1,0 +1,28 @@
+-- `sameword::same_word` meets its contract: the letters that tell are looked at (`words-agree-exactly`).
+-- Assumes nothing.
+use borrow.Author.Needs.{needs}
+use native.Mathlib.Omega.{arith}
+use Rattle.lasso.proofs.Checking.{lasso-some, lasso-few}
+use Rattle.sameword.proofs.Periods.{told-exactly}
+use Rattle.sameword.proofs.same_word.Statement.{statement}
+use Rattle.sameword.proofs.same_word.Tie as tie
+
+add-n-2 : tie.Need-add-n-2
+add-n-2 c =
+    let pre = c .before .before .before .before .before .pre in
+    omega (arith, c .larger .ensures, lasso-few _ _ (pre .0), lasso-few _ _ (pre .1))
+
+letters-agree-requires : tie.Need-letters-agree-requires
+letters-agree-requires c κs =
+    let pre = c .before .before .before .before .before .pre in
+    (lasso-some _ _ (pre .0), lasso-some _ _ (pre .1))
+
+returns : tie.Need-returns
+returns c =
+    let pre = c .before .before .before .before .before .before .pre in
+    told-exactly _ _ _ _ (lasso-some _ _ (pre .0)) (lasso-some _ _ (pre .1)) (c .before .larger .ensures)
+    (c .letters-agree .ensures)
+
+pub same-word-spec : {M : Type 1} → statement M
+same-word-spec =
+    tie.close (tie.spec (λ c κs. search needs) (λ c. search needs) add-n-2 letters-agree-requires returns)

@@ -1,0 +1,2 @@
+-- Whether two lassos are one word.
+pub mod Words
