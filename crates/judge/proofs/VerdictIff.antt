@@ -7,7 +7,7 @@ use mathlib.Core.List.{List}
 use mathlib.Core.Bool.{Bool, true, false, _||_, false≢true}
 use native.Mathlib.Omega.{arith}
 use lib.ListN.{length}
-use borrow.Author.Tests.{lt-ltb, le-leb}
+use borrow.Author.Tests.{le-leb}
 use Rattle.answer.specs.Result.{accepted, fine}
 use Rattle.answer.proofs.Results.{then-accepted}
 use Rattle.automaton.specs.Automaton.{Automaton, AcceptingPass, Recognizes}
@@ -26,7 +26,7 @@ use Rattle.rest.specs.Rest.{restTaken, pairsTaken}
 use Rattle.judge.proofs.HasAcceptingPass.{has-accepting-pass-iff}
 use Rattle.judge.proofs.AtRest.{full-search}
 use Rattle.image.proofs.Accepted.{readable, readable-in-range}
-use Rattle.lasso.proofs.Checking.{lasso-some}
+use Rattle.lasso.proofs.Checking.{lasso-some, lasso-within}
 
 one-verdict : accepted kept ≡ accepted broken → ⊥
 one-verdict e =
@@ -82,6 +82,5 @@ module _ (a : Automaton) (formed : WellFormed a) (stem cycle : List ℕ) where
 
     -- with letters within the limit and enough working bytes, judging the image says so
     pub recognized-verdict : (work : List ℕ) → length stem + length cycle ≤ maxLetters → workBytes ≤ length work → Exactly (judged (imageBytes a) stem cycle work .answer) (P stem cycle)
-    unfolding lassoCheck
     recognized-verdict work few enough =
-        rw (image-judged work (rw (lt-ltb 0 (length cycle) some, le-leb (length stem + length cycle) maxLetters few)) enough) recognized-exactly
+        rw (image-judged work (sym (lasso-within stem cycle some few)) enough) recognized-exactly

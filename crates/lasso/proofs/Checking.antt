@@ -48,3 +48,8 @@ module _ (stem cycle : List ℕ) where
   lasso-few e =
       leb-true (length stem + length cycle) maxLetters
       (require-fine _ 9 0 (fine-second (require (ltb 0 (length cycle)) 8 0) _ (sym e)))
+
+  -- and nothing else is asked of it
+  pub lasso-within : 0 < length cycle → length stem + length cycle ≤ maxLetters → fine ≡ lassoCheck stem cycle
+  unfolding lassoCheck
+  lasso-within some few = rw (lt-ltb 0 (length cycle) some, le-leb (length stem + length cycle) maxLetters few)

@@ -11,6 +11,7 @@ pub mod Holds
 pub mod Passes
 pub mod Again
 pub mod FirstEdition
+pub mod FirstEditionChecked
 pub mod Turns
 pub mod Flags
 pub mod Codes
