@@ -1,5 +1,5 @@
 /* bench FILE REPEAT: the sum of the answers and the nanoseconds of one round over the cases of FILE, the best of REPEAT.
- * The cases are those of tests/host/serve.c, T, J, R and S alone; R reads an image and writes nothing. */
+ * The cases are those of tests/host/serve.c, T, J, R, S and M alone; R reads an image and writes nothing. */
 #include <stdio.h>
 #include <stdlib.h>
 #include <time.h>
@@ -18,6 +18,7 @@ struct one {
 
 static struct zimboralo_tables tables;
 static uint8_t work[ZIMBORALO_WORK_BYTES];
+static struct zimboralo_rule merged;
 
 static uint64_t answer(const struct one *c)
 {
@@ -26,6 +27,8 @@ static uint64_t answer(const struct one *c)
         return zimboralo_translate_rule(s[0].at, s[0].length, &tables);
     if (c->kind == 'R')
         return zimboralo_read_image(s[0].at, s[0].length, &tables);
+    if (c->kind == 'M')
+        return zimboralo_merge_rules(s[0].at, s[0].length, s[1].at, s[1].length, &merged);
     if (c->kind == 'S')
         return zimboralo_same_word(s[0].at, s[0].length, s[1].at, s[1].length, s[2].at, s[2].length, s[3].at,
                                    s[3].length);
@@ -33,7 +36,7 @@ static uint64_t answer(const struct one *c)
 }
 
 /* How many slices a case has. */
-static int slices_of(int kind) { return kind == 'S' ? 4 : kind == 'J' ? 3 : 1; }
+static int slices_of(int kind) { return kind == 'S' ? 4 : kind == 'J' ? 3 : kind == 'M' ? 2 : 1; }
 
 static long long now(void)
 {

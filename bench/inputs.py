@@ -1,4 +1,4 @@
-"""The benchmark's inputs, a file of cases for each group, in the form that tests/host/serve.c reads (T, J, R and S)."""
+"""The benchmark's inputs, a file of cases for each group, in the form that tests/host/serve.c reads (T, J, R, S and M)."""
 import os
 import random
 import struct
@@ -6,6 +6,7 @@ import sys
 
 sys.path.insert(0, os.path.join(os.path.dirname(os.path.abspath(__file__)), "..", "tests"))
 import lassos  # noqa: E402
+import merged  # noqa: E402
 import rules  # noqa: E402
 import words  # noqa: E402
 import written  # noqa: E402
@@ -168,6 +169,19 @@ def plans_twice(count):
             count -= 1
 
 
+def rule_pairs(count):
+    """Pairs of rules that may be merged, of every size."""
+    rng = random.Random(8)
+    while count:
+        pair = merged.whole_pair(rng)
+        try:
+            second.merge(*pair)
+        except second.Refused:
+            continue
+        yield framed(b"M", *pair)
+        count -= 1
+
+
 def accepted_rules(draw, seed, count):
     """Random rules that are accepted, and not only small ones; drawn by the function given."""
     rng, out = random.Random(seed), []
@@ -183,7 +197,7 @@ def accepted_rules(draw, seed, count):
 
 def groups():
     """Name and cases of each group: first those to translate, all of kinds 0 to 8, then those to judge, then those to
-    compare."""
+    compare, then those to merge."""
     random_rules = accepted_rules(rules.first_edition, 7, 200)
     letters = random.Random(3)
     images = [second.write(second.translate(rule)) for rule in random_rules]
@@ -205,6 +219,7 @@ def groups():
         ("judge: a full image, 128 slots", plans([(full, b"", word[:128])])),
         (f"judge: a full image, {MOST} slots", plans([(full, b"", word)])),
         ("compare: 200 plans, each in two ways", b"".join(plans_twice(200))),
+        ("merge: 200 pairs of rules", b"".join(rule_pairs(200))),
     ]
 
 

@@ -1,5 +1,5 @@
-//! The peer of the benchmark: the same translation, loading, judging and comparing in idiomatic Rust, with the standard
-//! library alone. `bench/run` holds its answers against the library's while both are timed.
+//! The peer of the benchmark: the same translation, loading, judging, comparing and merging in idiomatic Rust, with the
+//! standard library alone. `bench/run` holds its answers against the library's while both are timed.
 #[derive(Clone, Copy, PartialEq, Eq)]
 pub struct Refusal {
     pub number: u8,
@@ -65,7 +65,8 @@ fn product(xs: &[Term], ys: &[Term]) -> Vec<Term> {
     set(xs.iter().flat_map(|x| ys.iter().filter_map(move |y| join(*x, *y))))
 }
 
-fn parse(rule: &[u8]) -> Answer<Vec<Node>> {
+/// 1 to 6.
+fn well_formed(rule: &[u8]) -> Answer<Vec<Node>> {
     if rule.len() > 96 {
         return refuse(1, 0);
     }
@@ -104,10 +105,37 @@ fn parse(rule: &[u8]) -> Answer<Vec<Node>> {
             return refuse(6, n);
         }
     }
+    Ok(nodes)
+}
+
+/// 7.
+fn few_untils(nodes: Vec<Node>) -> Answer<Vec<Node>> {
     if nodes.iter().filter(|n| n.kind == 7).count() > 8 {
         return refuse(7, 0);
     }
     Ok(nodes)
+}
+
+fn parse(rule: &[u8]) -> Answer<Vec<Node>> {
+    few_untils(well_formed(rule)?)
+}
+
+/// Two rules as one, and its length: the nodes of the first, those of the second moved up, and an and.
+fn merge(first: &[u8], second: &[u8], merged: &mut [u8; 96]) -> Answer<usize> {
+    let (first, second) = (well_formed(first)?, well_formed(second)?);
+    let (up, root) = (first.len(), first.len() + second.len());
+    let moved = second.iter().map(|n| match n.kind {
+        4 | 5 | 7 | 8 => Node { left: n.left + up, right: n.right + up, ..*n },
+        6 => Node { left: n.left + up, ..*n },
+        _ => *n,
+    });
+    let and = Node { kind: 4, left: up - 1, right: root - 1 };
+    if root + 1 > 32 {
+        return refuse(27, 0);
+    }
+    let nodes = few_untils(first.iter().copied().chain(moved).chain([and]).collect())?;
+    put(merged, nodes.iter().map(|n| [n.kind, n.left as u8, n.right as u8]));
+    Ok(3 * nodes.len())
 }
 
 /// Covers and terms of every node, from those of its children.
@@ -557,7 +585,7 @@ fn cases(bytes: &[u8]) -> Vec<(u8, Vec<&[u8]>)> {
         let kind = bytes[at];
         at += 1;
         let mut slices = Vec::new();
-        for _ in 0..match kind { b'S' => 4, b'J' => 3, _ => 1 } {
+        for _ in 0..match kind { b'S' => 4, b'J' => 3, b'M' => 2, _ => 1 } {
             let n = u32::from_le_bytes(bytes[at..at + 4].try_into().unwrap()) as usize;
             slices.push(&bytes[at + 4..at + 4 + n]);
             at += 4 + n;
@@ -599,6 +627,11 @@ fn answer(kind: u8, slices: &[&[u8]], tables: &mut Tables) -> u64 {
         }),
         b'R' => load(slices[0], in_one, tables).map_or_else(refused, counted),
         b'r' => load(slices[0], in_two, tables).map_or_else(refused, counted),
+        b'M' => {
+            let mut merged = [0; 96];
+            let length = merge(slices[0], slices[1], std::hint::black_box(&mut merged));
+            length.map_or_else(refused, |n| 256 * n as u64)
+        }
         b'S' => same_word(slices[0], slices[1], slices[2], slices[3]).map_or_else(refused, |same| 256 * same as u64),
         _ => read(slices[0]).and_then(|a| check_lasso(slices[1], slices[2], 0).map(|()| a)).map_or_else(refused, |a| {
             let (kept, taken) = judge(&a, slices[1], slices[2]);

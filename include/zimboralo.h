@@ -24,7 +24,7 @@ extern "C" {
 #define ZIMBORALO_MAX_INITIAL 96
 #define ZIMBORALO_MAX_TRANSITIONS (ZIMBORALO_MAX_STATES * ZIMBORALO_MAX_OF_STATE)
 
-/* The longest rule in bytes, and the smallest buffer for a rule in negation normal form. */
+/* The longest rule in bytes, and the smallest buffer for a rule in negation normal form or for a merged one. */
 #define ZIMBORALO_RULE_BYTES (3 * ZIMBORALO_MAX_NODES)
 
 /* The smallest tables, image buffer and working space that a call takes; shorter ones are refused by 25. */
@@ -71,7 +71,10 @@ enum zimboralo_number {
     ZIMBORALO_TABLE_TOO_SHORT = 25,
 
     /* a written rule that becomes too long in negation normal form; looked at after 6 and before 7 */
-    ZIMBORALO_TOO_MANY_NODES = 26
+    ZIMBORALO_TOO_MANY_NODES = 26,
+
+    /* two rules that are too long as one; looked at after 6 of both and before 7 */
+    ZIMBORALO_MERGED_TOO_LARGE = 27
 };
 
 /* ---- the calls */
@@ -80,6 +83,16 @@ enum zimboralo_number {
  * buffer's start, with zeros behind it to the buffer's end. Its length, or the first refusal of 25, 1 to 6 and 26 in
  * this order, by which the buffer is as it was. */
 uint64_t zimboralo_normalize(const uint8_t *rule, size_t rule_len, uint8_t *first_edition, size_t first_edition_len);
+
+/* Two rules of the first edition as one, which a lasso satisfies exactly when it satisfies both: the first rule's nodes,
+ * behind them the second's, whose children are counted on from there, and last a root, the and of both roots. It is at
+ * the buffer's start, with zeros behind it to the buffer's end. Its length, or the first refusal of 25, 1 to 6 of the
+ * first rule, 1 to 6 of the second, 27 and 7 in this order, by which the buffer is as it was; 27 and 7 are about the
+ * merged rule. A place is the node of the rule that is refused, and does not tell which of the two that is. A kind above
+ * 8 is 3: a written rule goes through zimboralo_normalize first, which also tells what is wrong with it alone. The
+ * buffer must not hold either rule. */
+uint64_t zimboralo_merge(const uint8_t *first, size_t first_len, const uint8_t *second, size_t second_len,
+                         uint8_t *merged, size_t merged_len);
 
 /* The automaton of a written rule, as records in three tables. Its counts, or the first refusal of 25, 1 to 6, 26, 7
  * and 20 to 24 in this order; 7 and 20 are about the rule in negation normal form. */
@@ -126,7 +139,7 @@ static inline unsigned zimboralo_states(uint64_t answer) { return (unsigned)(ans
 static inline unsigned zimboralo_transitions(uint64_t answer) { return (unsigned)(answer >> 16 & 0xffff); }
 static inline unsigned zimboralo_initial(uint64_t answer) { return (unsigned)(answer >> 32 & 0xff); }
 
-/* Of an accepted normalize or write: the rule's or the image's length. */
+/* Of an accepted normalize, merge or write: the rule's or the image's length. */
 static inline size_t zimboralo_length(uint64_t answer) { return (size_t)(answer >> 8 & 0xffffffff); }
 
 /* Of an accepted judge or decide: whether the lasso is kept, and how many pairs of a position and a state were taken to
@@ -140,7 +153,7 @@ static inline int zimboralo_same(uint64_t answer) { return (int)(answer >> 8 & 1
 
 /* ---- the calls over structs of the right sizes */
 
-/* A rule, as normalize gives it, and how many of its bytes are used. */
+/* A rule, as normalize or merge gives it, and how many of its bytes are used. */
 struct zimboralo_rule {
     uint8_t bytes[ZIMBORALO_RULE_BYTES];
     size_t length;
@@ -174,6 +187,16 @@ static inline uint64_t zimboralo_normalize_rule(const uint8_t *rule, size_t rule
     uint64_t answer = zimboralo_normalize(rule, rule_len, first_edition->bytes, sizeof first_edition->bytes);
     if (zimboralo_number(answer) == ZIMBORALO_ACCEPTED)
         first_edition->length = zimboralo_length(answer);
+    return answer;
+}
+
+/* zimboralo_merge into a struct, which must hold neither of the two rules; a refusal leaves it as it was. */
+static inline uint64_t zimboralo_merge_rules(const uint8_t *first, size_t first_len, const uint8_t *second,
+                                             size_t second_len, struct zimboralo_rule *merged)
+{
+    uint64_t answer = zimboralo_merge(first, first_len, second, second_len, merged->bytes, sizeof merged->bytes);
+    if (zimboralo_number(answer) == ZIMBORALO_ACCEPTED)
+        merged->length = zimboralo_length(answer);
     return answer;
 }
 

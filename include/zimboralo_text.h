@@ -62,6 +62,9 @@ static inline const char *zimboralo_text(unsigned number)
     case ZIMBORALO_TOO_MANY_NODES:
         return "the rule is too large: its first-edition form needs over " ZIMBORALO_DIGITS(ZIMBORALO_MAX_NODES)
                " nodes";
+    case ZIMBORALO_MERGED_TOO_LARGE:
+        return "the rules are too large together: merged they have over " ZIMBORALO_DIGITS(ZIMBORALO_MAX_NODES)
+               " nodes";
     }
     return "unknown refusal";
 }

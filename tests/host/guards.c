@@ -1,15 +1,15 @@
 /* Every lent buffer at its exact smallest size between guard bytes that must stay as they were; and one byte shorter,
  * which is refused by 25 with every byte as it was. The functions over structs against the plain calls, the header's
- * limits against what the library takes, the bytes of rules in negation normal form, refusal 11 at every state record,
- * verdicts with a known number of pairs, and lassos that are one word or are not. Prints one line and exits 1 where
- * something is wrong. */
+ * limits against what the library takes, the bytes of rules in negation normal form and of merged ones, refusal 11 at
+ * every state record, verdicts with a known number of pairs, and lassos that are one word or are not. Prints one line
+ * and exits 1 where something is wrong. */
 #include <stdio.h>
 #include <stdlib.h>
 #include <string.h>
 
 #include "zimboralo.h"
 
-/* The bytes of a guard, the buffers that decide is lent, and a buffer longer than normalize needs. */
+/* The bytes of a guard, the buffers that decide is lent, and a buffer longer than normalize and merge need. */
 enum { GUARD = 64, BUFFERS = 5, LONGER = 3 * ZIMBORALO_RULE_BYTES };
 
 static const size_t SIZES[BUFFERS] = {ZIMBORALO_STATES_BYTES, ZIMBORALO_TRANSITIONS_BYTES, ZIMBORALO_INITIAL_BYTES,
@@ -367,40 +367,75 @@ static void node_too_many(uint8_t kind)
     expect_untouched("26, 25 or 7 touched a buffer");
 }
 
-/* normalize into so many bytes, which stand between guards: this answer, and `normal` at their start with zeros behind
- * it, or if that is NULL every byte as it was. */
-static void normalize_into(size_t lent_bytes, const uint8_t *rule, size_t length, uint64_t answer,
-                           const uint8_t *normal)
+/* A call that stores a rule: normalize of the first rule, or where there is a second one merge of both. */
+struct storing {
+    const char *name;
+    const uint8_t *first;
+    size_t first_length;
+    const uint8_t *second;
+    size_t second_length;
+};
+
+static uint64_t store(const struct storing *call, uint8_t *into, size_t lent_bytes)
+{
+    return call->second ? zimboralo_merge(call->first, call->first_length, call->second, call->second_length, into,
+                                          lent_bytes)
+                        : zimboralo_normalize(call->first, call->first_length, into, lent_bytes);
+}
+
+static uint64_t store_rule(const struct storing *call, struct zimboralo_rule *into)
+{
+    return call->second ? zimboralo_merge_rules(call->first, call->first_length, call->second, call->second_length,
+                                                into)
+                        : zimboralo_normalize_rule(call->first, call->first_length, into);
+}
+
+/* The call into so many bytes, which stand between guards: this answer, and `rule` at their start with zeros behind it,
+ * or if that is NULL every byte as it was. */
+static void stored_into(size_t lent_bytes, const struct storing *call, uint64_t answer, const uint8_t *rule)
 {
     static uint8_t block[GUARD + LONGER + GUARD];
     for (size_t i = 0; i < sizeof block; i++)
         block[i] = pattern(i);
-    expect(zimboralo_normalize(rule, length, block + GUARD, lent_bytes) == answer, "normalize", "another answer");
+    expect(store(call, block + GUARD, lent_bytes) == answer, call->name, "another answer");
     int ok = 1;
     for (size_t i = 0; i < sizeof block; i++) {
-        int filled = normal && i >= GUARD && i < GUARD + lent_bytes;
-        uint8_t want = !filled ? pattern(i) : i - GUARD < zimboralo_length(answer) ? normal[i - GUARD] : 0;
+        int filled = rule && i >= GUARD && i < GUARD + lent_bytes;
+        uint8_t want = !filled ? pattern(i) : i - GUARD < zimboralo_length(answer) ? rule[i - GUARD] : 0;
         ok = ok && block[i] == want;
     }
-    expect(ok, "normalize", "another byte");
+    expect(ok, call->name, "another byte");
 }
 
-/* normalize into the smallest buffer, longer ones and a struct; into shorter ones it is 25, whatever the rule. */
-static void normalize(const uint8_t *rule, size_t length, uint64_t answer, const uint8_t *normal)
+/* The call into the smallest buffer, longer ones and a struct; into shorter ones it is 25, whatever the rules. */
+static void stored(const struct storing *call, uint64_t answer, const uint8_t *rule)
 {
     struct zimboralo_rule made = {{0}, NOT_SET}, want = {{0}, NOT_SET};
-    normalize_into(ZIMBORALO_RULE_BYTES, rule, length, answer, normal);
-    normalize_into(ZIMBORALO_RULE_BYTES + 1, rule, length, answer, normal);
-    normalize_into(LONGER, rule, length, answer, normal);
-    normalize_into(ZIMBORALO_RULE_BYTES - 1, rule, length, ZIMBORALO_TABLE_TOO_SHORT, NULL);
-    normalize_into(0, rule, length, ZIMBORALO_TABLE_TOO_SHORT, NULL);
-    if (normal) {
+    stored_into(ZIMBORALO_RULE_BYTES, call, answer, rule);
+    stored_into(ZIMBORALO_RULE_BYTES + 1, call, answer, rule);
+    stored_into(LONGER, call, answer, rule);
+    stored_into(ZIMBORALO_RULE_BYTES - 1, call, ZIMBORALO_TABLE_TOO_SHORT, NULL);
+    stored_into(0, call, ZIMBORALO_TABLE_TOO_SHORT, NULL);
+    if (rule) {
         want.length = zimboralo_length(answer);
-        memcpy(want.bytes, normal, want.length);
+        memcpy(want.bytes, rule, want.length);
     }
-    expect(zimboralo_normalize_rule(rule, length, &made) == answer, "normalize_rule", "another answer");
-    expect(made.length == want.length && memcmp(made.bytes, want.bytes, sizeof made.bytes) == 0, "normalize_rule",
+    expect(store_rule(call, &made) == answer, call->name, "another answer with a struct");
+    expect(made.length == want.length && memcmp(made.bytes, want.bytes, sizeof made.bytes) == 0, call->name,
            "another struct");
+}
+
+static void normalize(const uint8_t *rule, size_t length, uint64_t answer, const uint8_t *normal)
+{
+    struct storing call = {"normalize", rule, length, NULL, 0};
+    stored(&call, answer, normal);
+}
+
+static void merge(const struct zimboralo_rule *first, const struct zimboralo_rule *second, uint64_t answer,
+                  const uint8_t *merged)
+{
+    struct storing call = {"merge", first->bytes, first->length, second->bytes, second->length};
+    stored(&call, answer, merged);
 }
 
 /* Written rules and their negation normal forms. */
@@ -461,6 +496,117 @@ static void normal_forms(void)
         normalize(over.bytes, over.length, ZIMBORALO_BAD_PLACES | (uint64_t)(ZIMBORALO_MAX_NODES - 2) << 8, NULL);
     }
     normalize(too_long, sizeof too_long, ZIMBORALO_TOO_LONG, NULL);
+}
+
+/* Two rules, and both merged, by hand. */
+static const struct {
+    struct zimboralo_rule first, second, merged;
+} MERGED[] = {
+    /* propositions keep their numbers, negated ones too */
+    {{{2, 0, 0}, 3}, {{2, 1, 0}, 3}, {{2, 0, 0, 2, 1, 0, 4, 0, 1}, 9}},
+    {{{3, 7, 0}, 3}, {{3, 6, 0}, 3}, {{3, 7, 0, 3, 6, 0, 4, 0, 1}, 9}},
+    /* constants, also twice the same */
+    {{{0, 0, 0}, 3}, {{1, 0, 0}, 3}, {{0, 0, 0, 1, 0, 0, 4, 0, 1}, 9}},
+    {{{1, 0, 0}, 3}, {{1, 0, 0}, 3}, {{1, 0, 0, 1, 0, 0, 4, 0, 1}, 9}},
+    /* eventually 0 and always 1, in either order */
+    {{{1, 0, 0, 2, 0, 0, 7, 0, 1}, 9},
+     {{0, 0, 0, 2, 1, 0, 8, 0, 1}, 9},
+     {{1, 0, 0, 2, 0, 0, 7, 0, 1, 0, 0, 0, 2, 1, 0, 8, 3, 4, 4, 2, 5}, 21}},
+    {{{0, 0, 0, 2, 1, 0, 8, 0, 1}, 9},
+     {{1, 0, 0, 2, 0, 0, 7, 0, 1}, 9},
+     {{0, 0, 0, 2, 1, 0, 8, 0, 1, 1, 0, 0, 2, 0, 0, 7, 3, 4, 4, 2, 5}, 21}},
+    /* the right byte of next is no child */
+    {{{2, 7, 0}, 3}, {{2, 3, 0, 6, 0, 0}, 6}, {{2, 7, 0, 2, 3, 0, 6, 1, 0, 4, 0, 2}, 12}},
+    /* one rule twice, with a leaf at two places; a proposition as high as the nodes are many */
+    {{{2, 5, 0, 4, 0, 0}, 6}, {{2, 5, 0, 4, 0, 0}, 6}, {{2, 5, 0, 4, 0, 0, 2, 5, 0, 4, 2, 2, 4, 1, 3}, 15}},
+    {{{2, 0, 0, 5, 0, 0}, 6},
+     {{3, 2, 0, 2, 1, 0, 5, 0, 1, 6, 2, 0}, 12},
+     {{2, 0, 0, 5, 0, 0, 3, 2, 0, 2, 1, 0, 5, 2, 3, 6, 4, 0, 4, 1, 5}, 21}},
+};
+
+/* Rules that 1 to 6 let pass as first-edition rules, and some that they refuse, with the place: the first of two is
+ * told, and of the first rule before the second. */
+static const struct {
+    struct zimboralo_rule rule;
+    uint64_t number, place;
+} EACH[] = {
+    {{{1, 0, 0}, 3}, ZIMBORALO_ACCEPTED, 0},
+    {{{2, 0, 0, 6, 0, 0}, 6}, ZIMBORALO_ACCEPTED, 0},
+    {{{0}, 0}, ZIMBORALO_BAD_LENGTH, 0},
+    {{{2, 0, 0, 9}, 4}, ZIMBORALO_BAD_LENGTH, 0},
+    {{{2, 0, 0, 9, 1, 1}, 6}, ZIMBORALO_UNKNOWN_KIND, 1},
+    {{{2, 0, 0, 2, 1, 0, 10, 0, 1}, 9}, ZIMBORALO_UNKNOWN_KIND, 2},
+    {{{2, 0, 0, 11, 0, 0}, 6}, ZIMBORALO_UNKNOWN_KIND, 1},
+    {{{2, 0, 0, 12, 0, 0}, 6}, ZIMBORALO_UNKNOWN_KIND, 1},
+    {{{2, 8, 0, 13, 0, 0}, 6}, ZIMBORALO_BAD_BYTE, 0},
+    {{{2, 0, 0, 6, 0, 1}, 6}, ZIMBORALO_BAD_BYTE, 1},
+    {{{2, 0, 0, 7, 0, 1}, 6}, ZIMBORALO_CHILD_NOT_BELOW, 1},
+    {{{2, 0, 0, 6, 0, 0, 6, 0, 0}, 9}, ZIMBORALO_BAD_PLACES, 1},
+    {{{2, 0, 0, 6, 0, 0, 4, 1, 1}, 9}, ZIMBORALO_BAD_PLACES, 1},
+};
+
+/* A rule of so many operators of one kind in negation normal form, and another, too large together or with too many
+ * untils: this refusal. */
+static void merge_refused(uint8_t kind, uint8_t count, uint8_t other_kind, uint8_t other_count, uint64_t number)
+{
+    struct zimboralo_rule first = stacked_normal(kind, count), second = stacked_normal(other_kind, other_count);
+    merge(&first, &second, number, NULL);
+    merge(&second, &first, number, NULL);
+}
+
+/* The same where they are not: the bytes by hand. */
+static void merge_taken(uint8_t kind, uint8_t count, uint8_t other_kind, uint8_t other_count)
+{
+    struct zimboralo_rule first = stacked_normal(kind, count), second = stacked_normal(other_kind, other_count);
+    struct zimboralo_rule both = first;
+    uint8_t up = count + 2, root = up + other_count + 2;
+    for (uint8_t n = 0; n < other_count + 2; n++)
+        for (int k = 0; k < 3; k++)
+            both.bytes[3 * (up + n) + k] = second.bytes[3 * n + k] + (n > 1 && k ? up : 0);
+    both.bytes[3 * root] = 4;
+    both.bytes[3 * root + 1] = up - 1;
+    both.bytes[3 * root + 2] = root - 1;
+    merge(&first, &second, (uint64_t)(3 * (root + 1)) << 8, both.bytes);
+}
+
+/* The lists above; a rule over the limit of bytes; as many nodes and untils as there may be in both together, and one
+ * more of each: 27 before 7, and after 6 of either. */
+static void merged_rules(void)
+{
+    enum { MOST = ZIMBORALO_MAX_NODES, UNTILS = ZIMBORALO_MAX_UNTILS, COUNT = sizeof EACH / sizeof *EACH };
+    static const uint8_t too_long[ZIMBORALO_RULE_BYTES + 1] = {13};
+    for (size_t i = 0; i < sizeof MERGED / sizeof *MERGED; i++)
+        merge(&MERGED[i].first, &MERGED[i].second, (uint64_t)MERGED[i].merged.length << 8, MERGED[i].merged.bytes);
+    for (size_t i = 0; i < COUNT * COUNT; i++) {
+        size_t first = i / COUNT, second = i % COUNT, told = EACH[first].number ? first : second;
+        if (EACH[told].number)
+            merge(&EACH[first].rule, &EACH[second].rule, EACH[told].number | EACH[told].place << 8, NULL);
+    }
+    for (size_t i = 0; i < COUNT; i++) {
+        const struct zimboralo_rule *rule = &EACH[i].rule;
+        struct storing first = {"merge", too_long, sizeof too_long, rule->bytes, rule->length};
+        stored(&first, ZIMBORALO_TOO_LONG, NULL);
+        struct storing second = {"merge", rule->bytes, rule->length, too_long, sizeof too_long};
+        stored(&second, EACH[i].number ? EACH[i].number | EACH[i].place << 8 : ZIMBORALO_TOO_LONG, NULL);
+    }
+    /* each has two nodes besides, and the root is one more: 32 nodes, then 33 */
+    for (uint8_t count = 1; count < MOST - 5; count++) {
+        merge_taken(ALWAYS, count, ALWAYS, MOST - 5 - count);
+        merge_refused(ALWAYS, count, ALWAYS, MOST - 4 - count, ZIMBORALO_MERGED_TOO_LARGE);
+    }
+    for (uint8_t count = 1; count < UNTILS; count++) {
+        merge_taken(EVENTUALLY, count, EVENTUALLY, UNTILS - count);
+        merge_refused(EVENTUALLY, count, EVENTUALLY, UNTILS + 1 - count, ZIMBORALO_TOO_MANY_UNTILS);
+    }
+    merge_taken(EVENTUALLY, UNTILS, ALWAYS, MOST - 5 - UNTILS);
+    merge_refused(EVENTUALLY, UNTILS + 1, ALWAYS, MOST - 6 - UNTILS, ZIMBORALO_TOO_MANY_UNTILS);
+    merge_refused(EVENTUALLY, UNTILS + 1, ALWAYS, MOST - 5 - UNTILS, ZIMBORALO_MERGED_TOO_LARGE);
+    merge_refused(EVENTUALLY, MOST / 2, EVENTUALLY, MOST / 2, ZIMBORALO_MERGED_TOO_LARGE);
+    struct zimboralo_rule whole_rule = stacked_normal(EVENTUALLY, MOST - 2), spoilt = whole_rule;
+    spoilt.bytes[3 * MOST - 1] = 1; /* the root's operand is node 1: the node before the root has no parent */
+    merge(&whole_rule, &whole_rule, ZIMBORALO_MERGED_TOO_LARGE, NULL);
+    merge(&whole_rule, &spoilt, ZIMBORALO_BAD_PLACES | (uint64_t)(MOST - 2) << 8, NULL);
+    merge(&spoilt, &whole_rule, ZIMBORALO_BAD_PLACES | (uint64_t)(MOST - 2) << 8, NULL);
 }
 
 /* An answer if it refuses, else ZIMBORALO_ACCEPTED alone. */
@@ -856,6 +1002,7 @@ int main(void)
     node_too_many(ALWAYS);
     node_too_many(EVENTUALLY);
     normal_forms();
+    merged_rules();
     state_records();
     last_bytes();
     rests();

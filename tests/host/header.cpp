@@ -1,5 +1,5 @@
-// The headers from C++: a written rule in negation normal form, and with a plan to the verdict; a refusal in words; one
-// plan written in two ways. Exits 0 where all are right.
+// The headers from C++: a written rule in negation normal form, merged with another, and with a plan to the verdict; a
+// refusal in words; one plan written in two ways. Exits 0 where all are right.
 #include <cstring>
 
 #include "zimboralo.h"
@@ -13,10 +13,13 @@ int main()
     uint64_t kept = zimboralo_decide_plan(eventually, sizeof eventually, letters, 1, letters + 1, 1, &buffers);
     uint64_t refused = zimboralo_judge_plan(letters, 1, letters, 0, &buffers);
     uint64_t normalized = zimboralo_normalize_rule(eventually, sizeof eventually, &normal);
-    const uint8_t longer[] = {1, 0, 0};
+    static zimboralo_rule merged;
+    const uint8_t never[] = {0, 0, 0}, longer[] = {1, 0, 0};
+    uint64_t both = zimboralo_merge_rules(normal.bytes, normal.length, never, sizeof never, &merged);
     uint64_t same = zimboralo_same_word(letters, 1, letters + 1, 1, longer, 1, longer + 1, 2);
     return zimboralo_number(normalized) == ZIMBORALO_ACCEPTED && normal.length == sizeof until
                    && std::memcmp(normal.bytes, until, sizeof until) == 0
+                   && zimboralo_number(both) == ZIMBORALO_ACCEPTED && merged.length == sizeof until + sizeof never + 3
                    && zimboralo_number(kept) == ZIMBORALO_ACCEPTED && zimboralo_kept(kept) && zimboralo_pairs(kept) == 2
                    && zimboralo_number(same) == ZIMBORALO_ACCEPTED && zimboralo_same(same)
                    && std::strcmp(zimboralo_text(zimboralo_number(refused)), "the plan's loop is empty") == 0

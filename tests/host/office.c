@@ -1,11 +1,12 @@
-/* The office program: a written rule and a lasso, from bytes to the verdict in words, with how many pairs of a slot and
- * a state judging took; or two lassos, and whether they are one plan.
+/* The office program: written rules, one or several, and a lasso, from bytes to the verdict in words, with how many
+ * pairs of a slot and a state judging took; or two lassos, and whether they are one plan.
  *
- *     office RULE STEM CYCLE                   each in hexadecimal, or @FILE for a file's bytes; - for none
+ *     office RULE.. STEM CYCLE                 each in hexadecimal, or @FILE for a file's bytes; - for none
  *     office same STEM CYCLE STEM CYCLE        likewise
  *
- * The rule may have every kind of FORMAT.md, among them not, implies, always and eventually. The place of 3 to 6 is a
- * node of the rule as written, that of 20 a node of its negation normal form.
+ * A rule may have every kind of FORMAT.md, among them not, implies, always and eventually. Several rules are put into
+ * negation normal form and merged one after another; the lasso is kept where it keeps all of them. The place of 3 to 6
+ * is a node of the rule as written, that of 20 a node of the negation normal form of the rule, or of the merged one.
  *
  * Exits 0 for a kept lasso or one plan, 1 for a broken lasso or two plans, 2 for a refusal or bad words. */
 #include <ctype.h>
@@ -62,7 +63,9 @@ static struct bytes from_word(const char *word)
     return b;
 }
 
-/* A refusal in words; behind them, of two plans, which one. The exit status. */
+static int accepted(uint64_t answer) { return zimboralo_number(answer) == ZIMBORALO_ACCEPTED; }
+
+/* A refusal in words; behind them, where it may be about one of several, which one. The exit status. */
 static int refused(uint64_t answer, const char *which)
 {
     printf("refused %u place %u: %s%s\n", zimboralo_number(answer), zimboralo_place(answer),
@@ -70,19 +73,50 @@ static int refused(uint64_t answer, const char *which)
     return 2;
 }
 
-static int decide(char **words)
+/* A rule against a plan. What is refused of the rule itself has `which` behind it. */
+static int decide(const uint8_t *rule, size_t length, char **words, const char *which)
 {
     static struct zimboralo_buffers buffers;
-    struct bytes rule = from_word(words[0]), stem = from_word(words[1]), cycle = from_word(words[2]);
-    uint64_t answer =
-        zimboralo_decide_plan(rule.at, rule.length, stem.at, stem.length, cycle.at, cycle.length, &buffers);
-    free(rule.at);
+    struct bytes stem = from_word(words[0]), cycle = from_word(words[1]);
+    uint64_t answer = zimboralo_decide_plan(rule, length, stem.at, stem.length, cycle.at, cycle.length, &buffers);
+    unsigned number = zimboralo_number(answer);
     free(stem.at);
     free(cycle.at);
-    if (zimboralo_number(answer) != ZIMBORALO_ACCEPTED)
-        return refused(answer, "");
+    if (!accepted(answer))
+        return refused(answer, number == ZIMBORALO_EMPTY_CYCLE || number == ZIMBORALO_TOO_MANY_LETTERS ? "" : which);
     printf("%s, pairs taken: %u\n", zimboralo_kept(answer) ? "kept" : "broken", zimboralo_pairs(answer));
     return zimboralo_kept(answer) ? 0 : 1;
+}
+
+static int decide_one(char **words)
+{
+    struct bytes rule = from_word(words[0]);
+    int status = decide(rule.at, rule.length, words + 1, "");
+    free(rule.at);
+    return status;
+}
+
+/* Several rules against a plan: each in negation normal form, merged with those before it. */
+static int decide_all(char **words, int count)
+{
+    struct zimboralo_rule all, form, both;
+    for (int i = 0; i < count; i++) {
+        char which[64];
+        struct bytes rule = from_word(words[i]);
+        uint64_t answer = zimboralo_normalize_rule(rule.at, rule.length, i ? &form : &all);
+        free(rule.at);
+        snprintf(which, sizeof which, " (rule %d)", i + 1);
+        if (!accepted(answer))
+            return refused(answer, which);
+        if (!i)
+            continue;
+        answer = zimboralo_merge_rules(all.bytes, all.length, form.bytes, form.length, &both);
+        snprintf(which, sizeof which, " (rules 1 to %d merged)", i + 1);
+        if (!accepted(answer))
+            return refused(answer, which);
+        all = both;
+    }
+    return decide(all.bytes, all.length, words + count, " (all rules merged)");
 }
 
 static int compare(char **words)
@@ -94,7 +128,7 @@ static int compare(char **words)
                                           parts[2].length, parts[3].at, parts[3].length);
     for (int i = 0; i < 4; i++)
         free(parts[i].at);
-    if (zimboralo_number(answer) != ZIMBORALO_ACCEPTED)
+    if (!accepted(answer))
         return refused(answer, zimboralo_place(answer) == 0 ? " (the first plan)" : " (the second plan)");
     puts(zimboralo_same(answer) ? "one plan" : "two plans");
     return zimboralo_same(answer) ? 0 : 1;
@@ -102,10 +136,12 @@ static int compare(char **words)
 
 int main(int count, char **words)
 {
-    if (count == 4)
-        return decide(words + 1);
     if (count == 6 && strcmp(words[1], "same") == 0)
         return compare(words + 2);
-    stop("usage", "office RULE STEM CYCLE, or office same STEM CYCLE STEM CYCLE");
+    if (count == 4)
+        return decide_one(words + 1);
+    if (count > 4)
+        return decide_all(words + 1, count - 3);
+    stop("usage", "office RULE.. STEM CYCLE, or office same STEM CYCLE STEM CYCLE");
     return 2;
 }

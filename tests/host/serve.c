@@ -3,12 +3,14 @@
  *
  *     N rule                   its negation normal form in hexadecimal, or `refused N place P`; `other` where the bytes
  *                              behind it are not zero, or a refusal has touched one
+ *     M rule rule              likewise of both rules merged
  *     T rule                   the image's bytes in hexadecimal, or the refusal
  *     J image stem cycle       `kept` or `broken` and how many pairs were taken, or the refusal; `other` where a
  *                              verdict leaves a working byte that is not zero, or a refusal has touched one
  *     R image                  `same` if read and then written it is the same bytes, `other` if not, or the refusal
  *     W counts and three tables   the image's bytes, or the refusal; the counts are three numbers of four bytes
  *     D rule stem cycle        as J, of deciding in one call; `other` where a buffer is not as the calls leave it
+ *     B rule rule stem cycle   as D, of both rules merged, or merge's refusal
  *     S stem cycle stem cycle  `one word` or `two words`, or the refusal
  *
  * One line each. It ends where the input does. */
@@ -81,19 +83,41 @@ static int filled(const uint8_t *bytes, size_t length, uint8_t byte)
     return 1;
 }
 
-static void normalize(void)
+/* A rule of which no byte is set, and what an answer has made of it. */
+static void unset(struct zimboralo_rule *rule)
 {
-    struct zimboralo_rule normal = {{0}, 0};
-    memset(normal.bytes, UNSET, sizeof normal.bytes);
-    size_t n;
-    uint8_t *rule = slice(&n);
-    uint64_t answer = zimboralo_normalize_rule(rule, n, &normal);
-    if (normal.length > sizeof normal.bytes
-        || !filled(normal.bytes + normal.length, sizeof normal.bytes - normal.length, left(answer)))
+    memset(rule->bytes, UNSET, sizeof rule->bytes);
+    rule->length = 0;
+}
+
+static void print_rule(const struct zimboralo_rule *rule, uint64_t answer)
+{
+    if (rule->length > sizeof rule->bytes
+        || !filled(rule->bytes + rule->length, sizeof rule->bytes - rule->length, left(answer)))
         puts("other");
     else if (!refused(answer))
-        print_bytes(normal.bytes, normal.length);
+        print_bytes(rule->bytes, rule->length);
+}
+
+static void normalize(void)
+{
+    struct zimboralo_rule normal;
+    unset(&normal);
+    size_t n;
+    uint8_t *rule = slice(&n);
+    print_rule(&normal, zimboralo_normalize_rule(rule, n, &normal));
     free(rule);
+}
+
+static void merge(void)
+{
+    struct zimboralo_rule merged;
+    unset(&merged);
+    size_t n, m;
+    uint8_t *first = slice(&n), *second = slice(&m);
+    print_rule(&merged, zimboralo_merge_rules(first, n, second, m, &merged));
+    free(first);
+    free(second);
 }
 
 static void translate(void)
@@ -168,11 +192,9 @@ static int same_buffers(const struct zimboralo_buffers *a, const struct zimboral
            && memcmp(a->work, b->work, sizeof a->work) == 0;
 }
 
-static void decide(void)
+static void decide_rule(const uint8_t *rule, size_t n, const uint8_t *stem, size_t s, const uint8_t *cycle, size_t c)
 {
     static struct zimboralo_buffers want;
-    size_t n, s, c;
-    uint8_t *rule = slice(&n), *stem = slice(&s), *cycle = slice(&c);
     memset(&buffers, UNSET, sizeof buffers);
     memset(&want, UNSET, sizeof want);
     uint64_t answer = zimboralo_decide_plan(rule, n, stem, s, cycle, c, &buffers);
@@ -183,7 +205,27 @@ static void decide(void)
         puts("other");
     else
         print_verdict(answer);
+}
+
+static void decide(void)
+{
+    size_t n, s, c;
+    uint8_t *rule = slice(&n), *stem = slice(&s), *cycle = slice(&c);
+    decide_rule(rule, n, stem, s, cycle, c);
     free(rule);
+    free(stem);
+    free(cycle);
+}
+
+static void decide_both(void)
+{
+    struct zimboralo_rule merged;
+    size_t n, m, s, c;
+    uint8_t *first = slice(&n), *second = slice(&m), *stem = slice(&s), *cycle = slice(&c);
+    if (!refused(zimboralo_merge_rules(first, n, second, m, &merged)))
+        decide_rule(merged.bytes, merged.length, stem, s, cycle, c);
+    free(first);
+    free(second);
     free(stem);
     free(cycle);
 }
@@ -206,6 +248,8 @@ int main(void)
     for (int letter; (letter = getchar()) != EOF;) {
         if (letter == 'N')
             normalize();
+        else if (letter == 'M')
+            merge();
         else if (letter == 'T')
             translate();
         else if (letter == 'J')
@@ -216,6 +260,8 @@ int main(void)
             write_tables();
         else if (letter == 'D')
             decide();
+        else if (letter == 'B')
+            decide_both();
         else if (letter == 'S')
             same_word();
         else

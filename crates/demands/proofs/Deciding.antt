@@ -99,14 +99,14 @@ module _ (rule stem cycle s t i image work : List ℕ) (passes : inputCheck rule
     module _ (c : Counts) (counted : told ≡ accepted c) (image' : List ℕ) {written : Result ℕ}
         (writing : buffer written image' ≡ writes c s' t' i' image) where
       -- the image of the rule's automaton is at the start of the buffer, and its records are in the tables
-      record Stored : Type 0 where
-        automaton : Automaton
-        translated-to : writtenTranslation rule ≡ accepted automaton
+      pub record Stored : Type 0 where
+        pub automaton : Automaton
+        pub translated-to : writtenTranslation rule ≡ accepted automaton
         tables : outcome told s' t' i' ≡ stored (accepted automaton) s t i
         answered : written ≡ accepted (length (imageBytes automaton))
         stored-in : image' ≡ imageBytes automaton ++ drop (length (imageBytes automaton)) image
 
-      has-stored : Stored
+      pub has-stored : Stored
       unfolding stored
       has-stored = go (writtenTranslation rule) refl is-stored
         where
@@ -139,7 +139,7 @@ module _ (rule stem cycle s t i image work : List ℕ) (passes : inputCheck rule
         pub image-inside : n ≤ length image'
         image-inside = omega (arith, image-size, ap length (has-stored .stored-in), length-append (imageBytes a) (drop (length (imageBytes a)) image))
 
-        image-is : take n image' ≡ imageBytes a
+        pub image-is : take n image' ≡ imageBytes a
         image-is =
             ap (take n) (has-stored .stored-in)
             ∙ take-at (imageBytes a) (drop (length (imageBytes a)) image) n image-size

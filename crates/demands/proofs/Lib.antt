@@ -5,3 +5,5 @@ pub mod Verdict
 pub mod SameVerdict
 pub mod Deciding
 pub mod Decided
+pub mod ThreeCalls
+pub mod MergedVerdict

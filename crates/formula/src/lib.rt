@@ -67,7 +67,7 @@ pub const ALWAYS: u8 = 11;
 pub const EVENTUALLY: u8 = 12;
 
 // What the left or the right byte of a node is.
-enum Operand {
+pub enum Operand {
     Unused,
     Proposition,
     Child,
@@ -94,7 +94,7 @@ pub fn right_of(rule: &[u8], n: usize) -> usize
     wide(rule[n * 3 + 2])
 }
 
-fn left_operand(kind: u8) -> Operand
+pub fn left_operand(kind: u8) -> Operand
     ensures { λ r. ⌜ r ≡ leftOperand kind ⌝ }
 {
     if kind < PROPOSITION {
@@ -122,7 +122,7 @@ pub fn one_child(kind: u8) -> bool
     kind == EVENTUALLY
 }
 
-fn right_operand(kind: u8) -> Operand
+pub fn right_operand(kind: u8) -> Operand
     ensures { λ r. ⌜ r ≡ rightOperand kind ⌝ }
 {
     if kind < AND {
@@ -291,7 +291,7 @@ fn until_count(kind: u8) -> usize
 }
 
 // How many of the first n nodes are untils.
-fn count_untils(rule: &[u8], n: usize) -> usize
+pub fn count_untils(rule: &[u8], n: usize) -> usize
     requires { ⌜ n ≤ nodeCount (now rule) ⌝ }
     ensures { λ r. ⌜ r ≡ length (untils (now (rule .entry)) n) ⌝ }
 {

@@ -18,7 +18,7 @@ use Rattle.formula.specs.Rule.{root, eventuallyKind, syntaxCheck, untilCheck, c
 use Rattle.normalform.specs.Written.{writtenCheck}
 use Rattle.normalform.specs.NormalForm.{isNeeded, codesOf, codeEnd, size, result, sized, normalForm}
 use Rattle.normalform.specs.NormalForm.{writtenChecked}
-use Rattle.normalform.specs.Normalize.{formStored, normalizes}
+use Rattle.normalform.specs.Normalize.{ruleStored, normalizes}
 use Rattle.normalform.specs.Memory.{codePlaces, Added, nodeWalk, flagged, Numbered, Ready, Forms}
 use Rattle.normalform.proofs.Fitting.{well-written}
 use Rattle.normalform.proofs.Flags.{root-flags}
@@ -37,7 +37,7 @@ module _ (rule : List ℕ) (passes : writtenCheck rule ≡ fine) {needed : List 
       ∙ rank-agree (flagged needed) (isNeeded (codesOf rule)) (root-flags rule needed walked) (codeEnd rule)
 
   module _ (form : List ℕ) (room : ruleBytes ≤ length form) where
-    pub too-large : maxNodes < count → buffer (refused 26 0) form ≡ formStored (sized rule) form
+    pub too-large : maxNodes < count → buffer (refused 26 0) form ≡ ruleStored (sized rule) form
     too-large lt = rw (lt-leb (size rule) maxNodes (omega (arith, sizes)))
 
     module _ (few : count ≤ maxNodes) where
@@ -53,7 +53,7 @@ module _ (rule : List ℕ) (passes : writtenCheck rule ≡ fine) {needed : List 
 
       pub form-stored : (written after : List ℕ) → length written ≡ length form → take (count * 3) written ≡ result rule
           → after ≡ filled written (take (count * 3) written)
-          → buffer (accepted (count * 3)) after ≡ formStored (sized rule) form
+          → buffer (accepted (count * 3)) after ≡ ruleStored (sized rule) form
       form-stored written after same is put =
           let long : length (result rule) ≡ count * 3 =
           result-length rule (well-written rule passes) ∙ ap (λ (x : ℕ). x * 3) (sym sizes) in
@@ -74,14 +74,14 @@ module _ (rule form : List ℕ) where
     unfolding normalizes normalForm writtenCheck
     syntax-refused e = rw (le-leb ruleBytes (length form) room, ← e)
 
-    pub built : {o : Buffer} → syntaxCheck eventuallyKind rule ≡ fine → o ≡ formStored (sized rule) form
+    pub built : {o : Buffer} → syntaxCheck eventuallyKind rule ≡ fine → o ≡ ruleStored (sized rule) form
         → o ≡ normalizes rule form
     unfolding normalizes normalForm writtenCheck
     built passes e = e ∙ rw (le-leb ruleBytes (length form) room, passes)
 
     -- what the answer and the buffer say of the normal form
     module _ (after : List ℕ) {told : Result ℕ} (normalized : buffer told after ≡ normalizes rule form) where
-      stores : buffer told after ≡ formStored (normalForm rule) form
+      stores : buffer told after ≡ ruleStored (normalForm rule) form
       unfolding normalizes
       stores = normalized ∙ rw (le-leb ruleBytes (length form) room)
 
@@ -89,7 +89,7 @@ module _ (rule form : List ℕ) where
       unfolding writtenChecked
       form-refused {number} {place} e = go (normalForm rule) refl stores
         where
-          go : (r : Result (List ℕ)) → normalForm rule ≡ r → buffer told after ≡ formStored r form
+          go : (r : Result (List ℕ)) → normalForm rule ≡ r → buffer told after ≡ ruleStored r form
               → writtenChecked rule ≡ refused number place
           go (accepted out) known is = never-both (sym e ∙ ap (λ (o : Buffer). o .answer) is)
           go (refused n p) known is =
@@ -108,7 +108,7 @@ module _ (rule form : List ℕ) where
         made : Made
         made = go (normalForm rule) refl stores
           where
-            go : (r : Result (List ℕ)) → normalForm rule ≡ r → buffer told after ≡ formStored r form → Made
+            go : (r : Result (List ℕ)) → normalForm rule ≡ r → buffer told after ≡ ruleStored r form → Made
             go (accepted out) known is =
                 let size : length out ≡ n = cc (ap (λ (o : Buffer). o .answer) is) in
                 let bytes : after ≡ filled form out = ap (λ (o : Buffer). o .bytes) is in

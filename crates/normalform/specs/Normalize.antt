@@ -10,14 +10,14 @@ use Rattle.formula.specs.Limits.{ruleBytes}
 use Rattle.normalform.specs.NormalForm.{normalForm}
 
 -- 25, at place 0: a buffer too short for the longest first-edition rule
-abbrev pub formRoom : List ℕ → Check
-formRoom form = require (leb ruleBytes (length form)) 25 0
+abbrev pub ruleRoom : List ℕ → Check
+ruleRoom lent = require (leb ruleBytes (length lent)) 25 0
 
--- the normal form at the buffer's start, and zeros behind it to its end; a refusal changes no byte
-abbrev pub formStored : Result (List ℕ) → (form : List ℕ) → Buffer
-formStored (accepted bytes) form = buffer (accepted (length bytes)) (filled form bytes)
-formStored (refused number place) form = buffer (refused number place) form
+-- a first-edition rule at the buffer's start, and zeros behind it to its end; a refusal changes no byte
+abbrev pub ruleStored : Result (List ℕ) → (lent : List ℕ) → Buffer
+ruleStored (accepted bytes) lent = buffer (accepted (length bytes)) (filled lent bytes)
+ruleStored (refused number place) lent = buffer (refused number place) lent
 
 -- 25, then 1 to 6, then 26
 unfoldable pub normalizes : (rule form : List ℕ) → Buffer
-normalizes rule form = formStored (andThen (formRoom form) (λ _. normalForm rule)) form
+normalizes rule form = ruleStored (andThen (ruleRoom form) (λ _. normalForm rule)) form

@@ -33,7 +33,7 @@ ghost use Rattle.formula.specs.Limits.{maxNodes, ruleBytes};
 ghost use Rattle.formula.specs.Rule.{eventuallyKind};
 ghost use Rattle.normalform.specs.Written.{writtenCheck};
 ghost use Rattle.normalform.specs.NormalForm.{bit, pairCode, result, sized, writtenChecked};
-ghost use Rattle.normalform.specs.Normalize.{formStored, normalizes};
+ghost use Rattle.normalform.specs.Normalize.{ruleStored, normalizes};
 ghost use Rattle.normalform.specs.Memory.{codePlaces, Walkable, Added, nodeWalk, nodeCode, ownCode};
 ghost use Rattle.normalform.specs.Memory.{constantCode, ownCodes, flagged, Numbered, numberIn, formKind};
 ghost use Rattle.normalform.specs.Memory.{OwnPlace, nodeBytes, codeBytes, Named, Ready, withCode, Forms};
@@ -232,7 +232,7 @@ fn form_node(rule: &[u8], n: usize, negated: bool, numbers: &[u8]) -> u8
 }
 
 // The three bytes of a node.
-fn put_node(form: &mut [u8], at: usize, kind: u8, left: u8, right: u8)
+pub fn put_node(form: &mut [u8], at: usize, kind: u8, left: u8, right: u8)
     requires { ⌜ at + 3 ≤ length (now form) ⌝ }
     ensures { λ _. ⌜ now (form .exit) ≡ sets (now (form .entry)) at (kind ∷ (left ∷ (right ∷ []))) ⌝ }
 {
@@ -336,7 +336,7 @@ fn write_codes(rule: &[u8], needed: &[bool], numbers: &[u8], count: usize, form:
 fn build_form(rule: &[u8], form: &mut [u8]) -> Stored
     requires { ⌜ (writtenCheck (now rule) ≡ fine) × (ruleBytes ≤ length (now form)) ⌝ }
     ensures { λ r. ⌜ buffer (storedAnswer r) (now (form .exit))
-        ≡ formStored (sized (now (rule .entry))) (now (form .entry)) ⌝ }
+        ≡ ruleStored (sized (now (rule .entry))) (now (form .entry)) ⌝ }
 {
     let n = rule.len() / 3;
     let mut needed = [false; CODE_PLACES];

@@ -16,7 +16,8 @@ use Rattle.answer.proofs.Lowest.{fine-first}
 use Rattle.answer.proofs.Results.{never-both, require-fine, required}
 use Rattle.normalform.specs.Written.{writtenCheck}
 use Rattle.normalform.specs.NormalForm.{normalForm, writtenChecked}
-use Rattle.normalform.specs.Normalize.{formRoom, formStored, normalizes}
+use Rattle.normalform.specs.Normalize.{ruleRoom, ruleStored, normalizes}
+use Rattle.merge.specs.Merge.{conjoined, mergeCheck, merges}
 use Rattle.term.specs.Size.{sizeCheck, sizesChecked}
 use Rattle.generalized.specs.Explore.{find, meet, Numbering, meetAll, Walk, explore}
 use Rattle.generalized.specs.Generalized.{productCheck, generalized}
@@ -187,8 +188,21 @@ written-proper rule = then-proper (normalForm rule) untilCheck (form-proper rule
 pub normalizes-proper : (rule form : List ℕ) → Proper (normalizes rule form .answer)
 unfolding normalizes
 normalizes-proper rule form =
-    cases-proper (λ r. formStored r form .answer) (andThen (formRoom form) (λ _. normalForm rule))
+    cases-proper (λ r. ruleStored r form .answer) (andThen (ruleRoom form) (λ _. normalForm rule))
     (search (proper, form-proper)) (λ bytes. accepts) (λ number place. refl)
+
+-- 1 to 6 of two rules, 27, and 7 of the merged one
+merge-proper : (first second : List ℕ) → Proper (mergeCheck first second)
+unfolding mergeCheck
+merge-proper first second = search (proper, syntax-proper, untils-proper) depth 7
+
+-- 25 first
+pub merges-proper : (first second merged : List ℕ) → Proper (merges first second merged .answer)
+unfolding merges
+merges-proper first second merged =
+    cases-proper (λ r. ruleStored r merged .answer)
+    (andThen (ruleRoom merged) (λ _. andThen (mergeCheck first second) (λ _. accepted (conjoined first second))))
+    (search (proper, merge-proper)) (λ bytes. accepts) (λ number place. refl)
 
 -- 1 to 7
 rule-proper : (rule : List ℕ) → Proper (Rule.checked rule)

@@ -11,7 +11,9 @@ use Rattle.formula.specs.Limits.{ruleBytes}
 use Rattle.formula.specs.Rule.{releaseKind}
 use Rattle.formula.proofs.Accepted.{formed-fine}
 use Rattle.normalform.specs.NormalForm.{normalForm, writtenChecked}
-use Rattle.normalform.specs.Normalize.{formRoom, formStored, normalizes}
+use Rattle.normalform.specs.Normalize.{ruleRoom, ruleStored, normalizes}
+use Rattle.merge.specs.Merge.{merges}
+use Rattle.merge.proofs.Merging.{merged-at}
 use Rattle.normalform.proofs.Passes.{normal-form-passes}
 use Rattle.answer.proofs.Results.{never-both, require-fine, then-accepted}
 use Rattle.automaton.specs.Automaton.{Automaton}
@@ -37,7 +39,8 @@ use Rattle.judge.proofs.Pairs.{found-few, judged-few}
 use Rattle.demands.specs.Demand.{roomCheck, inputCheck, concluded, decidedBy, decided}
 use Rattle.automaton.proofs.WellFormed.{few-together}
 use Rattle.correctness.proofs.WellFormed.{written-well-formed}
-use Rattle.office.proofs.Refusals.{Refusal, Proper, normalizes-proper, translated-proper, reads-proper, writes-proper}
+use Rattle.office.proofs.Refusals.{Refusal, Proper, normalizes-proper, merges-proper, translated-proper}
+use Rattle.office.proofs.Refusals.{reads-proper, writes-proper}
 use Rattle.office.proofs.Refusals.{judged-proper, decided-proper, compared-proper}
 use Rattle.office.specs.Packing.{packRefusal, packThree, packCounts, packLength, packFinding, packVerdict}
 use Rattle.office.specs.Packing.{packSame}
@@ -85,17 +88,25 @@ sameOf answer = answer / 256 % 2
 -- of an accepted normalize, the most bytes of a rule
 pub normalizes-small : (rule form : List ℕ) (n : ℕ) → normalizes rule form .answer ≡ accepted n → n ≤ ruleBytes
 unfolding normalizes
-normalizes-small rule form n e = first (formRoom form) e
+normalizes-small rule form n e = first (ruleRoom form) e
   where
-    second : (r : Result (List ℕ)) → normalForm rule ≡ r → formStored r form .answer ≡ accepted n → n ≤ ruleBytes
+    second : (r : Result (List ℕ)) → normalForm rule ≡ r → ruleStored r form .answer ≡ accepted n → n ≤ ruleBytes
     second (accepted bytes) known e =
         let size : length bytes ≡ n = cc in
         omega (arith, formed-fine releaseKind bytes (normal-form-passes rule bytes known) .most)
     second (refused number place) known e = never-both e
 
-    first : (check : Check) → formStored (andThen check (λ _. normalForm rule)) form .answer ≡ accepted n → n ≤ ruleBytes
+    first : (check : Check) → ruleStored (andThen check (λ _. normalForm rule)) form .answer ≡ accepted n → n ≤ ruleBytes
     first (accepted u) e = second (normalForm rule) refl e
     first (refused number place) e = never-both e
+
+-- of an accepted merge, the same
+pub merges-small : (first second merged : List ℕ) (n : ℕ) → merges first second merged .answer ≡ accepted n
+    → n ≤ ruleBytes
+merges-small first second merged n e =
+    let bytes = merges first second merged .bytes in
+    let made = merged-at first second merged n bytes (ap (λ (r : Result ℕ). buffer r bytes) e) in
+    omega (arith, made .size, made .may .few)
 
 -- of an accepted translate
 pub translated-small : (rule s t i : List ℕ) (c : Counts) → translated rule s t i .answer ≡ accepted c → Small c
@@ -294,6 +305,13 @@ pub normalize-unpacks : (rule form : List ℕ)
 normalize-unpacks rule form =
     length-unpacks (normalizes rule form .answer) (normalizes-proper rule form)
     (λ n e. omega (arith, normalizes-small rule form n e))
+
+-- zimboralo_merge
+pub merge-unpacks : (first second merged : List ℕ)
+    → Unpacks LengthRead (packLength (merges first second merged .answer)) (merges first second merged .answer)
+merge-unpacks first second merged =
+    length-unpacks (merges first second merged .answer) (merges-proper first second merged)
+    (λ n e. omega (arith, merges-small first second merged n e))
 
 -- zimboralo_translate
 pub translate-unpacks : (rule s t i : List ℕ)

@@ -66,7 +66,7 @@ packOutcome o = packedTables (packCounts (o .answer)) (o .states) (o .transition
 abbrev pub countsOf : (states transitions initial : ℕ) → Counts
 countsOf states transitions initial = record { states = states; transitions = transitions; initial = initial }
 
--- a packed answer with one lent slice afterwards: the buffer of normalize or write, judge's working bytes
+-- a packed answer with one lent slice afterwards: the buffer of normalize, merge or write, judge's working bytes
 pub record PackedSlice : Type 0 where
   pub answer : ℕ
   pub slice : List ℕ

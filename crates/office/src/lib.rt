@@ -7,12 +7,14 @@ use image::read;
 use image::write;
 use judge::Judged;
 use judge::judge;
+use merge::merge;
 use normalform::normalize;
 use sameword::Compared;
 use sameword::compare;
 use translation::translate;
 ghost use mathlib.Core.Path.{_≡_};
 ghost use Rattle.normalform.specs.Normalize.{normalizes};
+ghost use Rattle.merge.specs.Merge.{merges};
 ghost use Rattle.translation.specs.Translate.{translated};
 ghost use Rattle.image.specs.Calls.{readInto, writes};
 ghost use Rattle.answer.specs.Buffer.{storedAnswer};
@@ -57,7 +59,7 @@ fn pack_counted(counted: Counted) -> u64
     }
 }
 
-// The answer of normalize or write: the length, or the refusal.
+// The answer of normalize, merge or write: the length, or the refusal.
 fn pack_stored(stored: Stored) -> u64
     ensures { λ r. ⌜ r ≡ packLength (storedAnswer stored) ⌝ }
 {
@@ -103,6 +105,15 @@ pub extern "C" fn zimboralo_normalize(rule: &[u8], first_edition: &mut [u8]) -> 
         ≡ packBuffer (normalizes (now (rule .entry)) (now («first_edition» .entry))) ⌝ }
 {
     pack_stored(normalize(rule, first_edition))
+}
+
+// Two first-edition rules as one, the and of both, in the buffer. Its length, or a refusal.
+#[no_mangle]
+pub extern "C" fn zimboralo_merge(first: &[u8], second: &[u8], merged: &mut [u8]) -> u64
+    ensures { λ r. ⌜ packedSlice r (now (merged .exit))
+        ≡ packBuffer (merges (now (first .entry)) (now (second .entry)) (now (merged .entry))) ⌝ }
+{
+    pack_stored(merge(first, second, merged))
 }
 
 // The automaton of a written rule, as records in the three tables. Its counts, or a refusal.

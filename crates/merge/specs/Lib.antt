@@ -1,0 +1,2 @@
+-- Two rules merged into one.
+pub mod Merge
