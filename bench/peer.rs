@@ -40,13 +40,24 @@ struct Term {
 
 const NOTHING: Term = Term { obligations: 0, must: 0, must_not: 0 };
 
-fn join(x: Term, y: Term) -> Option<Term> {
+/// The join of two terms, unless it demands a proposition both ways; then it is dropped, and its conflicts are told.
+fn join(x: Term, y: Term, conflicts: &mut u8) -> Option<Term> {
     let t = Term {
         obligations: x.obligations | y.obligations,
         must: x.must | y.must,
         must_not: x.must_not | y.must_not,
     };
+    *conflicts |= t.must & t.must_not;
     (t.must & t.must_not == 0).then_some(t)
+}
+
+/// All joins of one of each.
+fn joins(xs: &[Term], ys: &[Term], conflicts: &mut u8) -> Vec<Term> {
+    let mut out = Vec::with_capacity(xs.len() * ys.len());
+    for x in xs {
+        out.extend(ys.iter().filter_map(|y| join(*x, *y, conflicts)));
+    }
+    out
 }
 
 /// A set: rising, with no repeats.
@@ -61,8 +72,8 @@ fn union<T: Ord + Copy>(xs: &[T], ys: &[T]) -> Vec<T> {
     set(xs.iter().chain(ys).copied())
 }
 
-fn product(xs: &[Term], ys: &[Term]) -> Vec<Term> {
-    set(xs.iter().flat_map(|x| ys.iter().filter_map(move |y| join(*x, *y))))
+fn product(xs: &[Term], ys: &[Term], conflicts: &mut u8) -> Vec<Term> {
+    set(joins(xs, ys, conflicts).into_iter())
 }
 
 /// 1 to 6.
@@ -138,8 +149,9 @@ fn merge(first: &[u8], second: &[u8], merged: &mut [u8; 96]) -> Answer<usize> {
     Ok(3 * nodes.len())
 }
 
-/// Covers and terms of every node, from those of its children.
-fn expand(nodes: &[Node]) -> Answer<(Vec<Vec<u32>>, Vec<Vec<Term>>)> {
+/// Covers and terms of every node, from those of its children, and the conflicts of all joins.
+fn expand(nodes: &[Node]) -> Answer<(Vec<Vec<u32>>, Vec<Vec<Term>>, u8)> {
+    let mut conflicts = 0;
     let mut covers: Vec<Vec<u32>> = Vec::with_capacity(nodes.len());
     let mut terms: Vec<Vec<Term>> = Vec::with_capacity(nodes.len());
     for (n, node) in nodes.iter().enumerate() {
@@ -159,13 +171,12 @@ fn expand(nodes: &[Node]) -> Answer<(Vec<Vec<u32>>, Vec<Vec<Term>>)> {
             1 => vec![NOTHING],
             2 => vec![Term { must: 1 << l, ..NOTHING }],
             3 => vec![Term { must_not: 1 << l, ..NOTHING }],
-            4 => product(&terms[l], &terms[r]),
+            4 => product(&terms[l], &terms[r], &mut conflicts),
             5 => union(&terms[l], &terms[r]),
             6 => covers[l].iter().map(|&obligations| Term { obligations, ..NOTHING }).collect(),
             7 => terms[r].iter().copied().chain(terms[l].iter().map(owing)).collect(),
-            _ => set(terms[r]
-                .iter()
-                .flat_map(|x| terms[l].iter().filter_map(move |y| join(*x, *y)))
+            _ => set(joins(&terms[r], &terms[l], &mut conflicts)
+                .into_iter()
                 .chain(terms[r].iter().map(owing))),
         };
         if term.len() > 64 || cover.len() > 64 {
@@ -174,7 +185,7 @@ fn expand(nodes: &[Node]) -> Answer<(Vec<Vec<u32>>, Vec<Vec<Term>>)> {
         covers.push(cover);
         terms.push(term);
     }
-    Ok((covers, terms))
+    Ok((covers, terms, conflicts))
 }
 
 pub struct State {
@@ -200,14 +211,14 @@ fn fulfils(f: usize, terms: &[Term], t: Term) -> bool {
 }
 
 /// The terms of a state of the first walk: the product over its obligations, the first one's as they stand.
-fn state_terms(state: u32, terms: &[Vec<Term>], place: usize) -> Answer<Vec<Term>> {
+fn state_terms(state: u32, terms: &[Vec<Term>], place: usize, conflicts: &mut u8) -> Answer<Vec<Term>> {
     let mut owed = (0..terms.len()).filter(|n| state >> n & 1 == 1);
     let mut ts = match owed.next() {
         Some(n) => terms[n].clone(),
         None => vec![NOTHING],
     };
     for n in owed {
-        ts = product(&ts, &terms[n]);
+        ts = product(&ts, &terms[n], conflicts);
         if ts.len() > 128 {
             return refuse(21, place);
         }
@@ -244,9 +255,10 @@ struct Step {
     fulfilled: u8,
 }
 
-pub fn translate(rule: &[u8]) -> Answer<Automaton> {
+/// The automaton of a rule, and the propositions for which some join was dropped.
+pub fn translate(rule: &[u8]) -> Answer<(Automaton, u8)> {
     let nodes = parse(rule)?;
-    let (covers, terms) = expand(&nodes)?;
+    let (covers, terms, mut conflicts) = expand(&nodes)?;
     let untils: Vec<usize> = (0..nodes.len()).filter(|&n| nodes[n].kind == 7).collect();
     let mut sets = covers[nodes.len() - 1].clone();
     let initial = sets.len();
@@ -254,7 +266,7 @@ pub fn translate(rule: &[u8]) -> Answer<Automaton> {
     let mut total = 0;
     while rows.len() < sets.len() {
         let place = rows.len();
-        let ts = undominated(state_terms(sets[place], &terms, place)?, &untils, &terms);
+        let ts = undominated(state_terms(sets[place], &terms, place, &mut conflicts)?, &untils, &terms);
         let mut row = Vec::with_capacity(ts.len());
         let mut last = 0;
         for (term, fulfilled) in ts {
@@ -306,7 +318,7 @@ pub fn translate(rule: &[u8]) -> Answer<Automaton> {
         let at_rest = accepting && transitions.contains(&(0, 0, place as u16));
         states.push(State { accepting, at_rest, transitions });
     }
-    Ok(Automaton { states, initial: (0..initial as u16).collect() })
+    Ok((Automaton { states, initial: (0..initial as u16).collect() }, conflicts))
 }
 
 /// The caller's three tables, as the library fills them: a record for each state, transition and initial number, and
@@ -621,9 +633,10 @@ fn answer(kind: u8, slices: &[&[u8]], tables: &mut Tables) -> u64 {
         256 * states as u64 + 65536 * transitions as u64 + (1 << 32) * initial as u64
     };
     match kind {
-        b'T' => translate(slices[0]).map_or_else(refused, |a| {
+        b'T' => translate(slices[0]).map_or_else(refused, |(a, conflicts)| {
             tables.fill(&a);
             counted([a.states.len(), a.states.iter().map(|s| s.transitions.len()).sum(), a.initial.len()])
+                + ((conflicts as u64) << 40)
         }),
         b'R' => load(slices[0], in_one, tables).map_or_else(refused, counted),
         b'r' => load(slices[0], in_two, tables).map_or_else(refused, counted),

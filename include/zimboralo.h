@@ -95,7 +95,8 @@ uint64_t zimboralo_merge(const uint8_t *first, size_t first_len, const uint8_t *
                          uint8_t *merged, size_t merged_len);
 
 /* The automaton of a written rule, as records in three tables. Its counts, or the first refusal of 25, 1 to 6, 26, 7
- * and 20 to 24 in this order; 7 and 20 are about the rule in negation normal form. */
+ * and 20 to 24 in this order; 7 and 20 are about the rule in negation normal form. With the counts come the
+ * propositions that were demanded both ways in one letter, see zimboralo_conflicts; no other call tells these. */
 uint64_t zimboralo_translate(const uint8_t *rule, size_t rule_len, uint8_t *states, size_t states_len,
                              uint8_t *transitions, size_t transitions_len, uint8_t *initial, size_t initial_len);
 
@@ -138,6 +139,12 @@ static inline uint32_t zimboralo_place(uint64_t answer) { return (uint32_t)(answ
 static inline unsigned zimboralo_states(uint64_t answer) { return (unsigned)(answer >> 8 & 0xff); }
 static inline unsigned zimboralo_transitions(uint64_t answer) { return (unsigned)(answer >> 16 & 0xffff); }
 static inline unsigned zimboralo_initial(uint64_t answer) { return (unsigned)(answer >> 32 & 0xff); }
+
+/* Of an accepted translate: the propositions that were demanded both ways in one letter, bit p for proposition p. For
+ * each of these two parts of the rule could not be joined, since one asks for it and the other forbids it; 0 says that
+ * all could be joined. A rule with conflicts may still be kept. One that every lasso breaks may have none, if a false
+ * is the reason; if it has some, these are the propositions to look at first. */
+static inline unsigned zimboralo_conflicts(uint64_t answer) { return (unsigned)(answer >> 40 & 0xff); }
 
 /* Of an accepted normalize, merge or write: the rule's or the image's length. */
 static inline size_t zimboralo_length(uint64_t answer) { return (size_t)(answer >> 8 & 0xffffffff); }

@@ -139,6 +139,29 @@ def clauses(rng):
     return b.bytes()
 
 
+def clashing(rng):
+    """Three to five clauses over one to three propositions in both signs, joined, mostly by and. Most of them demand a
+    proposition both ways in one letter: at once, below a next, or in a state that the walk meets later."""
+    b = Builder()
+    propositions = rng.choice((1, 1, 2, 2, 3))
+
+    def literal():
+        return b.leaf(rng.choice((PROPOSITION, NEGATION)), rng.randrange(propositions))
+
+    def left(kind):
+        constant = {UNTIL: TRUE, RELEASE: FALSE}.get(kind)
+        return b.leaf(constant) if constant is not None and rng.random() < .5 else literal()
+
+    def clause(depth):
+        if depth == 0 or rng.random() < .2:
+            return literal()
+        kind = rng.choice((AND, OR, NEXT, NEXT, UNTIL, RELEASE))
+        return b.add(NEXT, clause(depth - 1)) if kind == NEXT else b.add(kind, left(kind), clause(depth - 1))
+
+    b.joined(AND if rng.random() < .9 else OR, [clause(rng.randrange(4)) for _ in range(rng.randrange(3, 6))])
+    return b.bytes()
+
+
 # all operators; until-heavy ones, for 7
 FLAVOURS = ((AND, OR, NEXT, UNTIL, RELEASE), (NEXT, UNTIL, UNTIL))
 
@@ -154,8 +177,11 @@ def first_edition(rng):
 
 
 def well_formed(rng):
-    """A well-formed rule of either edition."""
-    return first_edition(rng) if rng.random() < .4 else written.random_rule(rng)
+    """A well-formed rule of either edition, some of them of clauses that clash."""
+    pick = rng.random()
+    if pick < .2:
+        return clashing(rng)
+    return first_edition(rng) if pick < .5 else written.random_rule(rng)
 
 
 def any_rule(rng):

@@ -1,8 +1,8 @@
 /* Every lent buffer at its exact smallest size between guard bytes that must stay as they were; and one byte shorter,
  * which is refused by 25 with every byte as it was. The functions over structs against the plain calls, the header's
- * limits against what the library takes, the bytes of rules in negation normal form and of merged ones, refusal 11 at
- * every state record, verdicts with a known number of pairs, and lassos that are one word or are not. Prints one line
- * and exits 1 where something is wrong. */
+ * limits against what the library takes, the bytes of rules in negation normal form and of merged ones, rules that
+ * demand propositions both ways, refusal 11 at every state record, verdicts with a known number of pairs, and lassos
+ * that are one word or are not. Prints one line and exits 1 where something is wrong. */
 #include <stdio.h>
 #include <stdlib.h>
 #include <string.h>
@@ -134,6 +134,9 @@ static uint64_t decide(const uint8_t *rule, size_t length, const uint8_t *stem, 
                             size_of(WORK, shorter));
 }
 
+/* What is left of an answer of translate without its conflicts: the counts alone. */
+static uint64_t counts_of(uint64_t made) { return made & 0xffffffffff; }
+
 /* Whether n bytes of a buffer are zero. */
 static int zero(enum buffer b, size_t n)
 {
@@ -203,7 +206,8 @@ static void whole(const uint8_t *rule, size_t length)
     expect(zimboralo_number(judge(copy, zimboralo_length(written), cycle, 1, cycle, sizeof cycle, BUFFERS)) == 0,
            "judge refused", "a plan");
     expect_guards("judge touched a guard");
-    expect(read_image(copy, zimboralo_length(written), BUFFERS) == made, "read and translate differ", "counts");
+    expect(read_image(copy, zimboralo_length(written), BUFFERS) == counts_of(made), "read and translate differ",
+           "counts");
     expect_guards("read touched a guard");
 
     for (int shorter = STATES; shorter <= INITIAL; shorter++) {
@@ -748,6 +752,71 @@ static void rests(void)
         }
 }
 
+/* Rules with the propositions that they demand both ways, a bit each, and their states and transitions, by hand. */
+static const struct {
+    struct zimboralo_rule rule;
+    unsigned conflicts, states, transitions;
+} CONFLICTS[] = {
+    /* 0 and 1; 0 until not 0, whose own joins drop nothing */
+    {{{2, 0, 0, 2, 1, 0, 4, 0, 1}, 9}, 0, 2, 2},
+    {{{2, 0, 0, 3, 0, 0, 7, 0, 1}, 9}, 0, 2, 3},
+    /* 0 release not 0: both at once is dropped, not 0 for ever stays */
+    {{{2, 0, 0, 3, 0, 0, 8, 0, 1}, 9}, 1 << 0, 1, 1},
+    /* 0 and not 0: a state with no transition */
+    {{{2, 0, 0, 3, 0, 0, 4, 0, 1}, 9}, 1 << 0, 1, 0},
+    /* (0 and 1) and (not 0 and not 1): both in one join */
+    {{{2, 0, 0, 2, 1, 0, 4, 0, 1, 3, 0, 0, 3, 1, 0, 4, 3, 4, 4, 2, 5}, 21}, 1 << 0 | 1 << 1, 1, 0},
+    /* always (1 implies 2), and 1, and not 2: not 1 clashes with 1, and 2 with not 2 */
+    {{{2, 1, 0, 2, 2, 0, 10, 0, 1, 11, 2, 0, 9, 1, 0, 4, 0, 4, 4, 3, 5}, 21}, 1 << 1 | 1 << 2, 1, 0},
+    /* (0 or 1) and (not 0 or 2): one of four ways is dropped, and three lead on */
+    {{{2, 0, 0, 2, 1, 0, 5, 0, 1, 3, 0, 0, 2, 2, 0, 5, 3, 4, 4, 2, 5}, 21}, 1 << 0, 5, 4},
+    /* always 7 and eventually not 7, the highest bit: it waits for ever */
+    {{{2, 7, 0, 11, 0, 0, 9, 0, 0, 12, 2, 0, 4, 1, 3}, 15}, 1 << 7, 1, 1},
+    /* next 4 and next not 4: no node's terms clash, the product of the second state does */
+    {{{2, 4, 0, 6, 0, 0, 3, 4, 0, 6, 2, 0, 4, 1, 3}, 15}, 1 << 4, 2, 1},
+    /* false and next (1 and not 1): there is no state, and the clash is below the next alone */
+    {{{0, 0, 0, 2, 1, 0, 3, 1, 0, 4, 1, 2, 6, 3, 0, 4, 0, 4}, 18}, 1 << 1, 0, 0},
+    /* next (0 or not 0) and next not 0: the state of 0 and not 0 is not met, as the other one owes not 0 alone */
+    {{{2, 0, 0, 3, 0, 0, 5, 0, 1, 6, 2, 0, 6, 1, 0, 4, 3, 4}, 18}, 0, 3, 3},
+    /* next (1 until true) and next not 1: what clashes is a term that the free one of the until dominates */
+    {{{2, 1, 0, 1, 0, 0, 7, 0, 1, 6, 2, 0, 3, 1, 0, 6, 4, 0, 4, 3, 5}, 21}, 1 << 1, 3, 3},
+};
+
+/* The list above by translate, whose answer has the counts and above them the conflicts; by the image that is written
+ * and read back, whose answer has the counts alone; and by decide, whose answer has neither. A refusal has none: the
+ * rule of 97 pairs with not 0 for 5 demands 0 both ways before it is refused. */
+static void conflicts(void)
+{
+    static uint8_t copy[ZIMBORALO_IMAGE_BYTES];
+    const uint8_t cycle[] = {0};
+    uint8_t too_many[sizeof pairs];
+    memcpy(too_many, pairs, sizeof pairs);
+    too_many[3 * 11] = 3;
+    too_many[3 * 11 + 1] = 0;
+    refill();
+    expect(translate(too_many, sizeof too_many, BUFFERS) == (ZIMBORALO_TOO_MANY_PAIRS | 64 << 8), "conflicts",
+           "a refusal has them");
+    for (size_t i = 0; i < sizeof CONFLICTS / sizeof *CONFLICTS; i++) {
+        const struct zimboralo_rule *rule = &CONFLICTS[i].rule;
+        refill();
+        uint64_t made = translate(rule->bytes, rule->length, BUFFERS);
+        expect(zimboralo_conflicts(made) == CONFLICTS[i].conflicts, "conflicts", "another set");
+        expect(zimboralo_number(made) == 0 && zimboralo_states(made) == CONFLICTS[i].states
+                   && zimboralo_transitions(made) == CONFLICTS[i].transitions && made >> 48 == 0,
+               "conflicts", "another answer");
+        size_t length = zimboralo_length(write_image(made, BUFFERS));
+        memcpy(copy, lent(IMAGE), length);
+        expect(read_image(copy, length, BUFFERS) == counts_of(made), "conflicts", "read has them too");
+        expect(decide(rule->bytes, rule->length, cycle, 0, cycle, 1, BUFFERS) >> 32 == 0, "conflicts",
+               "decide has them too");
+        expect_guards("a rule with conflicts touched a guard");
+        for (int shorter = STATES; shorter <= INITIAL; shorter++)
+            expect(translate(rule->bytes, rule->length, shorter) == ZIMBORALO_TABLE_TOO_SHORT,
+                   "conflicts with a short", NAMES[shorter]);
+        over_structs(rule->bytes, rule->length);
+    }
+}
+
 /* Rules and lassos with their verdicts and the pairs that judging takes, worked out by hand. The letters are those of
  * the stem and then of the cycle, zero where none is given. */
 static const struct {
@@ -1003,6 +1072,7 @@ int main(void)
     node_too_many(EVENTUALLY);
     normal_forms();
     merged_rules();
+    conflicts();
     state_records();
     last_bytes();
     rests();

@@ -1,5 +1,6 @@
 // The headers from C++: a written rule in negation normal form, merged with another, and with a plan to the verdict; a
-// refusal in words; one plan written in two ways. Exits 0 where all are right.
+// rule that demands a proposition both ways; a refusal in words; one plan written in two ways. Exits 0 where all are
+// right.
 #include <cstring>
 
 #include "zimboralo.h"
@@ -16,11 +17,14 @@ int main()
     static zimboralo_rule merged;
     const uint8_t never[] = {0, 0, 0}, longer[] = {1, 0, 0};
     uint64_t both = zimboralo_merge_rules(normal.bytes, normal.length, never, sizeof never, &merged);
+    const uint8_t both_ways[] = {2, 3, 0, 3, 3, 0, 4, 0, 1};
+    uint64_t made = zimboralo_translate_rule(both_ways, sizeof both_ways, &buffers.tables);
     uint64_t same = zimboralo_same_word(letters, 1, letters + 1, 1, longer, 1, longer + 1, 2);
     return zimboralo_number(normalized) == ZIMBORALO_ACCEPTED && normal.length == sizeof until
                    && std::memcmp(normal.bytes, until, sizeof until) == 0
                    && zimboralo_number(both) == ZIMBORALO_ACCEPTED && merged.length == sizeof until + sizeof never + 3
                    && zimboralo_number(kept) == ZIMBORALO_ACCEPTED && zimboralo_kept(kept) && zimboralo_pairs(kept) == 2
+                   && zimboralo_number(made) == ZIMBORALO_ACCEPTED && zimboralo_conflicts(made) == 1 << 3
                    && zimboralo_number(same) == ZIMBORALO_ACCEPTED && zimboralo_same(same)
                    && std::strcmp(zimboralo_text(zimboralo_number(refused)), "the plan's loop is empty") == 0
                ? 0

@@ -1,5 +1,6 @@
 /* The office program: written rules, one or several, and a lasso, from bytes to the verdict in words, with how many
- * pairs of a slot and a state judging took; or two lassos, and whether they are one plan.
+ * pairs of a slot and a state judging took, and behind it the marks that the rules demand both ways in one slot, if
+ * there are any; or two lassos, and whether they are one plan.
  *
  *     office RULE.. STEM CYCLE                 each in hexadecimal, or @FILE for a file's bytes; - for none
  *     office same STEM CYCLE STEM CYCLE        likewise
@@ -73,31 +74,57 @@ static int refused(uint64_t answer, const char *which)
     return 2;
 }
 
-/* A rule against a plan. What is refused of the rule itself has `which` behind it. */
-static int decide(const uint8_t *rule, size_t length, char **words, const char *which)
+/* The marks that were demanded both ways, a bit each; nothing where there are none. */
+static void print_conflicts(unsigned marks)
 {
-    static struct zimboralo_buffers buffers;
-    struct bytes stem = from_word(words[0]), cycle = from_word(words[1]);
-    uint64_t answer = zimboralo_decide_plan(rule, length, stem.at, stem.length, cycle.at, cycle.length, &buffers);
-    unsigned number = zimboralo_number(answer);
-    free(stem.at);
-    free(cycle.at);
-    if (!accepted(answer))
-        return refused(answer, number == ZIMBORALO_EMPTY_CYCLE || number == ZIMBORALO_TOO_MANY_LETTERS ? "" : which);
-    printf("%s, pairs taken: %u\n", zimboralo_kept(answer) ? "kept" : "broken", zimboralo_pairs(answer));
-    return zimboralo_kept(answer) ? 0 : 1;
+    if (!marks)
+        return;
+    printf("marks demanded both ways:");
+    for (unsigned mark = 0; marks >> mark; mark++)
+        if (marks >> mark & 1)
+            printf(" %u", mark);
+    puts("");
 }
 
-static int decide_one(char **words)
+/* A rule against a plan: translate, write and judge in a row. What is refused of the rule has `which` behind it. */
+static int judge(const uint8_t *rule, size_t length, const struct bytes *stem, const struct bytes *cycle,
+                 const char *which)
+{
+    static struct zimboralo_buffers buffers;
+    uint64_t made = zimboralo_translate_rule(rule, length, &buffers.tables);
+    if (!accepted(made))
+        return refused(made, which);
+    uint64_t written = zimboralo_write_image(&buffers.tables, &buffers.image);
+    if (!accepted(written))
+        return refused(written, which);
+    uint64_t found = zimboralo_judge_plan(stem->at, stem->length, cycle->at, cycle->length, &buffers);
+    if (!accepted(found))
+        return refused(found, "");
+    printf("%s, pairs taken: %u\n", zimboralo_kept(found) ? "kept" : "broken", zimboralo_pairs(found));
+    print_conflicts(zimboralo_conflicts(made));
+    return zimboralo_kept(found) ? 0 : 1;
+}
+
+/* The same with the plan's two words. */
+static int judge_words(const uint8_t *rule, size_t length, char **words, const char *which)
+{
+    struct bytes stem = from_word(words[0]), cycle = from_word(words[1]);
+    int status = judge(rule, length, &stem, &cycle, which);
+    free(stem.at);
+    free(cycle.at);
+    return status;
+}
+
+static int judge_one(char **words)
 {
     struct bytes rule = from_word(words[0]);
-    int status = decide(rule.at, rule.length, words + 1, "");
+    int status = judge_words(rule.at, rule.length, words + 1, "");
     free(rule.at);
     return status;
 }
 
 /* Several rules against a plan: each in negation normal form, merged with those before it. */
-static int decide_all(char **words, int count)
+static int judge_all(char **words, int count)
 {
     struct zimboralo_rule all, form, both;
     for (int i = 0; i < count; i++) {
@@ -116,7 +143,7 @@ static int decide_all(char **words, int count)
             return refused(answer, which);
         all = both;
     }
-    return decide(all.bytes, all.length, words + count, " (all rules merged)");
+    return judge_words(all.bytes, all.length, words + count, " (all rules merged)");
 }
 
 static int compare(char **words)
@@ -139,9 +166,9 @@ int main(int count, char **words)
     if (count == 6 && strcmp(words[1], "same") == 0)
         return compare(words + 2);
     if (count == 4)
-        return decide_one(words + 1);
+        return judge_one(words + 1);
     if (count > 4)
-        return decide_all(words + 1, count - 3);
+        return judge_all(words + 1, count - 3);
     stop("usage", "office RULE.. STEM CYCLE, or office same STEM CYCLE STEM CYCLE");
     return 2;
 }

@@ -4,16 +4,18 @@
  *     N rule                   its negation normal form in hexadecimal, or `refused N place P`; `other` where the bytes
  *                              behind it are not zero, or a refusal has touched one
  *     M rule rule              likewise of both rules merged
- *     T rule                   the image's bytes in hexadecimal, or the refusal
+ *     T rule                   the conflicts, and the image's bytes, in hexadecimal, or the refusal
  *     J image stem cycle       `kept` or `broken` and how many pairs were taken, or the refusal; `other` where a
- *                              verdict leaves a working byte that is not zero, or a refusal has touched one
- *     R image                  `same` if read and then written it is the same bytes, `other` if not, or the refusal
+ *                              verdict leaves a working byte that is not zero, or a refusal has touched one, or the
+ *                              answer has anything else
+ *     R image                  `same` if read and then written it is the same bytes, `other` if not or if the answer
+ *                              has more than the counts, or the refusal
  *     W counts and three tables   the image's bytes, or the refusal; the counts are three numbers of four bytes
  *     D rule stem cycle        as J, of deciding in one call; `other` where a buffer is not as the calls leave it
  *     B rule rule stem cycle   as D, of both rules merged, or merge's refusal
  *     S stem cycle stem cycle  `one word` or `two words`, or the refusal
  *
- * One line each. It ends where the input does. */
+ * One line each; `other` also for a refusal that has more than its number and place. It ends where the input does. */
 #include <stdio.h>
 #include <stdlib.h>
 #include <string.h>
@@ -45,18 +47,27 @@ static uint8_t *slice(size_t *length)
     return at;
 }
 
+/* Prints a refusal, of which nothing stands above its place. */
 static int refused(uint64_t answer)
 {
     if (zimboralo_number(answer) == ZIMBORALO_ACCEPTED)
         return 0;
-    printf("refused %u place %u\n", zimboralo_number(answer), zimboralo_place(answer));
+    if (answer >> 40)
+        puts("other");
+    else
+        printf("refused %u place %u\n", zimboralo_number(answer), zimboralo_place(answer));
     return 1;
 }
 
 static void print_verdict(uint64_t answer)
 {
-    if (!refused(answer))
-        printf("%s %u\n", zimboralo_kept(answer) ? "kept" : "broken", zimboralo_pairs(answer));
+    if (refused(answer))
+        return;
+    unsigned kept = (unsigned)zimboralo_kept(answer), pairs = zimboralo_pairs(answer);
+    if (answer != ((uint64_t)kept << 8 | (uint64_t)pairs << 16))
+        puts("other");
+    else
+        printf("%s %u\n", kept ? "kept" : "broken", pairs);
 }
 
 static void print_bytes(const uint8_t *bytes, size_t length)
@@ -124,8 +135,11 @@ static void translate(void)
 {
     size_t n;
     uint8_t *rule = slice(&n);
-    if (!refused(zimboralo_translate_rule(rule, n, &buffers.tables)))
+    uint64_t made = zimboralo_translate_rule(rule, n, &buffers.tables);
+    if (!refused(made)) {
+        printf("%02x ", zimboralo_conflicts(made));
         print_image(zimboralo_write_image(&buffers.tables, &buffers.image));
+    }
     free(rule);
 }
 
@@ -148,9 +162,10 @@ static void read_back(void)
 {
     size_t n;
     uint8_t *bytes = slice(&n);
-    if (!refused(zimboralo_read_image(bytes, n, &buffers.tables))
-        && !refused(zimboralo_write_image(&buffers.tables, &buffers.image)))
-        puts(buffers.image.length == n && memcmp(buffers.image.bytes, bytes, n) == 0 ? "same" : "other");
+    uint64_t loaded = zimboralo_read_image(bytes, n, &buffers.tables);
+    if (!refused(loaded) && !refused(zimboralo_write_image(&buffers.tables, &buffers.image)))
+        puts(!(loaded >> 40) && buffers.image.length == n && memcmp(buffers.image.bytes, bytes, n) == 0 ? "same"
+                                                                                                         : "other");
     free(bytes);
 }
 

@@ -18,7 +18,7 @@ use Rattle.automaton.specs.Limits.{statesBytes, transitionsBytes, initia
 abbrev pub Counts : Type 0
 Counts = Struct
 
--- what the answer of translate, read or check tells in document 01's numbers and values
+-- what an answer of that kind tells in document 01's numbers and values
 abbrev pub told : Counted → Result Counts
 told (Accepted c) = accepted c
 told (Refused number place) = refused number place

@@ -26,7 +26,7 @@ pub struct Counts {
     pub initial: usize,
 }
 
-// The answer of a call that gives an automaton: its counts, or a refusal's number and place.
+// An automaton's counts, or a refusal's number and place: the answer of reading and of checking an image.
 pub enum Counted {
     Accepted(Counts),
     Refused(u8, usize),

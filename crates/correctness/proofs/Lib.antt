@@ -14,5 +14,7 @@ pub mod Walks
 pub mod Represented
 pub mod AcceptingPass
 pub mod Dropping
+pub mod ConflictsExactly
+pub mod BothSigns
 pub mod Labels
 pub mod WellFormed

@@ -1,13 +1,14 @@
--- The rows P1 to P9 of 01, Watchers to hold against the definitions, and four of R-3 under one theorem: normal form,
--- first walk, automaton, given images, verdicts and numbers of pairs of each, computed from the definitions. Assumes
--- nothing.
+-- The rows P1 to P9 of 01, Watchers to hold against the definitions, four of R-3 and two of R-8 under one theorem: normal
+-- form, first walk, conflicts, automaton, given images, verdicts and numbers of pairs of each, computed from the
+-- definitions. Assumes nothing.
 use Prim.Native.Nat.{ℕ, _≤_}
 use mathlib.Core.Path.{_≡_, refl, sym, _∙_, ap}
 use mathlib.Core.Logic.{inl, inr}
 use mathlib.Core.List.{List, [], _∷_, map}
 use mathlib.Core.Bool.{Bool, true, false}
 use lib.ListN.{length}
-use Rattle.sets.specs.Sets.{insert, union, insertJoin, insertJoins, insertProduct, any, In}
+use lib.Bits.{bitOr}
+use Rattle.sets.specs.Sets.{insert, union, insertJoin, insertJoins, insertProduct, joinConflicts, productConflicts, any, In}
 use Rattle.answer.specs.Result.{Result, accepted, andThen, fine, lowest}
 use Rattle.formula.specs.Rule.{leftOperand, oneChild, rightOperand, lengthCheck, nodeCheck, places, placeCheck}
 use Rattle.formula.specs.Rule.{syntaxCheck, untils, untilCheck}
@@ -17,17 +18,19 @@ use Rattle.normalform.specs.Written.{writtenCheck, writtenTree}
 use Rattle.normalform.specs.NormalForm.{code, below, member, rank, emit, size, result, normalForm}
 use Rattle.normalform.specs.NormalForm
 use Rattle.lasso.specs.Lasso.{letter, lassoCheck}
-use Rattle.term.specs.Term.{cover, terms}
+use Rattle.term.specs.Term.{cover, terms, conflicts}
 use Rattle.term.specs.Size.{sizeCheck, sizesChecked}
 use Rattle.generalized.specs.Explore.{find, meet, meetAll, explore}
 use Rattle.acceptance.specs.Acceptance.{shows, fulfils, bitsOf, fulfilment}
 use Rattle.domination.specs.Domination.{dominates, sift}
 use Rattle.generalized.specs.Generalized.{partialProduct, transitions, productCheck, targets, generalized}
+use Rattle.generalized.specs.Generalized.{partialConflicts, walkConflicts}
 use Rattle.generalized.specs.Memory.{allTransitions}
 use Rattle.automaton.specs.Automaton.{Transition, State, Automaton, atRest}
 use Rattle.translation.specs.Degeneralized.{climb, nextLevel, numbers, initialNumbers, pairTransitions, target}
 use Rattle.translation.specs.Degeneralized.{degeneralized, stateOf, translation}
 use Rattle.translation.specs.Translate.{writtenTranslation}
+use Rattle.translation.specs.Conflicts.{ruleConflicts, writtenConflicts}
 use Rattle.automaton.specs.Records.{records, numbered, stateRecord, transitionRecord, stateRecords, transitionRecords}
 use Rattle.automaton.specs.Records.{initialRecords}
 use Rattle.answer.specs.Bytes.{twoBytes}
@@ -48,12 +51,13 @@ pub record Case : Type 0 where
   pub finds : Finding
 
 -- a rule as it is written, its negation normal form, the obligation sets of the form's first walk and the count of its
--- transitions, the automaton, its image if one is given, and what judging finds by it
+-- transitions, the propositions demanded both ways, the automaton, its image if one is given, and what judging finds by it
 pub record Row : Type 0 where
   pub rule : List ℕ
   pub form : List ℕ
   pub sets : List ℕ
   pub count : ℕ
+  pub conflicts : ℕ
   pub automaton : Automaton
   pub images : List (List ℕ)
   pub cases : List Case
@@ -63,6 +67,7 @@ pub record Right (row : Row) : Type 0 where
   pub formed : normalForm (row .rule) ≡ accepted (row .form)
   pub walked : generalized (row .form) ≡ accepted (row .sets)
   pub counted : length (allTransitions (row .form) (row .sets)) ≡ row .count
+  pub carried : writtenConflicts (row .rule) ≡ accepted (row .conflicts)
   pub translated : writtenTranslation (row .rule) ≡ accepted (row .automaton)
   pub imaged : All (λ image. imageBytes (row .automaton) ≡ image) (row .images)
   pub judges : All
@@ -86,6 +91,7 @@ writtenAs rule row = record {
   form = row .form;
   sets = row .sets;
   count = row .count;
+  conflicts = row .conflicts;
   automaton = row .automaton;
   images = row .images;
   cases = row .cases;
@@ -99,6 +105,7 @@ p1 = record {
   form = 0 ∷ 0 ∷ 0 ∷ [];
   sets = [];
   count = 0;
+  conflicts = 0;
   automaton = record { states = []; initial = [] };
   images = [];
   cases = on [] (0 ∷ []) broken 0 ∷ [];
@@ -110,6 +117,7 @@ p2 = record {
   form = 1 ∷ 0 ∷ 0 ∷ [];
   sets = 0 ∷ [];
   count = 1;
+  conflicts = 0;
   automaton = record { states = state true (transition 0 0 0 ∷ []) ∷ []; initial = 0 ∷ [] };
   images = [];
   cases = [];
@@ -121,6 +129,7 @@ p3 = record {
   form = 2 ∷ 0 ∷ 0 ∷ [];
   sets = 1 ∷ 0 ∷ [];
   count = 2;
+  conflicts = 0;
   automaton = record { states = state true (transition 1 0 1 ∷ []) ∷ state true (transition 0 0 1 ∷ []) ∷ []; initial = 0 ∷ [] };
   images = (1 ∷ 0 ∷ 2 ∷ 0 ∷ 18 ∷ 0 ∷ 2 ∷ 0 ∷ 2 ∷ 0 ∷ 26 ∷ 0 ∷ 3 ∷ 0 ∷ 1 ∷ 0 ∷ 34 ∷ 0
       ∷ 1 ∷ 0 ∷ 1 ∷ 0 ∷ 1 ∷ 0 ∷ 1 ∷ 1 ∷ 1 ∷ 0 ∷ 1 ∷ 0 ∷ 0 ∷ 0 ∷ 1 ∷ 0 ∷ 0 ∷ 0 ∷ []) ∷ [];
@@ -133,6 +142,7 @@ p4 = record {
   form = 1 ∷ 0 ∷ 0 ∷ 2 ∷ 0 ∷ 0 ∷ 7 ∷ 0 ∷ 1 ∷ [];
   sets = 4 ∷ 0 ∷ [];
   count = 3;
+  conflicts = 0;
   automaton = record { states = state false (transition 1 0 1 ∷ transition 0 0 0 ∷ []) ∷ state true (transition 0 0 1 ∷ []) ∷ []; initial = 0 ∷ [] };
   images = [];
   cases = on (1 ∷ []) (0 ∷ []) kept 2 ∷ on [] (0 ∷ []) broken 1 ∷ [];
@@ -144,6 +154,7 @@ p5 = record {
   form = 0 ∷ 0 ∷ 0 ∷ 2 ∷ 0 ∷ 0 ∷ 8 ∷ 0 ∷ 1 ∷ [];
   sets = 4 ∷ [];
   count = 1;
+  conflicts = 0;
   automaton = record { states = state true (transition 1 0 0 ∷ []) ∷ []; initial = 0 ∷ [] };
   images = [];
   cases = on [] (1 ∷ []) kept 1 ∷ on (0 ∷ []) (1 ∷ []) broken 1 ∷ [];
@@ -155,6 +166,7 @@ p6 = record {
   form = 2 ∷ 0 ∷ 0 ∷ 6 ∷ 0 ∷ 0 ∷ [];
   sets = 2 ∷ 1 ∷ 0 ∷ [];
   count = 3;
+  conflicts = 0;
   automaton = record { states = state true (transition 0 0 1 ∷ []) ∷ state true (transition 1 0 2 ∷ []) ∷ state true (transition 0 0 2 ∷ []) ∷ []; initial = 0 ∷ [] };
   images = [];
   cases = on [] (1 ∷ []) kept 3 ∷ on [] (1 ∷ 0 ∷ []) broken 2 ∷ [];
@@ -166,6 +178,7 @@ p7 = record {
   form = 2 ∷ 0 ∷ 0 ∷ 2 ∷ 1 ∷ 0 ∷ 7 ∷ 0 ∷ 1 ∷ [];
   sets = 4 ∷ 0 ∷ [];
   count = 3;
+  conflicts = 0;
   automaton = record { states = state false (transition 2 0 1 ∷ transition 1 0 0 ∷ []) ∷ state true (transition 0 0 1 ∷ []) ∷ []; initial = 0 ∷ [] };
   images = [];
   cases = on (1 ∷ 1 ∷ []) (2 ∷ []) kept 4 ∷ on [] (1 ∷ []) broken 1 ∷ [];
@@ -177,6 +190,7 @@ p8 = record {
   form = 2 ∷ 0 ∷ 0 ∷ 2 ∷ 1 ∷ 0 ∷ 8 ∷ 0 ∷ 1 ∷ [];
   sets = 4 ∷ 0 ∷ [];
   count = 3;
+  conflicts = 0;
   automaton = record { states = state true (transition 3 0 1 ∷ transition 2 0 0 ∷ []) ∷ state true (transition 0 0 1 ∷ []) ∷ []; initial = 0 ∷ [] };
   images = [];
   cases = on [] (2 ∷ []) kept 1 ∷ on (3 ∷ []) (0 ∷ []) kept 2 ∷ on (2 ∷ []) (1 ∷ []) broken 2 ∷ [];
@@ -188,6 +202,7 @@ p9 = record {
   form = 0 ∷ 0 ∷ 0 ∷ 1 ∷ 0 ∷ 0 ∷ 2 ∷ 0 ∷ 0 ∷ 7 ∷ 1 ∷ 2 ∷ 8 ∷ 0 ∷ 3 ∷ [];
   sets = 16 ∷ 24 ∷ [];
   count = 4;
+  conflicts = 0;
   automaton = record {
     states = state false (transition 1 0 1 ∷ transition 0 0 2 ∷ []) ∷ state true (transition 1 0 1 ∷ transition 0 0 2 ∷ [])
         ∷ state false (transition 1 0 1 ∷ transition 0 0 2 ∷ []) ∷ [];
@@ -217,6 +232,7 @@ ifOpenPadded = record {
   form = 0 ∷ 0 ∷ 0 ∷ 3 ∷ 0 ∷ 0 ∷ 2 ∷ 1 ∷ 0 ∷ 5 ∷ 1 ∷ 2 ∷ 8 ∷ 0 ∷ 3 ∷ [];
   sets = 16 ∷ [];
   count = 2;
+  conflicts = 0;
   automaton = record { states = state true (transition 0 1 0 ∷ transition 2 0 0 ∷ []) ∷ []; initial = 0 ∷ [] };
   images = (1 ∷ 0 ∷ 1 ∷ 0 ∷ 18 ∷ 0 ∷ 2 ∷ 0 ∷ 2 ∷ 0 ∷ 22 ∷ 0 ∷ 3 ∷ 0 ∷ 1 ∷ 0 ∷ 30 ∷ 0
       ∷ 2 ∷ 0 ∷ 1 ∷ 0 ∷ 0 ∷ 1 ∷ 0 ∷ 0 ∷ 2 ∷ 0 ∷ 0 ∷ 0 ∷ 0 ∷ 0 ∷ []) ∷ [];
@@ -224,19 +240,50 @@ ifOpenPadded = record {
       ∷ on (0 ∷ []) (3 ∷ 1 ∷ []) broken 3 ∷ [];
 }
 
+-- ---- rows of R-8: proposition 0 is demanded and forbidden
+
+-- at once: the one state has no transition
+bothWays : Row
+bothWays = record {
+  rule = 2 ∷ 0 ∷ 0 ∷ 3 ∷ 0 ∷ 0 ∷ 4 ∷ 0 ∷ 1 ∷ [];
+  form = 2 ∷ 0 ∷ 0 ∷ 3 ∷ 0 ∷ 0 ∷ 4 ∷ 0 ∷ 1 ∷ [];
+  sets = 3 ∷ [];
+  count = 0;
+  conflicts = 1;
+  automaton = record { states = state true [] ∷ []; initial = 0 ∷ [] };
+  images = [];
+  cases = on [] (0 ∷ []) broken 1 ∷ on [] (1 ∷ []) broken 1 ∷ [];
+}
+
+-- at the next letter: no node joins the two, the second state's product does
+bothWaysNext : Row
+bothWaysNext = record {
+  rule = 2 ∷ 0 ∷ 0 ∷ 6 ∷ 0 ∷ 0 ∷ 3 ∷ 0 ∷ 0 ∷ 6 ∷ 2 ∷ 0 ∷ 4 ∷ 1 ∷ 3 ∷ [];
+  form = 2 ∷ 0 ∷ 0 ∷ 6 ∷ 0 ∷ 0 ∷ 3 ∷ 0 ∷ 0 ∷ 6 ∷ 2 ∷ 0 ∷ 4 ∷ 1 ∷ 3 ∷ [];
+  sets = 10 ∷ 5 ∷ [];
+  count = 1;
+  conflicts = 1;
+  automaton = record { states = state true (transition 0 0 1 ∷ []) ∷ state true [] ∷ []; initial = 0 ∷ [] };
+  images = [];
+  cases = on [] (1 ∷ []) broken 2 ∷ [];
+}
+
 pub table : List Row
-table = p1 ∷ p2 ∷ p3 ∷ p4 ∷ p5 ∷ p6 ∷ p7 ∷ p8 ∷ p9 ∷ p4Written ∷ p5Written ∷ p9Written ∷ ifOpenPadded ∷ []
+table = p1 ∷ p2 ∷ p3 ∷ p4 ∷ p5 ∷ p6 ∷ p7 ∷ p8 ∷ p9 ∷ p4Written ∷ p5Written ∷ p9Written ∷ ifOpenPadded
+    ∷ bothWays ∷ bothWaysNext ∷ []
 
 -- ---- the whole table, computed
 
 forms : map (λ row. normalForm (row .rule)) table ≡ map (λ row. accepted (row .form)) table
 unfolding on state transition writtenAs table p1 p2 p3 p4 p5 p6 p7 p8 p9 p4Written p5Written p9Written ifOpenPadded
+    bothWays bothWaysNext
     lowest leftOperand oneChild rightOperand lengthCheck nodeCheck places placeCheck syntaxCheck trees writtenCheck
     writtenTree code below NormalForm.entry member rank emit size result normalForm
 forms = refl
 
 walks : map (λ row. generalized (row .form)) table ≡ map (λ row. accepted (row .sets)) table
 unfolding on state transition writtenAs table p1 p2 p3 p4 p5 p6 p7 p8 p9 p4Written p5Written p9Written ifOpenPadded
+    bothWays bothWaysNext
     insert union insertJoin insertJoins insertProduct any lowest untils trees tree formula cover terms shows fulfils
     bitsOf fulfilment dominates sift find meet meetAll explore partialProduct transitions productCheck targets
     generalized allTransitions
@@ -244,13 +291,23 @@ walks = refl
 
 counts : map (λ row. length (allTransitions (row .form) (row .sets))) table ≡ map (λ row. row .count) table
 unfolding on state transition writtenAs table p1 p2 p3 p4 p5 p6 p7 p8 p9 p4Written p5Written p9Written ifOpenPadded
+    bothWays bothWaysNext
     insert union insertJoin insertJoins insertProduct any lowest untils trees tree formula cover terms shows fulfils
     bitsOf fulfilment dominates sift find meet meetAll explore partialProduct transitions productCheck targets
     generalized allTransitions
 counts = refl
 
+sets-clash : map (λ row. bitOr (conflicts (formula (row .form))) (walkConflicts (row .form) (row .sets))) table
+    ≡ map (λ row. row .conflicts) table
+unfolding on state transition writtenAs table p1 p2 p3 p4 p5 p6 p7 p8 p9 p4Written p5Written p9Written ifOpenPadded
+    bothWays bothWaysNext
+    insert union insertJoin insertJoins insertProduct joinConflicts productConflicts trees tree formula cover terms
+    conflicts partialProduct partialConflicts walkConflicts
+sets-clash = refl
+
 translations : map (λ row. translation (row .form)) table ≡ map (λ row. accepted (row .automaton)) table
 unfolding on state transition writtenAs table p1 p2 p3 p4 p5 p6 p7 p8 p9 p4Written p5Written p9Written ifOpenPadded
+    bothWays bothWaysNext
     insert union insertJoin insertJoins insertProduct any lowest leftOperand oneChild rightOperand lengthCheck nodeCheck
     places placeCheck syntaxCheck untils untilCheck Rule.checked trees tree formula cover terms sizeCheck sizesChecked
     find meet meetAll explore partialProduct transitions productCheck targets generalized shows fulfils bitsOf
@@ -260,6 +317,7 @@ translations = refl
 
 images : map (λ row. map (λ image. imageBytes (row .automaton)) (row .images)) table ≡ map (λ row. map (λ image. image) (row .images)) table
 unfolding on state transition writtenAs table p1 p2 p3 p4 p5 p6 p7 p8 p9 p4Written p5Written p9Written ifOpenPadded
+    bothWays bothWaysNext
     any atRest transitionCount records numbered twoBytes stateRecord transitionRecord stateRecords transitionRecords
     initialRecords
     entry contents imageBytes
@@ -267,12 +325,14 @@ images = refl
 
 fits : map (λ row. map (λ c. lassoCheck (c .stem) (c .cycle)) (row .cases)) table ≡ map (λ row. map (λ c. fine) (row .cases)) table
 unfolding on state transition writtenAs table p1 p2 p3 p4 p5 p6 p7 p8 p9 p4Written p5Written p9Written ifOpenPadded
+    bothWays bothWaysNext
     lassoCheck
 fits = refl
 
 findings : map (λ row. map (λ c. found (row .automaton) (c .stem) (c .cycle)) (row .cases)) table
     ≡ map (λ row. map (λ c. c .finds) (row .cases)) table
 unfolding on state transition writtenAs table p1 p2 p3 p4 p5 p6 p7 p8 p9 p4Written p5Written p9Written ifOpenPadded
+    bothWays bothWaysNext
     letter any atRest Search.visit Search.visitAll Search.readTargets Search.after Search.onward Search.reach
     Search.reachedFrom Search.starts upTo taken restTaken pairsTaken hasAcceptingPass verdict
 findings = refl
@@ -293,6 +353,7 @@ rows row m = record {
   formed = formed;
   walked = same-each _ _ table walks row m;
   counted = same-each _ _ table counts row m;
+  carried = carried;
   translated = translated;
   imaged = same-each _ _ (row .images) (same-each _ _ table images row m);
   judges = λ c n work enough.
@@ -304,6 +365,13 @@ rows row m = record {
     formed : normalForm (row .rule) ≡ accepted (row .form)
     formed = same-each _ _ table forms row m
 
+    made : translation (row .form) ≡ accepted (row .automaton)
+    made = same-each _ _ table translations row m
+
     translated : writtenTranslation (row .rule) ≡ accepted (row .automaton)
     translated = unfold writtenTranslation in
-        ap (λ (form : Result (List ℕ)). andThen form translation) formed ∙ same-each _ _ table translations row m
+        ap (λ (form : Result (List ℕ)). andThen form translation) formed ∙ made
+
+    carried : writtenConflicts (row .rule) ≡ accepted (row .conflicts)
+    carried = unfold writtenConflicts ruleConflicts in
+        rw (formed, made, same-each _ _ table walks row m, same-each _ _ table sets-clash row m)

@@ -2,7 +2,6 @@
 use answer::Checked;
 use answer::Stored;
 use answer::TABLE_TOO_SHORT;
-use automaton::Counted;
 use automaton::tables_fit;
 use image::IMAGE_BYTES;
 use image::write;
@@ -10,6 +9,7 @@ use judge::Judged;
 use judge::WORK_BYTES;
 use judge::judge;
 use lasso::check_lasso;
+use translation::Translated;
 use translation::translate;
 ghost use mathlib.Core.Path.{_≡_};
 ghost use Rattle.answer.specs.Result.{fine};
@@ -37,8 +37,14 @@ fn decide_checked(
         (now (image .entry)) (now (work .entry)) ⌝ }
 {
     match translate(rule, states, transitions, initial) {
-        Counted::Refused(number, place) => Judged::Refused(number, place),
-        Counted::Accepted(counts) => match write(states, transitions, initial, counts, image) {
+        Translated::Refused(number, place) => Judged::Refused(number, place),
+        Translated::Accepted(counts, _) => match write(
+            states,
+            transitions,
+            initial,
+            counts,
+            image,
+        ) {
             Stored::Refused(number, place) => Judged::Refused(number, place),
             Stored::Accepted(length) => judge(&image[..length], stem, cycle, work),
         },

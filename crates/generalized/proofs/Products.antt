@@ -9,6 +9,7 @@ use native.Mathlib.Omega.{arith}
 use lib.ListN.{length, take, set, length-map, length-set}
 use lib.Seq.{length-take-le, take-suc-set}
 use lib.Dec.{leb}
+use lib.Bits.{bitOr, or-zero-r}
 use borrow.Author.Tests.{le-leb, lt-leb}
 use Rattle.answer.specs.Result.{Check, require, fine}
 use Rattle.answer.proofs.Lowest.{Passing, pass-begins, pass-steps, pass-fails, pass-ends}
@@ -16,19 +17,20 @@ use Rattle.formula.specs.Limits.{maxNodes}
 use Rattle.formula.specs.Rule.{nodeCount}
 use Rattle.formula.specs.Formula.{tree, InRange}
 use Rattle.sets.specs.Bits.{has}
-use Rattle.sets.specs.Sets.{Stores, insertProductN}
+use Rattle.sets.specs.declared.Joined.{Joined}
+use Rattle.sets.specs.Sets.{Stores, insertProductN, productConflictsN}
 use Rattle.sets.proofs.Stores.{items-are}
 use Rattle.sets.proofs.Rising.{Rising, Consistent, product-rises}
 use Rattle.term.specs.Term.{Term, terms}
 use Rattle.term.specs.Size.{sizesChecked}
 use Rattle.term.specs.Memory.{pack, rowOf, TermRow, TermTable}
 use Rattle.term.proofs.Packing.{Numbers, of-terms, numbers-are, canonical}
-use Rattle.term.proofs.Packing.{product-numbers, owing-numbers, terms-numbers}
-use Rattle.term.proofs.Rising.{terms-rise, product-one}
+use Rattle.term.proofs.Packing.{product-numbers, conflicts-numbers, owing-numbers, terms-numbers}
+use Rattle.term.proofs.Rising.{terms-rise, product-one, product-one-apart}
 use Rattle.term.proofs.Rows.{row-is, row-fits}
 use Rattle.generalized.specs.Limits.{maxProduct}
-use Rattle.generalized.specs.Generalized.{times, partialProduct, productCheck}
-use Rattle.generalized.specs.Memory.{Factor, ProductRoom, Product}
+use Rattle.generalized.specs.Generalized.{times, partialProduct, partialConflicts, productCheck}
+use Rattle.generalized.specs.Memory.{Factor, ProductRoom, Multiplied, StateProduct}
 use Rattle.generalized.proofs.Passed.{few, in-range}
 
 -- ts are terms whose must and mustNot are bytes
@@ -72,44 +74,51 @@ factor-of rule table k passed is lt = record {
   inside = omega (arith, row-fits is k lt);
   few = omega (arith, is .rows k lt .count, few rule passed k lt .terms);
   alone = rw (row-is (is .rows k lt)) (product-one (tree rule k) (in-range rule passed k lt));
+  apart = rw (row-is (is .rows k lt)) (product-one-apart (tree rule k) (in-range rule passed k lt));
 }
 
 -- 21 for the product over the obligations up to n
 abbrev partialCheck : List ℕ → (state place : ℕ) → ℕ → Check
 partialCheck rule state place n = require (leb (length (partialProduct rule state (suc n))) maxProduct) 21 place
 
--- a loop over n nodes that stands at k: the first count of items are the product over the obligations below k, and none
--- before was over
-pub record Multiplying (rule : List ℕ) (state n : ℕ) (items next : List ℕ) (count k : ℕ) : Type 0 where
+-- a loop over n nodes that stands at k: the first count of items are the product over the obligations below k, with
+-- these conflicts, and none before was over
+pub record Multiplying (rule : List ℕ) (state n : ℕ) (items next : List ℕ) (count dropped k : ℕ) : Type 0 where
   pub small : n ≤ maxNodes
   pub within : k ≤ n
   pub room : ProductRoom items next
   pub fits : count ≤ maxProduct
   pub are : take count items ≡ map pack (partialProduct rule state k)
+  pub conflicts : dropped ≡ partialConflicts rule state k
   pub passed : (place : ℕ) → Passing (partialCheck rule state place) n k
 
 pub multiply-begins : {rule : List ℕ} {state n : ℕ} (items next : List ℕ) → n ≤ maxNodes → ProductRoom items next
-    → Multiplying rule state n (set items 0 0) next 1 0
-unfolding partialProduct
+    → Multiplying rule state n (set items 0 0) next 1 0 0
+unfolding partialProduct partialConflicts
 multiply-begins {n = n} items next le room = record {
   small = le;
   within = omega arith;
   room = record { room = length-set items 0 0 ∙ room .room; beside = room .beside };
   fits = omega arith;
   are = take-suc-set items 0 0 (omega (arith, room .room));
+  conflicts = refl;
   passed = λ place. pass-begins _ n;
 }
 
-module _ {rule : List ℕ} {state n : ℕ} {items next : List ℕ} {count k : ℕ}
-    (inv : Multiplying rule state n items next count k) where
-  pub multiply-ends : n ≡ nodeCount rule → n ≤ k → Product rule state items count
+module _ {rule : List ℕ} {state n : ℕ} {items next : List ℕ} {count dropped k : ℕ}
+    (inv : Multiplying rule state n items next count dropped k) where
+  pub multiply-ends : n ≡ nodeCount rule → n ≤ k
+      → StateProduct rule state items (record { count = count; conflicts = dropped })
   unfolding productCheck
   multiply-ends e ge =
       let same : k ≡ nodeCount rule = omega (arith, inv .within) in
       record {
-        checked = λ _ place. rw (← e) (sym (pass-ends (partialCheck rule state place) n k ge (inv .passed place)));
-        terms = λ _. rw (← same) (inv .are);
-        over = λ lt. absurd (omega (arith, inv .fits));
+        product = record {
+          checked = λ _ place. rw (← e) (sym (pass-ends (partialCheck rule state place) n k ge (inv .passed place)));
+          terms = λ _. rw (← same) (inv .are);
+          over = λ lt. absurd (omega (arith, inv .fits));
+        };
+        conflicts = λ _. rw (← same) (inv .conflicts);
       }
 
   module _ (lt : k < n) where
@@ -121,8 +130,8 @@ module _ {rule : List ℕ} {state n : ℕ} {items next : List ℕ} {count k : �
     passed-on le place = pass-steps _ n k lt (inv .passed place) (rw (le-leb (length further) maxProduct le))
 
     -- a node that is no obligation changes nothing
-    pub multiply-skips : has state k ≡ false → Multiplying rule state n items next count (k + 1)
-    unfolding partialProduct
+    pub multiply-skips : has state k ≡ false → Multiplying rule state n items next count dropped (k + 1)
+    unfolding partialProduct partialConflicts
     multiply-skips e =
         let same : further ≡ partialProduct rule state k = rw e in
         let size = length-take-le count items (omega (arith, inv .room .room, inv .fits)) in
@@ -133,39 +142,55 @@ module _ {rule : List ℕ} {state n : ℕ} {items next : List ℕ} {count k : �
           room = inv .room;
           fits = inv .fits;
           are = rw (add-one, same) (inv .are);
+          conflicts = rw (add-one, e, or-zero-r) (inv .conflicts);
           passed = passed-on (omega (arith, inv .fits, size, packed, ap length same, ap length (inv .are)));
         }
 
     module _ (ranges : (j : ℕ) → j < n → InRange (tree rule j)) {table : List ℕ} (row : TermRow rule table k)
-        (own : has state k ≡ true) (after : List ℕ) (r : ℕ) (size : length after ≡ length items)
-        (turn : Stores after r (insertProductN (take count items) (rowOf table k) [])) where
-      next-is : Stores after r (map pack further)
+        (own : has state k ≡ true) (after : List ℕ) (r : Joined) (size : length after ≡ length items)
+        (turn : Multiplied after r (insertProductN (take count items) (rowOf table k) [])
+        (productConflictsN (take count items) (rowOf table k))) where
+      before : Packed (partialProduct rule state k)
+      before = partial-packed rule state k (λ j l. ranges j (omega arith))
+
+      factor : Packed (terms (tree rule k))
+      factor = terms-numbers (tree rule k) (ranges k lt)
+
+      next-is : Stores after (r .count) (map pack further)
       unfolding partialProduct
       next-is =
-          let before = partial-packed rule state k (λ j l. ranges j (omega arith)) in
-          let both = product-numbers of-terms before (terms-numbers (tree rule k) (ranges k lt)) in
-          rw (own, ← numbers-are of-terms both, ← inv .are, ← row-is row) turn
+          rw (own, ← numbers-are of-terms (product-numbers of-terms before factor), ← inv .are, ← row-is row)
+          (turn .stores)
 
-      next-count : r ≡ min (suc maxProduct) (length further)
+      next-conflicts : bitOr dropped (r .conflicts) ≡ partialConflicts rule state (suc k)
+      unfolding partialConflicts
+      next-conflicts =
+          rw (own, ← conflicts-numbers before factor, ← inv .are, ← row-is row, inv .conflicts, turn .conflicts)
+
+      next-count : r .count ≡ min (suc maxProduct) (length further)
       next-count = omega (arith, next-is .count, size, inv .room .room, length-map further pack)
 
-      pub multiply-steps : {beside : List ℕ} → length beside ≡ length next → r ≤ maxProduct
-          → Multiplying rule state n after beside r (k + 1)
+      pub multiply-steps : {beside : List ℕ} → length beside ≡ length next → r .count ≤ maxProduct
+          → Multiplying rule state n after beside (r .count) (bitOr dropped (r .conflicts)) (k + 1)
       multiply-steps same le = record {
         small = inv .small;
         within = omega arith;
         room = record { room = size ∙ inv .room .room; beside = same ∙ inv .room .beside };
         fits = le;
         are = rw add-one (items-are next-is (omega (arith, size, inv .room .room)));
+        conflicts = rw add-one next-conflicts;
         passed = passed-on (omega (arith, next-count));
       }
 
-      pub multiply-over : n ≡ nodeCount rule → maxProduct < r → Product rule state after r
+      pub multiply-over : n ≡ nodeCount rule → maxProduct < r .count → StateProduct rule state after r
       unfolding productCheck
       multiply-over e over = record {
-        checked = λ le. absurd (omega arith);
-        terms = λ le. absurd (omega arith);
-        over = λ _ place. rw (← e)
-            (sym (pass-fails (partialCheck rule state place) n k lt (inv .passed place)
-            (rw (lt-leb (length further) maxProduct (omega (arith, next-count))))));
+        product = record {
+          checked = λ le. absurd (omega arith);
+          terms = λ le. absurd (omega arith);
+          over = λ _ place. rw (← e)
+              (sym (pass-fails (partialCheck rule state place) n k lt (inv .passed place)
+              (rw (lt-leb (length further) maxProduct (omega (arith, next-count))))));
+        };
+        conflicts = λ le. absurd (omega arith);
       }

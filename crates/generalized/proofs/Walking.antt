@@ -7,9 +7,11 @@ use native.Mathlib.Numerals.{add-one}
 use native.Mathlib.Omega.{arith}
 use lib.ListN.{length, getD, take, set, length-append, length-map, length-set, length-take}
 use lib.Seq.{getD-take, length-take-le, take-append-le, take-all, take-add, take-suc, getD-set-same, getD-set-other}
+use lib.Bits.{bitOr, or-zero-r}
 use borrow.Author.Count.{below-more}
 use Rattle.answer.specs.Result.{Result, accepted, refused, andThen, fine}
 use Rattle.answer.proofs.Results.{then-accepted}
+use Rattle.sets.proofs.Bits.{or-assoc}
 use Rattle.formula.specs.Formula.{formula}
 use Rattle.term.specs.Limits.{maxTerms}
 use Rattle.term.specs.Term.{Term, cover}
@@ -22,6 +24,7 @@ use Rattle.generalized.specs.declared.Step.the-variants.{On, Stop}
 use Rattle.generalized.specs.declared.Walked.the-variants.{Accepted}
 use Rattle.generalized.specs.Explore.{explore}
 use Rattle.generalized.specs.Generalized.{transitions, productCheck, targets, stateNumbering, stateWalk, generalized}
+use Rattle.generalized.specs.Generalized.{stateConflicts, walkConflicts}
 use Rattle.generalized.specs.Memory.{ProductRoom, Product, ListedKept, WalkRoom, meetTargets, Added, AddsTransitions, Told}
 use Rattle.generalized.specs.Memory.{MeetsAll, allTransitions, WalkPlaces, Walks}
 use Rattle.generalized.proofs.Exploring.{explore-next, explore-refused, explore-ends}
@@ -80,6 +83,14 @@ module _ (rule : List ℕ) where
       → allTransitions rule (take (suc s) xs) ≡ allTransitions rule (take s xs) ++ transitions rule (getD xs s 0)
   all-one xs s lt = rw (take-suc xs s 0 lt) (all-last (take s xs) (getD xs s 0))
 
+  -- and their conflicts
+  conflicts-last : (xs : List ℕ) (x : ℕ)
+      → walkConflicts rule (xs ++ (x ∷ [])) ≡ bitOr (walkConflicts rule xs) (stateConflicts rule x)
+  unfolding walkConflicts
+  conflicts-last [] x = or-zero-r (stateConflicts rule x)
+  conflicts-last (y ∷ xs) x =
+      rw (conflicts-last xs x) (sym (or-assoc (stateConflicts rule y) (walkConflicts rule xs) (stateConflicts rule x)))
+
 -- the states that are numbered
 abbrev numbered : Extent → List ℕ → List ℕ
 numbered size states = take (size .states) states
@@ -89,8 +100,8 @@ abbrev rest : (rule : List ℕ) (place count : ℕ) (xs : List ℕ) → Result (
 rest rule place count xs = explore (stateWalk rule) (maxGeneralizedStates - place) place count xs
 
 -- the walk that stands at place: what is left of it comes to the whole, and the states before place are in the tables
-pub record Walking (rule : List ℕ) (initial : ℕ) (states transitions ends : List ℕ) (size : Extent) (place : ℕ)
-    : Type 0 where
+pub record Walking (rule : List ℕ) (initial : ℕ) (states transitions ends : List ℕ) (size : Extent)
+    (dropped place : ℕ) : Type 0 where
   pub within : place ≤ size .states
   pub begun : initial ≡ length (cover (formula rule))
   pub room : WalkRoom size states transitions
@@ -101,6 +112,7 @@ pub record Walking (rule : List ℕ) (initial : ℕ) (states transitions ends : 
       (take (size .transitions) transitions)
   pub ending : (k : ℕ) → k < place
       → getD ends k 0 ≡ length (allTransitions rule (take (suc k) (numbered size states)))
+  pub conflicts : dropped ≡ walkConflicts rule (take place (numbered size states))
 
 -- the arrays that the walk works in
 pub record Space (product next bytes : List ℕ) : Type 0 where
@@ -109,8 +121,8 @@ pub record Space (product next bytes : List ℕ) : Type 0 where
 
 pub walk-begins : {rule : List ℕ} (states transitions ends : List ℕ) (n : ℕ) → take n states ≡ cover (formula rule)
     → n ≤ maxTerms → WalkPlaces states transitions ends
-    → Walking rule n states transitions ends (record { states = n; transitions = 0 }) 0
-unfolding generalized allTransitions
+    → Walking rule n states transitions ends (record { states = n; transitions = 0 }) 0 0
+unfolding generalized allTransitions walkConflicts
 walk-begins states transitions ends n is le room = record {
   within = omega arith;
   begun = sym (length-take-le n states (omega arith)) ∙ ap length is;
@@ -125,11 +137,12 @@ walk-begins states transitions ends n is le room = record {
   left = rw is;
   listed = listed-none;
   ending = λ k lt. absurd (omega arith);
+  conflicts = refl;
 }
 
 -- the walk that stands at place
-module _ {rule : List ℕ} {initial : ℕ} {states transitions ends : List ℕ} {size : Extent} {place : ℕ}
-    (inv : Walking rule initial states transitions ends size place) where
+module _ {rule : List ℕ} {initial : ℕ} {states transitions ends : List ℕ} {size : Extent} {dropped place : ℕ}
+    (inv : Walking rule initial states transitions ends size dropped place) where
   abbrev total : ℕ
   total = size .transitions
 
@@ -139,7 +152,8 @@ module _ {rule : List ℕ} {initial : ℕ} {states transitions ends : List ℕ} 
   count : length xs ≡ size .states
   count = length-take-le (size .states) states (omega (arith, inv .room .few, inv .room .states-room))
 
-  pub walk-ends : size .states ≤ place → Walks rule (Accepted initial (size .states) total) states transitions ends
+  pub walk-ends : size .states ≤ place
+      → Walks rule (Accepted initial (size .states) total dropped) states transitions ends
   walk-ends ge =
       let all : take place xs ≡ xs = take-all place xs (omega (arith, count)) in
       record {
@@ -150,6 +164,7 @@ module _ {rule : List ℕ} {initial : ℕ} {states transitions ends : List ℕ} 
         fits = inv .room .fits;
         listed = rw all at (inv .listed .numbers);
         ending = λ k lt. inv .ending k (omega arith);
+        conflicts = rw all at (inv .conflicts);
       }
 
   -- it goes on with the state there, whose terms are the first many of items
@@ -230,9 +245,10 @@ module _ {rule : List ℕ} {initial : ℕ} {states transitions ends : List ℕ} 
             (listed-both (listed-on _ _ first (inv .listed)) (added .listed))
 
         pub walk-steps : length states′ ≡ length states → length transitions′ ≡ length transitions → {ends′ : List ℕ}
-            → ends′ ≡ set ends place end
-            → Walking rule initial states′ transitions′ ends′ (record { states = met; transitions = end }) (place + 1)
-        walk-steps same-states same-transitions stored = record {
+            → ends′ ≡ set ends place end → {own : ℕ} → own ≡ stateConflicts rule (getD states place 0)
+            → Walking rule initial states′ transitions′ ends′ (record { states = met; transitions = end })
+            (bitOr dropped own) (place + 1)
+        walk-steps same-states same-transitions stored is = record {
           within = omega (arith, inside, extends-longer grown, length-take met states′);
           begun = inv .begun;
           room = record {
@@ -251,4 +267,5 @@ module _ {rule : List ℕ} {initial : ℕ} {states transitions ends : List ℕ} 
               ∙ inv .ending k l
               ∙ ap length (ap (allTransitions rule) (sym (stay (suc k) (omega arith)))))
               (getD-set-same ends place end 0 (omega (arith, inv .room .few, inv .ends-room)) ∙ end-is));
+          conflicts = rw (add-one, with-state, conflicts-last rule (take place xs) (getD states place 0), inv .conflicts, is);
         }

@@ -5,11 +5,12 @@ use mathlib.Core.List.{List, [], _∷_, map}
 use mathlib.Core.Bool.{Bool, true, false}
 use lib.ListN.{length}
 use lib.Dec.{eqb, leb, ltb}
+use lib.Bits.{bitOr}
 use Rattle.answer.specs.Result.{Result, Check, require, lowest}
 use Rattle.formula.specs.Rule.{nodeCount}
 use Rattle.formula.specs.Formula.{tree, formula}
 use Rattle.sets.specs.Bits.{has}
-use Rattle.term.specs.Term.{Term, term, product, cover, terms}
+use Rattle.term.specs.Term.{Term, term, product, conflictsBetween, cover, terms}
 use Rattle.domination.specs.Domination.{dominates, undominated}
 use Rattle.generalized.specs.Limits.{maxProduct, maxGeneralizedTransitions, maxGeneralizedStates}
 use Rattle.generalized.specs.Explore.{Numbering, Walk, walked}
@@ -68,3 +69,27 @@ stateWalk rule = record {
 -- First walk and second walk, sentences 1 to 3, 7 and 8; Numbers that come from the state, 21 to 23)
 unfoldable pub generalized : List ℕ → Result (List ℕ)
 generalized rule = walked (stateWalk rule) (cover (formula rule))
+
+-- ---- conflicts: the propositions for which joins are dropped (R-8)
+
+-- the propositions for which a join of `times` is dropped: none where the obligation is not there (R-8, sentence 3)
+abbrev pub timesConflicts : Bool → List Term → List Term → ℕ
+timesConflicts true ts us = conflictsBetween ts us
+timesConflicts false ts us = 0
+
+-- over the partial products of a state, as far as its obligations are below n; which of its terms are dropped afterwards,
+-- since others dominate them, makes no difference (R-8, sentence 4)
+unfoldable pub partialConflicts : List ℕ → (state n : ℕ) → ℕ
+partialConflicts rule state zero = 0
+partialConflicts rule state (suc n) =
+    bitOr (partialConflicts rule state n)
+    (timesConflicts (has state n) (partialProduct rule state n) (terms (tree rule n)))
+
+-- over all partial products of a state (R-8, sentence 4)
+abbrev pub stateConflicts : List ℕ → ℕ → ℕ
+stateConflicts rule state = partialConflicts rule state (nodeCount rule)
+
+-- over all states of a walk (R-8, sentences 3 and 4)
+unfoldable pub walkConflicts : (rule states : List ℕ) → ℕ
+walkConflicts rule [] = 0
+walkConflicts rule (x ∷ xs) = bitOr (stateConflicts rule x) (walkConflicts rule xs)

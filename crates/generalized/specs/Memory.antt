@@ -5,7 +5,8 @@ use mathlib.Core.Path.{_≡_}
 use mathlib.Core.List.{List, [], _∷_, _++_, map}
 use lib.ListN.{length, getD, take, drop}
 use lib.Dec.{eqb}
-use Rattle.sets.specs.Sets.{In, insertProductN}
+use Rattle.sets.specs.declared.Joined.{Joined}
+use Rattle.sets.specs.Sets.{In, Stores, insertProductN, productConflictsN}
 use Rattle.answer.specs.Result.{Result, accepted, refused, fine}
 use Rattle.formula.specs.Formula.{formula}
 use Rattle.term.specs.Limits.{rowPlaces}
@@ -22,26 +23,38 @@ use Rattle.generalized.specs.declared.Walked.{Walked}
 use Rattle.generalized.specs.declared.Walked.the-variants.{Accepted, Refused}
 use Rattle.generalized.specs.Explore.{find, meet, meetAll}
 use Rattle.generalized.specs.Generalized.{stateTerms, transitions, productCheck, stateNumbering, generalized}
+use Rattle.generalized.specs.Generalized.{stateConflicts, walkConflicts}
 
 -- ---- the transitions of a state
 
 -- row k of the table of terms as a factor: it lies within the table, a product has places for it, and it is itself
--- the product with the term that asks and owes nothing
+-- the product with the term that asks and owes nothing, from which no join is dropped
 pub record Factor (table : List ℕ) (k : ℕ) : Type 0 where
   pub inside : k * rowPlaces + 1 + getD table (k * rowPlaces) 0 ≤ length table
   pub few : getD table (k * rowPlaces) 0 ≤ maxProduct
   pub alone : insertProductN (0 ∷ []) (rowOf table k) [] ≡ rowOf table k
+  pub apart : productConflictsN (0 ∷ []) (rowOf table k) ≡ 0
 
 -- product and next have a place for each term that a product may have
 pub record ProductRoom (product next : List ℕ) : Type 0 where
   pub room : length product ≡ maxProduct
   pub beside : length next ≡ maxProduct
 
+-- items store ws, of which r tells how many there are and for which propositions a join was dropped
+pub record Multiplied (items : List ℕ) (r : Joined) (ws : List ℕ) (bits : ℕ) : Type 0 where
+  pub stores : Stores items (r .count) ws
+  pub conflicts : r .conflicts ≡ bits
+
 -- the first count of items are a state's terms, unless a partial product is too large; then count is above that
 pub record Product (rule : List ℕ) (state : ℕ) (items : List ℕ) (count : ℕ) : Type 0 where
   pub checked : count ≤ maxProduct → (place : ℕ) → productCheck rule place state ≡ fine
   pub terms : count ≤ maxProduct → take count items ≡ map pack (stateTerms rule state)
   pub over : maxProduct < count → (place : ℕ) → productCheck rule place state ≡ refused 21 place
+
+-- so many as r tells, with the state's conflicts
+pub record StateProduct (rule : List ℕ) (state : ℕ) (items : List ℕ) (r : Joined) : Type 0 where
+  pub product : Product rule state items (r .count)
+  pub conflicts : r .count ≤ maxProduct → r .conflicts ≡ stateConflicts rule state
 
 -- ---- a transition in the table
 
@@ -150,8 +163,8 @@ unfoldable pub allTransitions : (rule xs : List ℕ) → List Term
 allTransitions rule [] = []
 allTransitions rule (x ∷ xs) = transitions rule x ++ allTransitions rule xs
 
--- the tables of a walk that has n states, the first of them initial ones, and m transitions
-pub record Tables (rule : List ℕ) (initial n m : ℕ) (states transitions ends : List ℕ) : Type 0 where
+-- the tables of a walk that has n states, the first of them initial ones, and m transitions, and its conflicts
+pub record Tables (rule : List ℕ) (initial n m bits : ℕ) (states transitions ends : List ℕ) : Type 0 where
   pub are : generalized rule ≡ accepted (take n states)
   pub few : n ≤ maxGeneralizedStates
   pub begun : initial ≡ length (cover (formula rule))
@@ -159,8 +172,10 @@ pub record Tables (rule : List ℕ) (initial n m : ℕ) (states transitions ends
   pub fits : m ≤ maxGeneralizedTransitions
   pub listed : take m transitions ≡ map (kept rule (take n states)) (allTransitions rule (take n states))
   pub ending : (k : ℕ) → k < n → getD ends k 0 ≡ length (allTransitions rule (take (suc k) (take n states)))
+  pub conflicts : bits ≡ walkConflicts rule (take n states)
 
--- the first walk's answer: how many states and transitions there are, with the tables, or the refusal
+-- the first walk's answer: how many states and transitions there are, and its conflicts, with the tables, or the refusal
 abbrev pub Walks : (rule : List ℕ) → Walked → (states transitions ends : List ℕ) → Type 0
-Walks rule (Accepted initial n m) states transitions ends = Tables rule initial n m states transitions ends
+Walks rule (Accepted initial n m conflicts) states transitions ends =
+    Tables rule initial n m conflicts states transitions ends
 Walks rule (Refused number place) states transitions ends = generalized rule ≡ refused number place

@@ -1,5 +1,6 @@
 // The first walk: the generalized automaton of a rule. Its states are obligation sets, its transitions terms; they
 // stand in tables that the caller lends, each transition with the number of its target and the untils that it fulfils.
+use sets::Joined;
 ghost use mathlib.Core.Path.{_≡_};
 ghost use mathlib.Core.List.{[]};
 ghost use Prim.Native.Nat.{_≤_, _<_};
@@ -8,14 +9,14 @@ ghost use lib.Dec.{eqb};
 ghost use Rattle.answer.specs.Result.{fine};
 ghost use Rattle.formula.specs.Limits.{maxNodes};
 ghost use Rattle.formula.specs.Formula.{formula};
-ghost use Rattle.sets.specs.Sets.{Stores, insertProductN};
+ghost use Rattle.sets.specs.Sets.{insertProductN, productConflictsN};
 ghost use Rattle.term.specs.Limits.{maxTerms};
 ghost use Rattle.term.specs.Term.{cover};
 ghost use Rattle.term.specs.Size.{sizesChecked};
 ghost use Rattle.term.specs.Memory.{unpack, rowOf, TermTable};
 ghost use Rattle.generalized.specs.Limits.{maxProduct, maxGeneralizedStates};
 ghost use Rattle.generalized.specs.Explore.{find};
-ghost use Rattle.generalized.specs.Memory.{Factor, ProductRoom, Product};
+ghost use Rattle.generalized.specs.Memory.{Factor, ProductRoom, Multiplied, StateProduct};
 ghost use Rattle.generalized.specs.Memory.{keptN, keptTarget, keptUntils, keptMust, keptMustNot};
 ghost use Rattle.generalized.specs.Memory.{OwnNumber, MeetsState, WalkRoom, MeetsAll};
 ghost use Rattle.generalized.specs.Memory.{WalkPlaces, Walks};
@@ -56,9 +57,10 @@ enum Step {
     Stop(u8, usize),
 }
 
-// The answer of the walk: the counts of initial states, states and transitions, or a refusal's number and place.
+// The answer of the walk: the counts of initial states, states and transitions, and the propositions for which a join on
+// its way was dropped; or a refusal's number and place.
 pub enum Walked {
-    Accepted(usize, usize, usize),
+    Accepted(usize, usize, usize, u8),
     Refused(u8, usize),
 }
 
@@ -131,56 +133,69 @@ fn meet_state(items: &mut [u64], n: usize, x: u64, last: usize) -> Met
     Met::Number(n, n + 1)
 }
 
-// The first count of product times the terms of node k, which stand in its row of the table; how many there are then.
-fn times(table: &[u64], k: usize, product: &mut [u64], count: usize, next: &mut [u64]) -> usize
+// The first count of product times the terms of node k, which stand in its row of the table; how many there are then,
+// and the propositions for which a join was dropped.
+fn times(table: &[u64], k: usize, product: &mut [u64], count: usize, next: &mut [u64]) -> Joined
     requires { ⌜ (k < maxNodes) × (count ≤ maxProduct) × Factor (now table) k × ProductRoom (now product) (now next) ⌝ }
-    ensures { λ r. ⌜ Stores (now (product .exit)) r
-        (insertProductN (take count (now (product .entry))) (rowOf (now (table .entry)) k) []) ⌝ }
+    ensures { λ r. ⌜ Multiplied (now (product .exit)) r
+        (insertProductN (take count (now (product .entry))) (rowOf (now (table .entry)) k) [])
+        (productConflictsN (take count (now (product .entry))) (rowOf (now (table .entry)) k)) ⌝ }
 {
     let row = k * term::ROW_PLACES;
     let n = table[row] as usize;
     let from = row + 1;
-    // a product with the one term 0 is the other factor
+    // a product with the one term 0 is the other factor, and no join is dropped
     if count == 1 && product[0] == 0 {
         answer::copy_words(product, &table[from..from + n], n);
-        return n;
+        return Joined {
+            count: n,
+            conflicts: 0,
+        };
     }
-    let more = sets::product(next, 0, product, count, &table[from..from + n], n);
+    let joined = sets::product(next, 0, product, count, &table[from..from + n], n);
+    let more = joined.count;
     if MAX_PRODUCT < more {
-        return more;
+        return joined;
     }
     answer::copy_words(product, next, more);
-    more
+    joined
 }
 
-// The terms of a state: the product over its obligations, up to the first one that is over.
+// The terms of a state: the product over its obligations, up to the first one that is over; and the propositions for
+// which a join on the way was dropped.
 fn state_terms(
     rule: &[u8],
     table: &[u64],
     obligations: u64,
     product: &mut [u64],
     next: &mut [u64],
-) -> usize
+) -> Joined
     requires { ⌜ (sizesChecked (now rule) ≡ fine)
         × TermTable (now rule) (now table) × ProductRoom (now product) (now next) ⌝ }
-    ensures { λ r. ⌜ Product (now (rule .entry)) obligations (now (product .exit)) r ⌝ }
+    ensures { λ r. ⌜ StateProduct (now (rule .entry)) obligations (now (product .exit)) r ⌝ }
 {
     let n = rule.len() / 3;
     product[0] = 0;
     let mut count = 1;
+    let mut conflicts = 0u8;
     let mut k = 0;
     while k < n {
         if !sets::has(obligations, k) {
             k += 1;
             continue;
         }
-        count = times(table, k, product, count, next);
+        let joined = times(table, k, product, count, next);
+        count = joined.count;
         if MAX_PRODUCT < count {
-            return count;
+            return joined;
         }
+        conflicts = conflicts | joined.conflicts;
         k += 1;
     }
-    count
+    Joined {
+        count: count,
+        conflicts: conflicts,
+    }
 }
 
 // The first count of ts, transitions of a state, met one after another and put into the table with the
@@ -267,10 +282,12 @@ pub fn walk(
         states: initial,
         transitions: 0,
     };
+    let mut conflicts = 0u8;
     let mut state = GeneralizedNumber(0);
     while state.0 < size.states {
         let at = state.0;
-        let many = state_terms(rule, table, states[at], &mut product, &mut next);
+        let terms = state_terms(rule, table, states[at], &mut product, &mut next);
+        let many = terms.count;
         if MAX_PRODUCT < many {
             return Walked::Refused(PRODUCT_TOO_LARGE, at);
         }
@@ -284,6 +301,7 @@ pub fn walk(
                     states: n,
                     transitions: m,
                 };
+                conflicts = conflicts | terms.conflicts;
                 state = GeneralizedNumber(state.0 + 1);
             }
             Step::Stop(number, place) => {
@@ -291,5 +309,5 @@ pub fn walk(
             }
         }
     }
-    Walked::Accepted(initial, size.states, size.transitions)
+    Walked::Accepted(initial, size.states, size.transitions, conflicts)
 }

@@ -2,3 +2,4 @@
 pub mod Packed
 pub mod Refusals
 pub mod Unpacking
+pub mod NoConflicts

@@ -1,20 +1,26 @@
 -- A packed answer beside what was lent: the call's own equation, carried through the packing.
 -- Assumes nothing.
-use Prim.Native.Nat.{ℕ}
+use Prim.Native.Nat.{ℕ, _+_}
 use mathlib.Core.Path.{_≡_, ap, _∙_}
 use mathlib.Core.List.{List}
 use Rattle.answer.specs.Result.{Result}
 use Rattle.automaton.specs.Tables.{Counts, Outcome, outcome}
+use Rattle.translation.specs.Conflicts.{Carried, carried}
 use Rattle.answer.specs.Buffer.{Buffer, buffer}
 use Rattle.judge.specs.Judge.{Finding, Judgement, judgement}
 use Rattle.demands.specs.Demand.{Decision, decision}
 use Rattle.office.specs.Packing.{packCounts, packLength, packVerdict, packedTables, packOutcome, packedSlice}
-use Rattle.office.specs.Packing.{packBuffer, packJudgement, packedDecision, packDecision}
+use Rattle.office.specs.Packing.{packBuffer, packJudgement, packedDecision, packDecision, packConflicts, packTranslated}
 
 -- of a call that fills three tables
 pub packed-tables : (a : Result Counts) (s t i : List ℕ) (o : Outcome) (r : ℕ) → r ≡ packCounts a → outcome a s t i ≡ o
     → packedTables r s t i ≡ packOutcome o
 packed-tables a s t i o r packs says = ap (λ (n : ℕ). packedTables n s t i) packs ∙ ap packOutcome says
+
+-- of translate, with its conflicts
+pub packed-translated : (a : Result Counts) (f : Result ℕ) (s t i : List ℕ) (x : Carried) (r : ℕ)
+    → r ≡ packCounts a + packConflicts f → carried (outcome a s t i) f ≡ x → packedTables r s t i ≡ packTranslated x
+packed-translated a f s t i x r packs says = ap (λ (n : ℕ). packedTables n s t i) packs ∙ ap packTranslated says
 
 -- of write
 pub packed-buffer : (a : Result ℕ) (image : List ℕ) (b : Buffer) (r : ℕ) → r ≡ packLength a → buffer a image ≡ b

@@ -1,5 +1,5 @@
 -- What C reads off a packed answer by include/zimboralo.h is the answer: the lowest byte is 0 exactly where nothing was
--- refused, and no count, length or place is cut off. Assumes nothing.
+-- refused, and no count, set of propositions, length or place is cut off. Assumes nothing.
 use Prim.Native.Nat.{ℕ, _+_, _*_, _/_, _%_, _^_, _≤_, _<_}
 use mathlib.Core.Path.{_≡_, refl, sym, _∙_, ap, subst, subst₂}
 use mathlib.Core.List.{List}
@@ -18,7 +18,11 @@ use Rattle.normalform.proofs.Passes.{normal-form-passes}
 use Rattle.answer.proofs.Results.{never-both, require-fine, then-accepted}
 use Rattle.automaton.specs.Automaton.{Automaton}
 use Rattle.automaton.specs.Tables.{Counts, counts, outcome, tableCheck}
+use Rattle.term.specs.Size.{sizesChecked}
+use Rattle.generalized.specs.Generalized.{generalized}
+use Rattle.translation.specs.Degeneralized.{translation}
 use Rattle.translation.specs.Translate.{writtenTranslation, stored, unless, translated}
+use Rattle.translation.specs.Conflicts.{ruleConflicts, writtenConflicts, translatedConflicts, translates}
 use Rattle.image.specs.Memory.{Small}
 use Rattle.image.specs.Image.{imageBytes, imageLength, largestImage}
 use Rattle.image.specs.Reader.{countsFit, recordsCheck, automatonFrom, readTables}
@@ -39,11 +43,12 @@ use Rattle.judge.proofs.Pairs.{found-few, judged-few}
 use Rattle.demands.specs.Demand.{roomCheck, inputCheck, concluded, decidedBy, decided}
 use Rattle.automaton.proofs.WellFormed.{few-together}
 use Rattle.correctness.proofs.WellFormed.{written-well-formed}
+use Rattle.correctness.proofs.BothSigns.{conflicts-byte}
 use Rattle.office.proofs.Refusals.{Refusal, Proper, normalizes-proper, merges-proper, translated-proper}
 use Rattle.office.proofs.Refusals.{reads-proper, writes-proper}
 use Rattle.office.proofs.Refusals.{judged-proper, decided-proper, compared-proper}
 use Rattle.office.specs.Packing.{packRefusal, packThree, packCounts, packLength, packFinding, packVerdict}
-use Rattle.office.specs.Packing.{packSame}
+use Rattle.office.specs.Packing.{packSame, packConflicts, packTranslated}
 
 -- ---- the parts of an answer, as the header reads them
 
@@ -66,6 +71,10 @@ transitionsOf answer = answer / 65536 % 65536
 -- zimboralo_initial: answer >> 32 & 0xff
 abbrev pub initialOf : ℕ → ℕ
 initialOf answer = answer / 2 ^ 32 % 256
+
+-- zimboralo_conflicts: answer >> 40 & 0xff
+abbrev pub conflictsOf : ℕ → ℕ
+conflictsOf answer = answer / 2 ^ 40 % 256
 
 -- zimboralo_length: answer >> 8 & 0xffffffff
 abbrev pub lengthOf : ℕ → ℕ
@@ -108,7 +117,16 @@ merges-small first second merged n e =
     let made = merged-at first second merged n bytes (ap (λ (r : Result ℕ). buffer r bytes) e) in
     omega (arith, made .size, made .may .few)
 
--- of an accepted translate
+-- of an accepted translate, whose first walk is accepted too
+translated-walk : (rule : List ℕ) (a : Automaton) → translation rule ≡ accepted a
+    → (states : List ℕ) × (generalized rule ≡ accepted states)
+unfolding translation
+translated-walk rule a e =
+    let (_, _, after-sizes) = then-accepted (sizesChecked rule) _ e in
+    let (states, walked, _) = then-accepted (generalized rule) _ after-sizes in
+    (states, walked)
+
+-- its counts
 pub translated-small : (rule s t i : List ℕ) (c : Counts) → translated rule s t i .answer ≡ accepted c → Small c
 unfolding translated stored
 translated-small rule s t i c e =
@@ -126,6 +144,43 @@ translated-small rule s t i c e =
     first : (check : Check) → unless check (stored (writtenTranslation rule) s t i) s t i .answer ≡ accepted c → Small c
     first (accepted u) e = second (writtenTranslation rule) refl e
     first (refused number place) e = never-both e
+
+-- its conflicts
+pub translated-byte : (rule s t i : List ℕ) (set : ℕ) → translatedConflicts rule s t i ≡ accepted set → set < 256
+unfolding translatedConflicts
+translated-byte rule s t i set e =
+    let (_, _, carried) = then-accepted (andThen (tableCheck s t i) (λ _. writtenChecked rule)) _ e in
+    conflicts-byte rule set carried
+
+-- two answers that are both accepted, or refused alike
+pub data Alike {A B : Type 0} : Result A → Result B → Type 0 where
+  both : (a : A) (b : B) → Alike (accepted a) (accepted b)
+  neither : (number place : ℕ) → Alike (refused number place) (refused number place)
+
+-- an accepted translation carries conflicts, and a refused one has none but its refusal
+pub translated-alike : (rule s t i : List ℕ) → Alike (translated rule s t i .answer) (translatedConflicts rule s t i)
+unfolding translated translatedConflicts
+translated-alike rule s t i = first (andThen (tableCheck s t i) (λ _. writtenChecked rule))
+  where
+    of-rule : (form : List ℕ) (made : Result Automaton) → translation form ≡ made
+        → Alike (stored made s t i .answer) (ruleConflicts form)
+    of-rule form (refused number place) known = unfold stored ruleConflicts in rw known (neither number place)
+    of-rule form (accepted a) known = unfold stored ruleConflicts in
+        let (states, walked) = translated-walk form a known in
+        rw (known, walked) (both (counts a) _)
+
+    of-written : (form : Result (List ℕ))
+        → Alike (stored (andThen form translation) s t i .answer) (andThen form ruleConflicts)
+    of-written (accepted form) = of-rule form (translation form) refl
+    of-written (refused number place) = unfold stored in neither number place
+
+    written-alike : Alike (stored (writtenTranslation rule) s t i .answer) (writtenConflicts rule)
+    written-alike = unfold writtenTranslation writtenConflicts in of-written (normalForm rule)
+
+    first : (check : Check)
+        → Alike (unless check (stored (writtenTranslation rule) s t i) s t i .answer) (andThen check (λ _. writtenConflicts rule))
+    first (accepted u) = written-alike
+    first (refused number place) = neither number place
 
 -- of an accepted read
 pub reads-small : (image s t i : List ℕ) (c : Counts) → readInto image s t i .answer ≡ accepted c → Small c
@@ -207,6 +262,10 @@ pub record CountsRead (packed : ℕ) (c : Counts) : Type 0 where
   pub transitions : transitionsOf packed ≡ c .transitions
   pub initial : initialOf packed ≡ c .initial
 
+-- the conflicts, a bit each
+abbrev pub ConflictsRead : (packed set : ℕ) → Type 0
+ConflictsRead packed set = conflictsOf packed ≡ set
+
 -- the length of what is stored
 abbrev pub LengthRead : (packed n : ℕ) → Type 0
 LengthRead packed n = lengthOf packed ≡ n
@@ -256,21 +315,48 @@ unpacks-refused number place h = record {
       subst₂ (RefusalRead (packRefusal number place)) same-number same-place (refusal-unpacks number place h);
 }
 
-three-read : (c : Counts) → Small c → CountsRead (packThree c) c
-three-read c small =
+-- counts, with conflicts above them or none
+carried-counts : (c : Counts) → Small c → (set : ℕ) → CountsRead (packThree c + 2 ^ 40 * set) c
+carried-counts c small set =
     let s : c .states % 256 ≡ c .states = omega (arith, small .states) in
     let t : c .transitions % 65536 ≡ c .transitions = omega (arith, small .transitions) in
     let i : c .initial % 256 ≡ c .initial = omega (arith, small .initial) in
     rw (s, t, i) whole
   where
-    whole : CountsRead (256 * c .states + 65536 * c .transitions + 2 ^ 32 * c .initial) c
+    whole : CountsRead (256 * c .states + 65536 * c .transitions + 2 ^ 32 * c .initial + 2 ^ 40 * set) c
     whole = record { states = omega arith; transitions = omega arith; initial = omega arith }
+
+three-read : (c : Counts) → Small c → CountsRead (packThree c) c
+three-read c small =
+    let same : packThree c + 2 ^ 40 * 0 ≡ packThree c = omega arith in
+    subst (λ (packed : ℕ). CountsRead packed c) same (carried-counts c small 0)
 
 counts-unpack : (r : Result Counts) → Proper r → ((c : Counts) → r ≡ accepted c → Small c)
     → Unpacks CountsRead (packCounts r) r
 unfolding packCounts
 counts-unpack (accepted c) p fits = unpacks-accepted _ c (omega arith) (three-read c (fits c refl))
 counts-unpack (refused number place) p fits = unpacks-refused number place (p .refusal number place refl)
+
+carried-conflicts : (c : Counts) (set : ℕ) → set < 256 → ConflictsRead (packThree c + 2 ^ 40 * set) set
+carried-conflicts c set lt = omega arith
+
+refusal-carries : {A : Type 0} {Read : ℕ → A → Type 0} (number place : ℕ) → Refusal number place
+    → Unpacks Read (packRefusal number place + 0) (refused number place)
+refusal-carries {A} {Read} number place h =
+    let same : packRefusal number place ≡ packRefusal number place + 0 = omega arith in
+    subst (λ (packed : ℕ). Unpacks Read packed (refused number place)) same (unpacks-refused number place h)
+
+translation-unpacks : (r : Result Counts) (f : Result ℕ) → Alike r f → Proper r
+    → ((c : Counts) → r ≡ accepted c → Small c) → ((set : ℕ) → f ≡ accepted set → set < 256)
+    → Unpacks CountsRead (packCounts r + packConflicts f) r × Unpacks ConflictsRead (packCounts r + packConflicts f) f
+unfolding packCounts packConflicts
+translation-unpacks r f (both c set) p small byte = (
+  unpacks-accepted _ c (omega arith) (carried-counts c (small c refl) set),
+  unpacks-accepted _ set (omega arith) (carried-conflicts c set (byte set refl)),
+)
+translation-unpacks r f (neither number place) p small byte =
+    let refusal = p .refusal number place refl in
+    (refusal-carries number place refusal, refusal-carries number place refusal)
 
 length-unpacks : (r : Result ℕ) → Proper r → ((n : ℕ) → r ≡ accepted n → n ≤ largestImage)
     → Unpacks LengthRead (packLength r) r
@@ -313,11 +399,16 @@ merge-unpacks first second merged =
     length-unpacks (merges first second merged .answer) (merges-proper first second merged)
     (λ n e. omega (arith, merges-small first second merged n e))
 
--- zimboralo_translate
+-- zimboralo_translate: the counts, and the conflicts
+abbrev packedTranslation : (rule s t i : List ℕ) → ℕ
+packedTranslation rule s t i = packTranslated (translates rule s t i) .answer
+
 pub translate-unpacks : (rule s t i : List ℕ)
-    → Unpacks CountsRead (packCounts (translated rule s t i .answer)) (translated rule s t i .answer)
+    → Unpacks CountsRead (packedTranslation rule s t i) (translated rule s t i .answer)
+    × Unpacks ConflictsRead (packedTranslation rule s t i) (translatedConflicts rule s t i)
 translate-unpacks rule s t i =
-    counts-unpack (translated rule s t i .answer) (translated-proper rule s t i) (translated-small rule s t i)
+    translation-unpacks (translated rule s t i .answer) (translatedConflicts rule s t i) (translated-alike rule s t i)
+    (translated-proper rule s t i) (translated-small rule s t i) (translated-byte rule s t i)
 
 -- zimboralo_read
 pub read-unpacks : (image s t i : List ℕ)

@@ -1,11 +1,12 @@
 -- An answer as one number of 64 bits. The lowest byte is the refusal's number, 0 where there is none. Above it stands
--- the refusal's place, or the values: the three counts, the length of what is stored, 1 for kept and 0 for broken with
--- the number of pairs taken, or 1 for one word and 0 for two.
+-- the refusal's place, or the values: the three counts, with the conflicts where a rule was translated, the length of
+-- what is stored, 1 for kept and 0 for broken with the number of pairs taken, or 1 for one word and 0 for two.
 use Prim.Native.Nat.{ℕ, _+_, _*_, _%_, _^_}
 use mathlib.Core.List.{List}
 use mathlib.Core.Bool.{Bool, true, false}
 use Rattle.answer.specs.Result.{Result, accepted, refused}
 use Rattle.automaton.specs.Tables.{Counts, Outcome}
+use Rattle.translation.specs.Conflicts.{Carried}
 use Rattle.answer.specs.Buffer.{Buffer}
 use Rattle.judge.specs.Judge.{Verdict, kept, broken, Finding, Judgement}
 use Rattle.demands.specs.Demand.{Decision}
@@ -25,6 +26,11 @@ packSize n = 256 * (n % 2 ^ 32)
 unfoldable pub packCounts : Result Counts → ℕ
 packCounts (accepted c) = packThree c
 packCounts (refused number place) = packRefusal number place
+
+-- the conflicts in bits 40 to 47, proposition p in bit 40 + p; a refusal carries none (R-8)
+unfoldable pub packConflicts : Result ℕ → ℕ
+packConflicts (accepted conflicts) = 2 ^ 40 * conflicts
+packConflicts (refused number place) = 0
 
 unfoldable pub packLength : Result ℕ → ℕ
 packLength (accepted n) = packSize n
@@ -61,6 +67,11 @@ packedTables a s t i = record { answer = a; states = s; transitions = t; initial
 
 abbrev pub packOutcome : Outcome → PackedTables
 packOutcome o = packedTables (packCounts (o .answer)) (o .states) (o .transitions) (o .initial)
+
+abbrev pub packTranslated : Carried → PackedTables
+packTranslated x =
+    packedTables (packCounts (x .tables .answer) + packConflicts (x .conflicts)) (x .tables .states)
+    (x .tables .transitions) (x .tables .initial)
 
 -- the counts that C hands to write, one by one
 abbrev pub countsOf : (states transitions initial : ℕ) → Counts

@@ -11,11 +11,13 @@ use merge::merge;
 use normalform::normalize;
 use sameword::Compared;
 use sameword::compare;
+use translation::Translated;
 use translation::translate;
 ghost use mathlib.Core.Path.{_≡_};
+ghost use Prim.Native.Nat.{_+_};
 ghost use Rattle.normalform.specs.Normalize.{normalizes};
 ghost use Rattle.merge.specs.Merge.{merges};
-ghost use Rattle.translation.specs.Translate.{translated};
+ghost use Rattle.translation.specs.Conflicts.{toldCounts, toldConflicts, translates};
 ghost use Rattle.image.specs.Calls.{readInto, writes};
 ghost use Rattle.answer.specs.Buffer.{storedAnswer};
 ghost use Rattle.automaton.specs.Tables.{told};
@@ -24,7 +26,7 @@ ghost use Rattle.demands.specs.Demand.{decided};
 ghost use Rattle.sameword.specs.Words.{compared, comparison};
 ghost use Rattle.office.specs.Packing.{packRefusal, packThree, packSize, packPairs, packCounts, packLength};
 ghost use Rattle.office.specs.Packing.{packVerdict, packedTables, packOutcome, packedSlice, packBuffer, packJudgement};
-ghost use Rattle.office.specs.Packing.{packedDecision, packDecision, countsOf, packSame};
+ghost use Rattle.office.specs.Packing.{packedDecision, packDecision, countsOf, packSame, packConflicts, packTranslated};
 
 // A refusal's number and place.
 fn pack_refusal(number: u8, place: usize) -> u64
@@ -49,13 +51,24 @@ fn pack_size(length: usize) -> u64
     256 * ((length % 4294967296) as u64)
 }
 
-// The answer of translate or read: the counts, or the refusal.
+// The answer of read: the counts, or the refusal.
 fn pack_counted(counted: Counted) -> u64
     ensures { λ r. ⌜ r ≡ packCounts (told counted) ⌝ }
 {
     match counted {
         Counted::Accepted(counts) => pack_three(counts),
         Counted::Refused(number, place) => pack_refusal(number, place),
+    }
+}
+
+// The answer of translate: the counts and above them the conflicts, or the refusal.
+fn pack_translated(translated: Translated) -> u64
+    ensures { λ r. ⌜ r ≡ packCounts (toldCounts translated) + packConflicts (toldConflicts translated) ⌝ }
+{
+    match translated {
+        Translated::Accepted(counts, conflicts) => pack_three(counts)
+            + 1099511627776 * (conflicts as u64),
+        Translated::Refused(number, place) => pack_refusal(number, place),
     }
 }
 
@@ -116,7 +129,7 @@ pub extern "C" fn zimboralo_merge(first: &[u8], second: &[u8], merged: &mut [u8]
     pack_stored(merge(first, second, merged))
 }
 
-// The automaton of a written rule, as records in the three tables. Its counts, or a refusal.
+// The automaton of a written rule, as records in the three tables. Its counts and conflicts, or a refusal.
 #[no_mangle]
 pub extern "C" fn zimboralo_translate(
     rule: &[u8],
@@ -125,10 +138,10 @@ pub extern "C" fn zimboralo_translate(
     initial: &mut [u8],
 ) -> u64
     ensures { λ r. ⌜ packedTables r (now (states .exit)) (now (transitions .exit)) (now (initial .exit))
-        ≡ packOutcome (translated (now (rule .entry))
+        ≡ packTranslated (translates (now (rule .entry))
         (now (states .entry)) (now (transitions .entry)) (now (initial .entry))) ⌝ }
 {
-    pack_counted(translate(rule, states, transitions, initial))
+    pack_translated(translate(rule, states, transitions, initial))
 }
 
 // Tables with their counts as an image at the buffer's start. The image's length, or a refusal.

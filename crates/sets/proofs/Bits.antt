@@ -6,10 +6,10 @@ use mathlib.Core.Logic.{_⊎_, inl, inr}
 use mathlib.Core.Bool.{true, false}
 use native.Mathlib.Omega.{arith}
 use native.Mathlib.Nat.{mod-lt, div-eq-of-lt, div-self, mul-mod-left, mul-div-cancel, pow-suc, pow-succ'}
-use native.Mathlib.Nat.{div-div-eq-div-mul, div-one}
+use native.Mathlib.Nat.{div-div-eq-div-mul, div-one, div-lt-iff-lt-mul}
 use native.Mathlib.Decide.{ℕ-discrete, decLt}
 use lib.Arith.{bin-ind}
-use lib.Bits.{bitAnd, bitOr, or-shr, and-shr, or-step, and-step, or-zero-l}
+use lib.Bits.{bitAnd, bitOr, or-shr, and-shr, or-step, and-step, or-zero-l, or-comm}
 use lib.Pow.{pow-pos, pow-lt, pow-add}
 use borrow.Author.Tests.{eqb-true, eqb-false}
 use Rattle.sets.specs.Bits.{has, Has}
@@ -71,6 +71,13 @@ has-or-l a b n h = record { set = omega (arith, or-bit a b n, two (b / 2 ^ n)) }
 pub has-or-r : (a b n : ℕ) → Has b n → Has (bitOr a b) n
 has-or-r a b n h = record { set = omega (arith, or-bit a b n, two (a / 2 ^ n)) }
 
+pub and-has : (a b n : ℕ) → Has (bitAnd a b) n → Has a n × Has b n
+and-has a b n h =
+    let e = and-bit a b n in
+    let l = two (a / 2 ^ n) in
+    let r = two (b / 2 ^ n) in
+    (record { set = omega arith }, record { set = omega arith })
+
 pub zero-has : {n : ℕ} → Has 0 n → ⊥
 zero-has {n} h = omega (arith, div-eq-of-lt (pow-pos n))
 
@@ -115,7 +122,7 @@ has-half : (x n : ℕ) → Has x (suc n) → Has (x / 2) n
 has-half x n h = record { set = ap (λ (y : ℕ). y % 2) (half-bit x n) ∙ h .set }
 
 -- a number that is not 0 has a bit
-some-bit : (x : ℕ) → (x ≡ 0 → ⊥) → (n : ℕ) × Has x n
+pub some-bit : (x : ℕ) → (x ≡ 0 → ⊥) → (n : ℕ) × Has x n
 some-bit = bin-ind (λ x. (x ≡ 0 → ⊥) → (n : ℕ) × Has x n) (λ h. absurd (h refl)) step
   where
     step : (x : ℕ) → ((x / 2 ≡ 0 → ⊥) → (n : ℕ) × Has (x / 2) n) → (x ≡ 0 → ⊥) → (n : ℕ) × Has x n
@@ -133,7 +140,8 @@ and-disjoint a b h = go (ℕ-discrete (bitAnd a b) 0)
     go (yes e) = e
     go (no e) =
         let (n, k) = some-bit (bitAnd a b) e in
-        absurd (h n (record { set = omega (arith, and-bit a b n, two (a / 2 ^ n), two (b / 2 ^ n)) }) (record { set = omega (arith, and-bit a b n, two (a / 2 ^ n), two (b / 2 ^ n)) }))
+        let (p, q) = and-has a b n k in
+        absurd (h n p q)
 
 pub disjoint-and : (a b : ℕ) → bitAnd a b ≡ 0 → (n : ℕ) → Has a n → Has b n → ⊥
 disjoint-and a b e n p q = zero-has (subst (λ (x : ℕ). Has x n) e (record { set = omega (arith, and-bit a b n) }))
@@ -154,3 +162,41 @@ or-sub = bin-ind (λ x. (y : ℕ) → Sub x y → bitOr x y ≡ y) (λ y s. or-z
 
 pub sub-or : (x y : ℕ) → bitOr x y ≡ y → Sub x y
 sub-or x y e n h = subst (λ (z : ℕ). Has z n) e (has-or-l x y n h)
+
+-- numbers with the same bits are equal
+pub sub-both : (x y : ℕ) → Sub x y → Sub y x → x ≡ y
+sub-both x y s t = sym (or-sub y x t) ∙ or-comm y x ∙ or-sub x y s
+
+pub or-assoc : (a b c : ℕ) → bitOr (bitOr a b) c ≡ bitOr a (bitOr b c)
+or-assoc a b c = sub-both (bitOr (bitOr a b) c) (bitOr a (bitOr b c)) there back
+  where
+    there : Sub (bitOr (bitOr a b) c) (bitOr a (bitOr b c))
+    there n h = elim (or-has (bitOr a b) c n h) [
+      | inl p ↦ elim (or-has a b n p) [
+        | inl q ↦ has-or-l a (bitOr b c) n q
+        | inr q ↦ has-or-r a (bitOr b c) n (has-or-l b c n q)
+      ]
+      | inr p ↦ has-or-r a (bitOr b c) n (has-or-r b c n p)
+    ]
+
+    back : Sub (bitOr a (bitOr b c)) (bitOr (bitOr a b) c)
+    back n h = elim (or-has a (bitOr b c) n h) [
+      | inl p ↦ has-or-l (bitOr a b) c n (has-or-l a b n p)
+      | inr p ↦ elim (or-has b c n p) [
+        | inl q ↦ has-or-l (bitOr a b) c n (has-or-r a b n q)
+        | inr q ↦ has-or-r (bitOr a b) c n q
+      ]
+    ]
+
+-- a number whose bits are all below k
+pub bits-below : (x k : ℕ) → ((n : ℕ) → Has x n → n < k) → x < 2 ^ k
+bits-below x k below = go (decLt x (2 ^ k))
+  where
+    high : (n : ℕ) → x / 2 ^ k / 2 ^ n ≡ x / 2 ^ (k + n)
+    high n = div-div-eq-div-mul x (2 ^ k) (2 ^ n) ∙ sym (ap (λ (y : ℕ). x / y) (pow-add 2 k n))
+
+    go : Dec (x < 2 ^ k) → x < 2 ^ k
+    go (yes lt) = lt
+    go (no ge) =
+        let (n, h) = some-bit (x / 2 ^ k) (λ z. ge (omega (arith, div-lt-iff-lt-mul {x = x} {y = 1} (pow-pos k) .0 (omega arith)))) in
+        absurd (omega (arith, below (k + n) (record { set = sym (ap (λ (y : ℕ). y % 2) (high n)) ∙ h .set })))

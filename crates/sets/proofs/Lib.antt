@@ -4,6 +4,7 @@ pub mod Bits
 pub mod Lists
 pub mod Inserts
 pub mod Rising
+pub mod Conflicts
 pub mod Seeking
 pub mod Stores
 pub mod Folds

@@ -7,6 +7,7 @@ use mathlib.Core.Logic.{_⊎_}
 use lib.ListN.{length, take}
 use lib.Dec.{eqb, ltb}
 use lib.Bits.{bitAnd, bitOr}
+use Rattle.sets.specs.declared.Joined.{Joined}
 
 -- sets of A, rising by less
 module _ {A : Type 0} (less : A → A → Bool) where
@@ -37,6 +38,18 @@ module _ {A : Type 0} (less : A → A → Bool) where
     insertProduct [] ys ws = ws
     insertProduct (x ∷ xs) ys ws = insertJoins x ys (insertProduct xs ys ws)
 
+-- how two elements are joined, and for which bits a join is dropped: none where it is kept (R-8, sentence 2)
+module _ {A : Type 0} (joined : A → A → A) (conflict : A → ℕ) where
+  -- over the joins of x and each of ys
+  unfoldable pub joinConflicts : A → List A → ℕ
+  joinConflicts x [] = 0
+  joinConflicts x (y ∷ ys) = bitOr (conflict (joined x y)) (joinConflicts x ys)
+
+  -- over all joins of one of xs and one of ys, those that their product is made of (R-8, sentence 3)
+  unfoldable pub productConflicts : (xs ys : List A) → ℕ
+  productConflicts [] ys = 0
+  productConflicts (x ∷ xs) ys = bitOr (joinConflicts x ys) (productConflicts xs ys)
+
 -- x is one of them
 abbrev pub In : {A : Type 0} → A → List A → Type 0
 In x [] = ⊥
@@ -47,9 +60,13 @@ unfoldable pub any : {A : Type 0} → (A → Bool) → List A → Bool
 any test [] = false
 any test (x ∷ xs) = test x || any test xs
 
+-- the bits that a number's two lowest bytes share
+abbrev pub conflictN : ℕ → ℕ
+conflictN t = bitAnd (t / 256) (t % 256)
+
 -- a number whose two lowest bytes share no bit
 abbrev pub consistentN : ℕ → Bool
-consistentN t = eqb (bitAnd (t / 256) (t % 256)) 0
+consistentN t = eqb (conflictN t) 0
 
 abbrev pub insertN : ℕ → List ℕ → List ℕ
 insertN = insert ltb
@@ -66,6 +83,12 @@ insertJoinsN = insertJoins ltb bitOr consistentN
 abbrev pub insertProductN : List ℕ → List ℕ → List ℕ → List ℕ
 insertProductN = insertProduct ltb bitOr consistentN
 
+abbrev pub joinConflictsN : ℕ → List ℕ → ℕ
+joinConflictsN = joinConflicts bitOr conflictN
+
+abbrev pub productConflictsN : List ℕ → List ℕ → ℕ
+productConflictsN = productConflicts bitOr conflictN
+
 -- the first n of places are the set ws, or n is one more than there are places and ws has more than fit
 pub record Stores (places : List ℕ) (n : ℕ) (ws : List ℕ) : Type 0 where
   pub count : n ≡ min (suc (length places)) (length ws)
@@ -74,6 +97,12 @@ pub record Stores (places : List ℕ) (n : ℕ) (ws : List ℕ) : Type 0 where
 -- whatever set the places stored before, they now store f of it
 pub record Updates (before : List ℕ) (n : ℕ) (after : List ℕ) (m : ℕ) (f : List ℕ → List ℕ) : Type 0 where
   pub updates : (ws : List ℕ) → Stores before n ws → Stores after m (f ws)
+
+-- and r tells how many there are then, and the bits for which a join on the way was dropped
+pub record Joins (before : List ℕ) (n : ℕ) (after : List ℕ) (r : Joined) (f : List ℕ → List ℕ) (bits : ℕ)
+    : Type 0 where
+  pub updates : (ws : List ℕ) → Stores before n ws → Stores after (r .count) (f ws)
+  pub conflicts : r .conflicts ≡ bits
 
 -- t before the element at i
 unfoldable pub insertAt : {A : Type 0} → ℕ → A → List A → List A

@@ -5,8 +5,16 @@ ghost use mathlib.Core.Path.{_≡_};
 ghost use Prim.Native.Nat.{_≤_, _<_};
 ghost use lib.ListN.{length, take};
 ghost use Rattle.sets.specs.Bits.{has};
-ghost use Rattle.sets.specs.Sets.{Stores, Updates, insertAt, consistentN};
+ghost use lib.Bits.{bitOr};
+ghost use Rattle.sets.specs.Sets.{Stores, Updates, Joins, insertAt, conflictN};
 ghost use Rattle.sets.specs.Sets.{insertN, unionN, insertJoinN, insertJoinsN, insertProductN};
+ghost use Rattle.sets.specs.Sets.{joinConflictsN, productConflictsN};
+
+// What joining comes to: how many are in the set then, and the bits for which some join was dropped.
+pub struct Joined {
+    pub count: usize,
+    pub conflicts: u8,
+}
 
 // t at place i, and what stood there and after it one place on.
 fn insert_at(items: &mut [u64], n: usize, i: usize, t: u64) -> usize
@@ -49,41 +57,54 @@ pub fn insert(items: &mut [u64], count: usize, t: u64) -> usize
     insert_at(items, count, count, t)
 }
 
-// Whether the two lowest bytes share no bit: a packed term has no proposition in must and in must_not.
-fn is_consistent(t: u64) -> bool
-    ensures { λ r. ⌜ r ≡ consistentN t ⌝ }
+// The bits that the two lowest bytes share: a packed term has these propositions in must and in must_not.
+fn conflict(t: u64) -> u8
+    ensures { λ r. ⌜ r ≡ conflictN t ⌝ }
 {
-    (t / 256) & (t % 256) == 0
+    ((t / 256) & (t % 256)) as u8
 }
 
-// The set with the join of x and y, unless that join is dropped.
-fn insert_join(items: &mut [u64], count: usize, x: u64, y: u64) -> usize
-    ensures { λ r. ⌜ Updates (now (items .entry)) count (now (items .exit)) r (insertJoinN x y) ⌝ }
+// The set with the join of x and y, unless that join is dropped, and the bits for which it is.
+fn insert_join(items: &mut [u64], count: usize, x: u64, y: u64) -> Joined
+    ensures { λ r. ⌜ Joins (now (items .entry)) count (now (items .exit)) r (insertJoinN x y) (conflictN (bitOr x y)) ⌝ }
 {
     let t = x | y;
-    if is_consistent(t) {
-        insert(items, count, t)
-    } else {
-        count
+    let shared = conflict(t);
+    if shared == 0 {
+        return Joined {
+            count: insert(items, count, t),
+            conflicts: 0,
+        };
+    }
+    Joined {
+        count: count,
+        conflicts: shared,
     }
 }
 
-// The set with the joins of x and each of the first ny of ys.
-fn insert_joins(items: &mut [u64], count: usize, x: u64, ys: &[u64], ny: usize) -> usize
+// The set with the joins of x and each of the first ny of ys, and the bits for which some of them is dropped.
+fn insert_joins(items: &mut [u64], count: usize, x: u64, ys: &[u64], ny: usize) -> Joined
     requires { ⌜ ny ≤ length (now ys) ⌝ }
-    ensures { λ r. ⌜ Updates (now (items .entry)) count (now (items .exit)) r
-        (insertJoinsN x (take ny (now (ys .entry)))) ⌝ }
+    ensures { λ r. ⌜ Joins (now (items .entry)) count (now (items .exit)) r
+        (insertJoinsN x (take ny (now (ys .entry)))) (joinConflictsN x (take ny (now (ys .entry)))) ⌝ }
 {
     let mut n = count;
+    let mut conflicts = 0u8;
     let mut j = ny;
     while 0 < j {
         j -= 1;
-        n = insert_join(items, n, x, ys[j]);
+        let joined = insert_join(items, n, x, ys[j]);
+        n = joined.count;
+        conflicts = joined.conflicts | conflicts;
     }
-    n
+    Joined {
+        count: n,
+        conflicts: conflicts,
+    }
 }
 
-// The set with all joins of one of the first nx of xs and one of the first ny of ys.
+// The set with all joins of one of the first nx of xs and one of the first ny of ys, and the bits for which some of them
+// is dropped.
 pub fn product(
     items: &mut [u64],
     count: usize,
@@ -91,18 +112,25 @@ pub fn product(
     nx: usize,
     ys: &[u64],
     ny: usize,
-) -> usize
+) -> Joined
     requires { ⌜ (nx ≤ length (now xs)) × (ny ≤ length (now ys)) ⌝ }
-    ensures { λ r. ⌜ Updates (now (items .entry)) count (now (items .exit)) r
-        (insertProductN (take nx (now (xs .entry))) (take ny (now (ys .entry)))) ⌝ }
+    ensures { λ r. ⌜ Joins (now (items .entry)) count (now (items .exit)) r
+        (insertProductN (take nx (now (xs .entry))) (take ny (now (ys .entry))))
+        (productConflictsN (take nx (now (xs .entry))) (take ny (now (ys .entry)))) ⌝ }
 {
     let mut n = count;
+    let mut conflicts = 0u8;
     let mut i = nx;
     while 0 < i {
         i -= 1;
-        n = insert_joins(items, n, xs[i], ys, ny);
+        let joined = insert_joins(items, n, xs[i], ys, ny);
+        n = joined.count;
+        conflicts = joined.conflicts | conflicts;
     }
-    n
+    Joined {
+        count: n,
+        conflicts: conflicts,
+    }
 }
 
 // The set with each of the first nx of xs.

@@ -1,11 +1,11 @@
 // Prints what the program showwatch prints of a rule: its automaton, or its refusal.
 use answer::number_of;
-use automaton::Counted;
 use automaton::INITIAL_BYTES;
 use automaton::MAX_TRANSITIONS;
 use automaton::STATES_BYTES;
 use automaton::TRANSITIONS_BYTES;
 use libc::STDOUT_FILENO;
+use translation::Translated;
 ghost use mathlib.Core.Path.{_≡_};
 ghost use Prim.Native.Nat.{_≤_, _<_};
 ghost use Rattle.automaton.specs.Limits.{maxTransitions};
@@ -123,9 +123,9 @@ fn print_rows(states: &[u8], n: usize, transitions: &[u8]) {
 }
 
 // The answer of translate, with the tables that it filled.
-fn print_translated(answer: Counted, states: &[u8], transitions: &[u8]) {
+fn print_translated(answer: Translated, states: &[u8], transitions: &[u8]) {
     match answer {
-        Counted::Accepted(counts) => {
+        Translated::Accepted(counts, _) => {
             print(b"states ");
             print_number(counts.states);
             print(b" initial ");
@@ -135,7 +135,7 @@ fn print_translated(answer: Counted, states: &[u8], transitions: &[u8]) {
             print(b"\n");
             print_rows(states, counts.states, transitions);
         }
-        Counted::Refused(number, place) => {
+        Translated::Refused(number, place) => {
             print_refusal(number, place);
         }
     }

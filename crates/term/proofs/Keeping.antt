@@ -19,7 +19,7 @@ use Rattle.term.specs.declared.Terms.{Terms}
 use Rattle.term.specs.Limits.{maxTerms, rowPlaces}
 use Rattle.term.specs.Term
 use Rattle.term.specs.Size.{sizeCheck}
-use Rattle.term.specs.Memory.{pack, TermRow, TableRoom, TermTable, Reaches, FoundTerms, Kept, StoresRow, Keeps}
+use Rattle.term.specs.Memory.{pack, TermRow, TableRoom, TermTable, Reaches, FoundTerms, FoundConflicts, Kept, StoresRow, Keeps}
 use Rattle.term.proofs.Carries.{carried}
 use Rattle.term.proofs.Reached.{below-leaf, below-next, below-pair}
 
@@ -169,10 +169,11 @@ own-kept rule before n ts after stored found = record {
         }
 
 -- node n with r, whose row is stored last: into mid, that has the rows of the nodes below n
-keeps : (rule : List ℕ) (n : ℕ) (before mid : List ℕ) (r : Terms) (after : List ℕ) → FoundTerms rule n r → StoresRow mid n r after
+keeps : (rule : List ℕ) (n : ℕ) (before mid : List ℕ) (r : Terms) (after : List ℕ) → FoundTerms rule n r → FoundConflicts rule n (r .conflicts) → StoresRow mid n r after
     → ((k : ℕ) → Reaches rule n k → (k ≡ n → ⊥) → Kept rule mid k) → ((k : ℕ) → Kept rule before k → Kept rule mid k) → Keeps rule n before r after
-keeps rule n before mid r after found stored below stay = record {
+keeps rule n before mid r after found dropped stored below stay = record {
   value = found;
+  conflicts = dropped;
   reached = λ k reaches. pick k (ℕ-discrete k n) (below k reaches);
   stay = λ k kept. pick k (ℕ-discrete k n) (λ _. stay k kept);
 }
@@ -182,16 +183,16 @@ keeps rule n before mid r after found stored below stay = record {
     pick k (no other) kept = kept-stays rule mid n r after stored k other (kept other)
 
 -- by the kind of n
-module _ (rule : List ℕ) (n : ℕ) {r : Terms} (found : FoundTerms rule n r) {before after : List ℕ} where
+module _ (rule : List ℕ) (n : ℕ) {r : Terms} (found : FoundTerms rule n r) (dropped : FoundConflicts rule n (r .conflicts)) {before after : List ℕ} where
   pub keeps-leaf : kindAt rule n ≤ 3 → StoresRow before n r after → Keeps rule n before r after
-  keeps-leaf leaf stored = keeps rule n before before r after found stored (λ k reaches other. absurd (other (below-leaf rule n k leaf reaches))) (λ k kept. kept)
+  keeps-leaf leaf stored = keeps rule n before before r after found dropped stored (λ k reaches other. absurd (other (below-leaf rule n k leaf reaches))) (λ k kept. kept)
 
   module _ (l : ℕ) (is-left : l ≡ leftAt rule n) {mid : List ℕ} {a : Terms} (first : Keeps rule l before a mid) where
     pub keeps-next : kindAt rule n ≡ 6 → StoresRow mid n r after → Keeps rule n before r after
-    keeps-next next stored = keeps rule n before mid r after found stored (λ k reaches other. first .reached k (below-next rule n k l is-left next reaches other)) (first .stay)
+    keeps-next next stored = keeps rule n before mid r after found dropped stored (λ k reaches other. first .reached k (below-next rule n k l is-left next reaches other)) (first .stay)
 
     pub keeps-pair : (m : ℕ) → m ≡ rightAt rule n → {last : List ℕ} {b : Terms} → Keeps rule m mid b last → StoresRow last n r after → Keeps rule n before r after
-    keeps-pair m is-right {last} {b} second stored = keeps rule n before last r after found stored (λ k reaches other. pick k (below-pair rule n k l m is-left is-right reaches other)) (λ k kept. second .stay k (first .stay k kept))
+    keeps-pair m is-right {last} {b} second stored = keeps rule n before last r after found dropped stored (λ k reaches other. pick k (below-pair rule n k l m is-left is-right reaches other)) (λ k kept. second .stay k (first .stay k kept))
       where
         pick : (k : ℕ) → Reaches rule l k ⊎ Reaches rule m k → Kept rule last k
         pick k (inl reaches) = second .stay k (first .reached k reaches)

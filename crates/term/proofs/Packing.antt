@@ -7,14 +7,15 @@ use mathlib.Core.Bool.{Bool, true, false, cond}
 use Prim.Native.Nat.{ℕ, _+_, _*_, _^_, _/_, _%_, _≤_, _<_}
 use native.Mathlib.Omega.{arith}
 use lib.Dec.{ltb}
-use lib.Bits.{bitAnd, bitOr, or-block, and-block, or-lt, and-zero-r}
+use lib.Bits.{bitOr, or-block, and-block, or-lt, and-zero-r}
 use lib.Pow.{pow-lt}
 use borrow.Author.Tests.{lt-ltb, le-ltb, ltb-true, ltb-false}
-use Rattle.sets.specs.Sets.{insert, union, insertJoin, insertJoins, insertProduct, consistentN, insertN, unionN, insertJoinN, insertJoinsN, insertProductN}
+use Rattle.sets.specs.Sets.{insert, union, insertJoin, insertJoins, insertProduct, conflictN, consistentN, insertN, unionN, insertJoinN, insertJoinsN, insertProductN}
+use Rattle.sets.specs.Sets.{joinConflicts, productConflicts, joinConflictsN, productConflictsN}
 use Rattle.sets.proofs.Members.{All}
 use Rattle.formula.specs.Limits.{propositions}
 use Rattle.formula.specs.Formula.{Formula, bottom, top, proposition, negatedProposition, conjunction, disjunction, next, until, release, InRange}
-use Rattle.term.specs.Term.{Term, term, lessThen, less, joined, consistent, product, unions, cover, terms}
+use Rattle.term.specs.Term.{Term, term, lessThen, less, joined, conflict, consistent, product, conflictsBetween, unions, cover, terms}
 use Rattle.term.specs.Memory.{pack, packSet}
 
 -- what a number for each element of A keeps, on the elements that are Good
@@ -106,13 +107,14 @@ pack-joins : (x y : Term) → Bytes x → Bytes y → bitOr (pack x) (pack y) �
 pack-joins x y g h =
     rw (pack-blocks x, pack-blocks y, pack-blocks (joined x y), or-block 8 (x .obligations * 256 + x .must) (y .obligations * 256 + y .must) (x .mustNot) (y .mustNot) (g .mustNot) (h .mustNot), or-block 8 (x .obligations) (y .obligations) (x .must) (y .must) (g .must) (h .must))
 
-pack-drops : (t : Term) → Bytes t → consistentN (pack t) ≡ consistent t
-pack-drops t g =
+pack-conflict : (t : Term) → Bytes t → conflictN (pack t) ≡ conflict t
+pack-conflict t g =
     let a : pack t / 256 ≡ t .obligations * 256 + t .must = omega arith in
     let b : pack t % 256 ≡ 0 * 256 + t .mustNot = omega arith in
-    let e : bitAnd (pack t / 256) (pack t % 256) ≡ bitAnd (t .must) (t .mustNot) =
-    rw (a, b, and-block 8 (t .obligations) 0 (t .must) (t .mustNot) (g .must) (g .mustNot), and-zero-r) (omega arith) in
-    rw e
+    rw (a, b, and-block 8 (t .obligations) 0 (t .must) (t .mustNot) (g .must) (g .mustNot), and-zero-r) (omega arith)
+
+pack-drops : (t : Term) → Bytes t → consistentN (pack t) ≡ consistent t
+pack-drops t g = rw (pack-conflict t g)
 
 pub of-terms : Packs less joined consistent pack Bytes
 of-terms = record {
@@ -127,6 +129,20 @@ pub numbers-bytes : {ts : List Term} {ns : List ℕ} → Numbers of-terms ts ns 
 numbers-bytes none t h = absurd h
 numbers-bytes (more u own rest) t (inl e) = subst Bytes (sym e) own
 numbers-bytes (more u own rest) t (inr h) = numbers-bytes rest t h
+
+-- and the conflicts of their joins are those of the numbers' joins
+join-conflicts : (x : Term) {ys : List Term} {ns : List ℕ} → Bytes x → Numbers of-terms ys ns
+    → joinConflictsN (pack x) ns ≡ joinConflicts joined conflict x ys
+unfolding joinConflicts
+join-conflicts x g none = refl
+join-conflicts x g (more y h r) =
+    rw (pack-joins x y g h, pack-conflict (joined x y) (of-terms .good x y g h), join-conflicts x g r)
+
+pub conflicts-numbers : {xs ys : List Term} {ms ns : List ℕ} → Numbers of-terms xs ms → Numbers of-terms ys ns
+    → productConflictsN ms ns ≡ conflictsBetween xs ys
+unfolding productConflicts
+conflicts-numbers none s = refl
+conflicts-numbers (more x g r) s = rw (join-conflicts x g s, conflicts-numbers r s)
 
 -- ---- cover sets
 set-joins : (c d : ℕ) → bitOr (packSet c) (packSet d) ≡ packSet (bitOr c d)
@@ -202,3 +218,12 @@ module _ (n : ℕ) (a b : Formula) (ma : InRange a) (mb : InRange b) where
 
   pub pack-release : map pack (product (terms b) (union less (terms a) (term 0 0 (2 ^ n) ∷ []))) ≡ insertProductN (map pack (terms b)) (unionN (map pack (terms a)) (packSet (2 ^ n) ∷ [])) []
   pack-release = sym (numbers-are of-terms (product-numbers of-terms (terms-numbers b mb) (union-numbers of-terms (terms-numbers a ma) (own-numbers (2 ^ n)))))
+
+  pub conflicts-conjunction : productConflictsN (map pack (terms a)) (map pack (terms b)) ≡ conflictsBetween (terms a) (terms b)
+  conflicts-conjunction = conflicts-numbers (terms-numbers a ma) (terms-numbers b mb)
+
+  pub conflicts-until : productConflictsN (map pack (terms a)) (packSet (2 ^ n) ∷ []) ≡ conflictsBetween (terms a) (term 0 0 (2 ^ n) ∷ [])
+  conflicts-until = conflicts-numbers (terms-numbers a ma) (own-numbers (2 ^ n))
+
+  pub conflicts-release : productConflictsN (map pack (terms b)) (unionN (map pack (terms a)) (packSet (2 ^ n) ∷ [])) ≡ conflictsBetween (terms b) (union less (terms a) (term 0 0 (2 ^ n) ∷ []))
+  conflicts-release = conflicts-numbers (terms-numbers b mb) (union-numbers of-terms (terms-numbers a ma) (own-numbers (2 ^ n)))

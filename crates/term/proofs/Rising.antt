@@ -6,8 +6,9 @@ use Prim.Native.Nat.{ℕ, _*_, _/_, _%_, _^_, _<_}
 use native.Mathlib.Omega.{arith}
 use lib.Bits.{bitOr, and-zero-r}
 use lib.Pow.{pow-lt}
-use Rattle.sets.specs.Sets.{insertProductN}
+use Rattle.sets.specs.Sets.{insertProductN, productConflictsN}
 use Rattle.sets.proofs.Rising.{Rising, Consistent, union-rises, product-rises, product-zero}
+use Rattle.sets.proofs.Conflicts.{product-apart}
 use Rattle.formula.specs.Limits.{propositions}
 use Rattle.formula.specs.Formula.{Formula, bottom, top, proposition, negatedProposition, conjunction, disjunction, next, until, release, InRange}
 use Rattle.term.specs.Term.{cover, terms}
@@ -62,6 +63,9 @@ terms-rise (until n a b) m =
 terms-rise (release n a b) m =
     rw (pack-release n a b (m .0) (m .1)) (product-rises Consistent kept 0 0 _ _ _ (terms-rise b (m .1)) (union-rises Consistent 0 _ _ (terms-rise a (m .0)) (one-rises _ (set-drops (2 ^ n)))) tt)
 
--- a product begun with the term that asks nothing
+-- a product begun with the term that asks nothing: no join is dropped
 pub product-one : (f : Formula) → InRange f → insertProductN (0 ∷ []) (map pack (terms f)) [] ≡ map pack (terms f)
 product-one f m = product-zero 0 (map pack (terms f)) (terms-rise f m)
+
+pub product-one-apart : (f : Formula) → InRange f → productConflictsN (0 ∷ []) (map pack (terms f)) ≡ 0
+product-one-apart f m = product-apart 0 (map pack (terms f)) (terms-rise f m)

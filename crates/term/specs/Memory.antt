@@ -5,14 +5,16 @@ use mathlib.Core.List.{List, map}
 use mathlib.Core.Logic.{_⊎_}
 use mathlib.Core.Path.{_≡_}
 use lib.ListN.{take, length, getD, drop}
-use Rattle.answer.specs.Result.{fine, lowest}
-use Rattle.formula.specs.Formula.{tree, build, InRange, Formula, bottom, top, proposition}
+use Rattle.answer.specs.Result.{fine, refused, lowest}
+use Rattle.formula.specs.Formula.{tree, formula, build, InRange, Formula, bottom, top, proposition}
 use Rattle.formula.specs.Formula.{negatedProposition, conjunction, disjunction, next, until, release}
 use Rattle.formula.specs.Rule.{nodeCount, kindAt, leftAt, rightAt}
 use Rattle.term.specs.Limits.{maxTerms, rowPlaces}
 use Rattle.term.specs.Size.{sizeCheck}
 use Rattle.term.specs.Term.{Term, term, cover, terms}
 use Rattle.term.specs.declared.Terms.{Terms}
+use Rattle.term.specs.declared.Tabulated.{Tabulated}
+use Rattle.term.specs.declared.Tabulated.the-variants.{Accepted, Refused}
 use Rattle.term.specs.Term
 
 -- ---- a term as one number, a node's terms as one value
@@ -48,12 +50,23 @@ IsTerms r ts = IsPacked r (map pack ts)
 abbrev pub IsCover : Terms → List ℕ → Type 0
 IsCover r cs = IsPacked r (map packSet cs)
 
--- r is made from a and b, the values of the two sides of node n of that kind: its terms from theirs, and of an and, an
--- or its cover from theirs; if the count of a or b is above maxTerms, then so is that of r
+-- such a value, and the conflicts of the joins on the way to it
+pub record IsJoined (r : Terms) (ws : List ℕ) (bits : ℕ) : Type 0 where
+  pub packed : IsPacked r ws
+  pub conflicts : r .conflicts ≡ bits
+
+-- the terms of a formula with its conflicts
+abbrev pub IsNode : Terms → Formula → Type 0
+IsNode r f = IsJoined r (map pack (terms f)) (Term.conflicts f)
+
+-- r is made from a and b, the values of the two sides of node n of that kind: its terms and conflicts from theirs, and
+-- of an and, an or its cover from theirs; if the count of a or b is above maxTerms, then so is that of r
 pub record FromChildren (kind n : ℕ) (a b r : Terms) : Type 0 where
   pub handed-on : r .count ≤ maxTerms → (a .count ≤ maxTerms) × (b .count ≤ maxTerms)
   pub has-terms : a .count ≤ maxTerms → b .count ≤ maxTerms → (p : ℕ) (f g : Formula) → InRange f → InRange g
       → IsTerms a (terms f) → IsTerms b (terms g) → IsTerms r (terms (build kind n p f g))
+  pub has-conflicts : a .count ≤ maxTerms → b .count ≤ maxTerms → (p : ℕ) (f g : Formula) → InRange f → InRange g
+      → IsNode a f → IsNode b g → r .conflicts ≡ Term.conflicts (build kind n p f g)
   pub is-cover : a .count ≤ maxTerms → b .count ≤ maxTerms → kind < 6 → (p : ℕ) (f g : Formula)
       → IsCover a (cover f) → IsCover b (cover g) → IsCover r (cover (build kind n p f g))
 
@@ -105,6 +118,10 @@ FoundTerms rule n r = Found rule n r (map pack (terms (tree rule n)))
 abbrev pub FoundCover : (rule : List ℕ) (n : ℕ) → Terms → Type 0
 FoundCover rule n r = Found rule n r (map packSet (cover (tree rule n)))
 
+-- the conflicts of node n, where no node up to n is a 20
+abbrev pub FoundConflicts : (rule : List ℕ) (n bits : ℕ) → Type 0
+FoundConflicts rule n bits = lowest (sizeCheck rule) (suc n) ≡ fine → bits ≡ Term.conflicts (tree rule n)
+
 -- the row of node k says the same of its terms
 pub record Kept (rule table : List ℕ) (k : ℕ) : Type 0 where
   pub within : getD table (k * rowPlaces) 0 ≤ maxTerms → TermRow rule table k
@@ -117,11 +134,24 @@ pub record StoresRow (before : List ℕ) (n : ℕ) (ts : Terms) (after : List �
   pub items : ts .count ≤ maxTerms → take (ts .count) (drop (suc (n * rowPlaces)) after) ≡ take (ts .count) (ts .items)
   pub others : (i : ℕ) → (i < n * rowPlaces) ⊎ (suc n * rowPlaces ≤ i) → getD after i 0 ≡ getD before i 0
 
--- r has the terms of node n, and after the rows of n, of the nodes below it and of those that had theirs before
+-- r has the terms of node n and its conflicts, and after the rows of n, of the nodes below it and of those that had
+-- theirs before
 pub record Keeps (rule : List ℕ) (n : ℕ) (before : List ℕ) (r : Terms) (after : List ℕ) : Type 0 where
   pub value : FoundTerms rule n r
+  pub conflicts : FoundConflicts rule n (r .conflicts)
   pub reached : (k : ℕ) → Reaches rule n k → Kept rule after k
   pub stay : (k : ℕ) → Kept rule before k → Kept rule after k
+
+-- a table that is filled: no node is a 20, and these are the conflicts of all
+pub record Tabled (rule : List ℕ) (bits : ℕ) (table : List ℕ) : Type 0 where
+  pub sizes : lowest (sizeCheck rule) (nodeCount rule) ≡ fine
+  pub terms : TermTable rule table
+  pub conflicts : bits ≡ Term.conflicts (formula rule)
+
+-- the answer: that, or 20 at the lowest node that is one
+abbrev pub Tabulates : (rule : List ℕ) → Tabulated → (table : List ℕ) → Type 0
+Tabulates rule (Accepted conflicts) table = Tabled rule conflicts table
+Tabulates rule (Refused number place) table = lowest (sizeCheck rule) (nodeCount rule) ≡ refused number place
 
 -- ---- how many sets a cover has at most, without the sets
 

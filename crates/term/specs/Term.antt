@@ -5,7 +5,7 @@ use mathlib.Core.List.{List, [], _∷_, map}
 use mathlib.Core.Bool.{Bool, true, false, cond}
 use lib.Dec.{eqb, ltb}
 use lib.Bits.{bitAnd, bitOr}
-use Rattle.sets.specs.Sets.{union, insertProduct}
+use Rattle.sets.specs.Sets.{union, insertProduct, productConflicts}
 use Rattle.formula.specs.Formula.{Formula, bottom, top, proposition, negatedProposition, conjunction}
 use Rattle.formula.specs.Formula.{disjunction, next, until, release}
 
@@ -33,14 +33,21 @@ abbrev pub joined : Term → Term → Term
 joined x y =
     term (bitOr (x .must) (y .must)) (bitOr (x .mustNot) (y .mustNot)) (bitOr (x .obligations) (y .obligations))
 
--- whether no proposition is asked for and forbidden at once; a join that is not so is left out (01, Duties, covers
--- and terms, sentence 4)
+-- the propositions that a term asks for and forbids at once (R-8, sentence 2)
+abbrev pub conflict : Term → ℕ
+conflict t = bitAnd (t .must) (t .mustNot)
+
+-- whether there is none; a join that is not so is dropped (01, Duties, covers and terms, sentence 4)
 abbrev pub consistent : Term → Bool
-consistent t = eqb (bitAnd (t .must) (t .mustNot)) 0
+consistent t = eqb (conflict t) 0
 
 -- every consistent join of a term of ts and a term of us (01, Duties, covers and terms, sentence 6)
 abbrev pub product : List Term → List Term → List Term
 product ts us = insertProduct less joined consistent ts us []
+
+-- the propositions for which a join of one of ts and one of us is dropped (R-8, sentence 3)
+abbrev pub conflictsBetween : List Term → List Term → ℕ
+conflictsBetween ts us = productConflicts joined conflict ts us
 
 -- every union of a set of cs and a set of ds
 abbrev pub unions : List ℕ → List ℕ → List ℕ
@@ -74,3 +81,17 @@ terms (disjunction a b) = union less (terms a) (terms b)
 terms (next n a) = map (term 0 0) (cover a)
 terms (until n a b) = union less (terms b) (product (terms a) (term 0 0 (2 ^ n) ∷ []))
 terms (release n a b) = product (terms b) (union less (terms a) (term 0 0 (2 ^ n) ∷ []))
+
+-- the propositions for which a join is dropped on the way to the terms of a formula or of one below it. A next joins
+-- nothing, but its operand has terms of its own (R-8, sentence 4)
+unfoldable pub conflicts : Formula → ℕ
+conflicts bottom = 0
+conflicts top = 0
+conflicts (proposition n p) = 0
+conflicts (negatedProposition n p) = 0
+conflicts (conjunction a b) = bitOr (conflictsBetween (terms a) (terms b)) (bitOr (conflicts a) (conflicts b))
+conflicts (disjunction a b) = bitOr (conflicts a) (conflicts b)
+conflicts (next n a) = conflicts a
+conflicts (until n a b) = bitOr (conflictsBetween (terms a) (term 0 0 (2 ^ n) ∷ [])) (bitOr (conflicts a) (conflicts b))
+conflicts (release n a b) =
+    bitOr (conflictsBetween (terms b) (union less (terms a) (term 0 0 (2 ^ n) ∷ []))) (bitOr (conflicts a) (conflicts b))

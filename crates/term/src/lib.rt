@@ -6,17 +6,18 @@ ghost use mathlib.Core.Path.{_≡_};
 ghost use mathlib.Core.List.{List, [], _∷_};
 ghost use Prim.Native.Nat.{ℕ, suc, _*_, _^_, _≤_, _<_, min};
 ghost use lib.ListN.{length};
-ghost use Rattle.sets.specs.Sets.{unionN, insertProductN};
+ghost use lib.Bits.{bitOr};
+ghost use Rattle.sets.specs.Sets.{unionN, insertProductN, productConflictsN};
 ghost use Rattle.answer.specs.Result.{fine, lowest, answer};
 ghost use Rattle.formula.specs.Rule.{nodeCount};
 ghost use Rattle.formula.specs.Rule;
 ghost use Rattle.formula.specs.Limits.{maxNodes, propositions};
 ghost use Rattle.formula.specs.Formula.{Formula, build, tree, formula};
 ghost use Rattle.term.specs.Limits.{maxTerms, rowPlaces};
-ghost use Rattle.term.specs.Term.{cover, terms};
+ghost use Rattle.term.specs.Term.{cover};
 ghost use Rattle.term.specs.Size.{sizeCheck, sizesChecked, Ready};
-ghost use Rattle.term.specs.Memory.{IsPacked, IsTerms, IsCover, FromChildren};
-ghost use Rattle.term.specs.Memory.{TableRoom, TermTable, Kept, FoundCover, StoresRow, Keeps};
+ghost use Rattle.term.specs.Memory.{IsPacked, IsCover, IsJoined, IsNode, FromChildren};
+ghost use Rattle.term.specs.Memory.{TableRoom, Kept, FoundCover, StoresRow, Keeps, Tabulates};
 ghost use Rattle.term.specs.Memory.{coverBound, BoundedBelow};
 
 // The number of document 01 by which a rule with too many terms or cover sets is refused.
@@ -34,10 +35,18 @@ pub const TABLE_PLACES: usize = formula::MAX_NODES * ROW_PLACES;
 // A packed term: obligations * 65536 + must * 256 + must_not.
 pub type Term = u64;
 
-// A node's terms, rising. A count above MAX_TERMS says that there are more than that.
+// A node's terms, rising, and the propositions for which a join on the way to them was dropped. A count above MAX_TERMS
+// says that there are more than that.
 pub struct Terms {
     pub count: usize,
     pub items: [Term; MAX_TERMS],
+    pub conflicts: u8,
+}
+
+// The answer of a table that is filled: the conflicts of all nodes, or a refusal's number and place.
+pub enum Tabulated {
+    Accepted(u8),
+    Refused(u8, usize),
 }
 
 fn bit(n: usize) -> u64
@@ -48,42 +57,47 @@ fn bit(n: usize) -> u64
 }
 
 fn none() -> Terms
-    ensures { λ r. ⌜ IsPacked r [] ⌝ }
+    ensures { λ r. ⌜ IsJoined r [] 0 ⌝ }
 {
     Terms {
         count: 0,
         items: [0; MAX_TERMS],
+        conflicts: 0,
     }
 }
 
 fn one(t: Term) -> Terms
-    ensures { λ r. ⌜ IsPacked r (t ∷ []) ⌝ }
+    ensures { λ r. ⌜ IsJoined r (t ∷ []) 0 ⌝ }
 {
     Terms {
         count: 1,
         items: [t; MAX_TERMS],
+        conflicts: 0,
     }
 }
 
-// The joins of each of a and each of b.
+// The joins of each of a and each of b. Like the next three, with the conflicts of a, of b and of its own joins.
 fn product(a: Terms, b: Terms) -> Terms
     requires { ⌜ (a .count ≤ maxTerms) × (b .count ≤ maxTerms) ⌝ }
-    ensures { λ r. ⌜ ((us vs : List ℕ) → IsPacked a us → IsPacked b vs → IsPacked r (insertProductN us vs [])) ⌝ }
+    ensures { λ r. ⌜ ((us vs : List ℕ) → IsPacked a us → IsPacked b vs → IsJoined r (insertProductN us vs [])
+        (bitOr (productConflictsN us vs) (bitOr (a .conflicts) (b .conflicts)))) ⌝ }
 {
     let na = a.count;
     let nb = b.count;
     let mut out = [0u64; MAX_TERMS];
-    let n = sets::product(&mut out, 0, &a.items, na, &b.items, nb);
+    let joined = sets::product(&mut out, 0, &a.items, na, &b.items, nb);
     Terms {
-        count: n,
+        count: joined.count,
         items: out,
+        conflicts: joined.conflicts | (a.conflicts | b.conflicts),
     }
 }
 
 // a together with b.
 fn union(a: Terms, b: Terms) -> Terms
     requires { ⌜ (a .count ≤ maxTerms) × (b .count ≤ maxTerms) ⌝ }
-    ensures { λ r. ⌜ ((us vs : List ℕ) → IsPacked a us → IsPacked b vs → IsPacked r (unionN us vs)) ⌝ }
+    ensures { λ r. ⌜ ((us vs : List ℕ) → IsPacked a us → IsPacked b vs
+        → IsJoined r (unionN us vs) (bitOr (a .conflicts) (b .conflicts))) ⌝ }
 {
     let na = a.count;
     let nb = b.count;
@@ -92,6 +106,7 @@ fn union(a: Terms, b: Terms) -> Terms
     Terms {
         count: n,
         items: out,
+        conflicts: a.conflicts | b.conflicts,
     }
 }
 
@@ -99,17 +114,20 @@ fn union(a: Terms, b: Terms) -> Terms
 fn until(a: Terms, b: Terms, own: Term) -> Terms
     requires { ⌜ (a .count ≤ maxTerms) × (b .count ≤ maxTerms) ⌝ }
     ensures { λ r. ⌜ ((us vs : List ℕ) → IsPacked a us → IsPacked b vs
-        → IsPacked r (unionN vs (insertProductN us (own ∷ []) []))) ⌝ }
+        → IsJoined r (unionN vs (insertProductN us (own ∷ []) []))
+        (bitOr (productConflictsN us (own ∷ [])) (bitOr (a .conflicts) (b .conflicts)))) ⌝ }
 {
     let na = a.count;
     let nb = b.count;
     let owns = [own; 1];
     let mut out = [0u64; MAX_TERMS];
-    let n = sets::product(&mut out, 0, &a.items, na, &owns, 1);
+    let joined = sets::product(&mut out, 0, &a.items, na, &owns, 1);
+    let n = joined.count;
     let m = sets::union(&mut out, n, &b.items, nb);
     Terms {
         count: m,
         items: out,
+        conflicts: joined.conflicts | (a.conflicts | b.conflicts),
     }
 }
 
@@ -117,17 +135,19 @@ fn until(a: Terms, b: Terms, own: Term) -> Terms
 fn release(a: Terms, b: Terms, own: Term) -> Terms
     requires { ⌜ (a .count ≤ maxTerms) × (b .count ≤ maxTerms) ⌝ }
     ensures { λ r. ⌜ ((us vs : List ℕ) → IsPacked a us → IsPacked b vs
-        → IsPacked r (insertProductN vs (unionN us (own ∷ [])) [])) ⌝ }
+        → IsJoined r (insertProductN vs (unionN us (own ∷ [])) [])
+        (bitOr (productConflictsN vs (unionN us (own ∷ []))) (bitOr (a .conflicts) (b .conflicts)))) ⌝ }
 {
     let na = a.count;
     let nb = b.count;
     let mut more = [own; MAX_TERMS + 1];
     let n = sets::union(&mut more, 1, &a.items, na);
     let mut out = [0u64; MAX_TERMS];
-    let m = sets::product(&mut out, 0, &b.items, nb, &more, n);
+    let joined = sets::product(&mut out, 0, &b.items, nb, &more, n);
     Terms {
-        count: m,
+        count: joined.count,
         items: out,
+        conflicts: joined.conflicts | (a.conflicts | b.conflicts),
     }
 }
 
@@ -159,7 +179,7 @@ fn cover_leaf(kind: u8, n: usize) -> Terms
 // The terms of a node of kind 0 to 3 whose left byte is p.
 fn terms_leaf(kind: u8, p: usize) -> Terms
     requires { ⌜ (kind < 4) × (1 < kind → p < propositions) ⌝ }
-    ensures { λ r. ⌜ ((n : ℕ) (f g : Formula) → IsTerms r (terms (build kind n p f g))) ⌝ }
+    ensures { λ r. ⌜ ((n : ℕ) (f g : Formula) → IsNode r (build kind n p f g)) ⌝ }
 {
     if kind == formula::FALSE {
         return none();
@@ -232,7 +252,7 @@ fn store_row(table: &mut [u64], n: usize, ts: Terms)
     answer::copy_words(&mut table[from..], &ts.items, count);
 }
 
-// The terms of node n, and in the table the rows of n and of all nodes below it.
+// The terms of node n, with the conflicts of n and of all nodes below it, and in the table the rows of these.
 fn keep_terms(rule: &[u8], n: usize, table: &mut [u64]) -> Terms
     requires { ⌜ Ready (now rule) n × TableRoom (now rule) (now table) ⌝ }
     ensures { λ r. ⌜ Keeps (now (rule .entry)) n (now (table .entry)) r (now (table .exit)) ⌝ }
@@ -246,9 +266,10 @@ fn keep_terms(rule: &[u8], n: usize, table: &mut [u64]) -> Terms
     }
     let a = keep_terms(rule, left, table);
     if kind == formula::NEXT {
-        let sets = cover_of(rule, left);
-        store_row(table, n, sets);
-        return sets;
+        let mut owing = cover_of(rule, left);
+        owing.conflicts = a.conflicts;
+        store_row(table, n, owing);
+        return owing;
     }
     let b = keep_terms(rule, formula::right_of(rule, n), table);
     let pair = from_children(kind, n, a, b);
@@ -333,15 +354,18 @@ fn check_sizes(rule: &[u8], n: usize, table: &[u64]) -> Checked
     Checked::Accepted
 }
 
-// The terms of all nodes in the table, or 20 at the lowest node that has too many.
-pub fn tabulate(rule: &[u8], table: &mut [u64]) -> Checked
+// The terms of all nodes in the table, and their conflicts, or 20 at the lowest node that has too many.
+pub fn tabulate(rule: &[u8], table: &mut [u64]) -> Tabulated
     requires { ⌜ (Rule.checked (now rule) ≡ fine) × TableRoom (now rule) (now table) ⌝ }
-    ensures { λ r. ⌜ answer r ≡ lowest (sizeCheck (now (rule .entry))) (nodeCount (now (rule .entry))) ⌝ }
-    ensures { λ r. ⌜ (answer r ≡ fine → TermTable (now (rule .entry)) (now (table .exit))) ⌝ }
+    ensures { λ r. ⌜ Tabulates (now (rule .entry)) r (now (table .exit)) ⌝ }
 {
     let n = rule.len() / 3;
-    keep_terms(rule, n - 1, table);
-    check_sizes(rule, n, table)
+    let root = keep_terms(rule, n - 1, table);
+    let sizes = check_sizes(rule, n, table);
+    if let Checked::Refused(number, place) = sizes {
+        return Tabulated::Refused(number, place);
+    }
+    Tabulated::Accepted(root.conflicts)
 }
 
 // The cover of the root: the sets of obligations that the walk begins with.

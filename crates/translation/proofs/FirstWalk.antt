@@ -47,9 +47,9 @@ part-is xs pre mid post e =
 -- ---- the tables that the walk leaves
 
 -- what the walk's tables hand over
-pub handed : {rule : List ℕ} {initial n m : ℕ} {states kepts ends : List ℕ} → length states ≡ maxGeneralizedStates
+pub handed : {rule : List ℕ} {initial n m dropped : ℕ} {states kepts ends : List ℕ} → length states ≡ maxGeneralizedStates
     → length kepts ≡ maxGeneralizedTransitions → length ends ≡ maxGeneralizedStates
-    → Tables rule initial n m states kepts ends → FirstWalk rule initial kepts ends
+    → Tables rule initial n m dropped states kepts ends → FirstWalk rule initial kepts ends
 handed {rule} {n = n} {states = states} size room ends-room t =
     let counted = t .counted in
     record {

@@ -21,13 +21,17 @@ use Rattle.translation.specs.declared.Met.the-variants.{Number, Full}
 use Rattle.translation.specs.declared.Paired.{Paired}
 use Rattle.translation.specs.declared.Paired.the-variants.{Count, Stop}
 use Rattle.translation.specs.declared.Extent.{Extent}
+use Rattle.translation.specs.declared.Translated.{Translated}
+use Rattle.translation.specs.declared.Translated.the-variants.{Accepted as Carried, Refused as Turned}
 use Rattle.automaton.specs.declared.Counted.{Counted}
+use Rattle.automaton.specs.declared.Counted.the-variants.{Accepted, Refused}
 use Rattle.automaton.specs.Automaton.{Automaton}
 use Rattle.automaton.specs.Limits.{maxStates, maxOfState}
 use Rattle.automaton.specs.Records.{records, stateBytes, transitionBytes}
 use Rattle.automaton.specs.Tables.{told, outcome}
 use Rattle.translation.specs.Degeneralized.{Pair, pair, translation}
 use Rattle.translation.specs.Translate.{stored}
+use Rattle.translation.specs.Conflicts.{ruleConflicts, toldCounts, toldConflicts}
 
 -- ---- the first walk's transitions
 
@@ -225,6 +229,12 @@ WalksPairs ends transitions r n pairs table met pairs′ index′ table′ =
 abbrev pub Leaves : Result Automaton → Counted → (s t i s′ t′ i′ : List ℕ) → Type 0
 Leaves made answer s t i s′ t′ i′ = outcome (told answer) s′ t′ i′ ≡ stored made s t i
 
--- for a rule that 25 and 1 to 7 let pass
-abbrev pub Builds : (rule : List ℕ) → Counted → (s t i s′ t′ i′ : List ℕ) → Type 0
-Builds rule = Leaves (translation rule)
+-- counts with conflicts, or a refusal
+abbrev pub carrying : Counted → ℕ → Translated
+carrying (Accepted c) conflicts = Carried c conflicts
+carrying (Refused number place) conflicts = Turned number place
+
+-- for a rule that 25 and 1 to 7 let pass, with the conflicts that an acceptance carries
+pub record Builds (rule : List ℕ) (r : Translated) (s t i s′ t′ i′ : List ℕ) : Type 0 where
+  pub tables : outcome (toldCounts r) s′ t′ i′ ≡ stored (translation rule) s t i
+  pub conflicts : toldConflicts r ≡ ruleConflicts rule

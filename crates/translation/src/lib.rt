@@ -1,6 +1,5 @@
 // The second walk, which makes the automaton of a rule, and the call translate: the automaton as records in three
 // tables that the caller lends.
-use answer::Checked;
 use answer::Stored;
 use answer::TABLE_TOO_SHORT;
 use answer::put_number;
@@ -13,6 +12,7 @@ use automaton::tables_fit;
 use formula::MAX_BYTES;
 use generalized::GeneralizedNumber;
 use generalized::Walked;
+use term::Tabulated;
 ghost use mathlib.Core.Path.{_≡_};
 ghost use mathlib.Core.Bool.{cond};
 ghost use mathlib.Core.List.{[], _∷_, _++_, map};
@@ -23,20 +23,22 @@ ghost use Rattle.answer.specs.Result.{fine, refused};
 ghost use Rattle.answer.specs.Bytes.{twoBytes, filled};
 ghost use Rattle.formula.specs.Limits.{maxUntils};
 ghost use Rattle.formula.specs.Rule;
+ghost use Rattle.formula.specs.Formula.{formula};
 ghost use Rattle.term.specs.Limits.{maxTerms};
 ghost use Rattle.term.specs.Size.{sizesChecked};
-ghost use Rattle.term.specs.Memory.{TableRoom};
+ghost use Rattle.term.specs.Term.{conflicts};
+ghost use Rattle.term.specs.Memory.{TableRoom, TermTable};
 ghost use Rattle.generalized.specs.Limits.{maxGeneralizedStates};
 ghost use Rattle.generalized.specs.Memory.{keptTarget, keptMust, keptMustNot};
 ghost use Rattle.automaton.specs.Limits.{maxStates, transitionsBytes, initialBytes};
 ghost use Rattle.automaton.specs.Records.{records, numberedRecords, stateBytes, transitionBytes};
-ghost use Rattle.automaton.specs.Tables.{told, outcome, TablesRoom};
-ghost use Rattle.translation.specs.Degeneralized.{numbers};
+ghost use Rattle.automaton.specs.Tables.{TablesRoom};
+ghost use Rattle.translation.specs.Degeneralized.{numbers, translation};
 ghost use Rattle.translation.specs.Memory.{FirstWalk, rowStart, levelPlaces, codeOf, codePlaces, climbN};
 ghost use Rattle.translation.specs.Memory.{nextLevelN, targetN, numberN, staysN, restsN, pairBytes, PairRows};
 ghost use Rattle.translation.specs.Memory.{PairsNumbered, Leads, MeetsPair, MeetsRow, WalksPairs};
-ghost use Rattle.translation.specs.Memory.{Leaves, Builds};
-ghost use Rattle.translation.specs.Translate.{translated};
+ghost use Rattle.translation.specs.Memory.{Leaves, carrying, Builds};
+ghost use Rattle.translation.specs.Conflicts.{toldWith, translates};
 
 // The number of document 01 by which the second walk is refused.
 pub const TOO_MANY_PAIRS: u8 = 24;
@@ -52,6 +54,13 @@ const FEW_NODES: usize = 8;
 
 // A state's number in the automaton; the first walk's states have numbers of another type.
 pub struct StateNumber(pub usize);
+
+// The answer of translate: the automaton's counts and the propositions for which some join was dropped, a bit each; or a
+// refusal's number and place.
+pub enum Translated {
+    Accepted(Counts, u8),
+    Refused(u8, usize),
+}
 
 // How far the second walk is: the pairs that are walked, those that are numbered, and the transitions that are written.
 struct Extent {
@@ -427,7 +436,7 @@ fn degeneralize(
 ) -> Counted
     requires { ⌜ (sizesChecked (now rule) ≡ fine) × FirstWalk (now rule) first (now kept) (now ends)
         × TablesRoom (now states) (now transitions) (now initial) ⌝ }
-    ensures { λ r. ⌜ Builds (now (rule .entry)) r
+    ensures { λ r. ⌜ Leaves (translation (now (rule .entry))) r
         (now (states .entry)) (now (transitions .entry)) (now (initial .entry))
         (now (states .exit)) (now (transitions .exit)) (now (initial .exit)) ⌝ }
 {
@@ -453,14 +462,56 @@ fn degeneralize(
     }
 }
 
-// The two walks of a rule that 1 to 7 let pass, with its terms in a table, and the automaton in the three tables.
+// An answer with the conflicts that it carries; a refusal carries none.
+fn carry(counted: Counted, conflicts: u8) -> Translated
+    ensures { λ r. ⌜ r ≡ carrying counted conflicts ⌝ }
+{
+    match counted {
+        Counted::Accepted(counts) => Translated::Accepted(counts, conflicts),
+        Counted::Refused(number, place) => Translated::Refused(number, place),
+    }
+}
+
+// The two walks of a rule that 1 to 7 and 20 let pass, by the table of its terms, and the automaton in the three tables;
+// of_nodes are the conflicts of its nodes.
+fn walk_both(
+    rule: &[u8],
+    table: &[u64],
+    of_nodes: u8,
+    states: &mut [u8],
+    transitions: &mut [u8],
+    initial: &mut [u8],
+) -> Translated
+    requires { ⌜ (sizesChecked (now rule) ≡ fine) × TermTable (now rule) (now table)
+        × («of_nodes» ≡ conflicts (formula (now rule))) × TablesRoom (now states) (now transitions) (now initial) ⌝ }
+    ensures { λ r. ⌜ Builds (now (rule .entry)) r
+        (now (states .entry)) (now (transitions .entry)) (now (initial .entry))
+        (now (states .exit)) (now (transitions .exit)) (now (initial .exit)) ⌝ }
+{
+    let mut found = [0u64; generalized::MAX_STATES];
+    let mut kept = [0u32; generalized::MAX_TRANSITIONS];
+    let mut ends = [0usize; generalized::MAX_STATES];
+    let walked = generalized::walk(rule, table, &mut found, &mut kept, &mut ends);
+    match walked {
+        Walked::Refused(number, place) => carry(
+            refuse(number, place, states, transitions, initial),
+            0,
+        ),
+        Walked::Accepted(first, _, _, of_states) => carry(
+            degeneralize(rule, first, &kept, &ends, states, transitions, initial),
+            of_nodes | of_states,
+        ),
+    }
+}
+
+// The automaton of a rule that 1 to 7 let pass in the three tables, with its terms in a table.
 fn build(
     rule: &[u8],
     table: &mut [u64],
     states: &mut [u8],
     transitions: &mut [u8],
     initial: &mut [u8],
-) -> Counted
+) -> Translated
     requires { ⌜ (Rule.checked (now rule) ≡ fine) × TableRoom (now rule) (now table)
         × TablesRoom (now states) (now transitions) (now initial) ⌝ }
     ensures { λ r. ⌜ Builds (now (rule .entry)) r
@@ -468,20 +519,15 @@ fn build(
         (now (states .exit)) (now (transitions .exit)) (now (initial .exit)) ⌝ }
 {
     let sizes = term::tabulate(rule, table);
-    if let Checked::Refused(number, place) = sizes {
-        return refuse(number, place, states, transitions, initial);
-    }
-    let mut found = [0u64; generalized::MAX_STATES];
-    let mut kept = [0u32; generalized::MAX_TRANSITIONS];
-    let mut ends = [0usize; generalized::MAX_STATES];
-    let walked = generalized::walk(rule, table, &mut found, &mut kept, &mut ends);
-    match walked {
-        Walked::Refused(number, place) => refuse(number, place, states, transitions, initial),
-        Walked::Accepted(first, _, _) => degeneralize(
+    match sizes {
+        Tabulated::Refused(number, place) => carry(
+            refuse(number, place, states, transitions, initial),
+            0,
+        ),
+        Tabulated::Accepted(of_nodes) => walk_both(
             rule,
-            first,
-            &kept,
-            &ends,
+            table,
+            of_nodes,
             states,
             transitions,
             initial,
@@ -495,7 +541,7 @@ fn build_tabled(
     states: &mut [u8],
     transitions: &mut [u8],
     initial: &mut [u8],
-) -> Counted
+) -> Translated
     requires { ⌜ (Rule.checked (now rule) ≡ fine) × TablesRoom (now states) (now transitions) (now initial) ⌝ }
     ensures { λ r. ⌜ Builds (now (rule .entry)) r
         (now (states .entry)) (now (transitions .entry)) (now (initial .entry))
@@ -509,22 +555,22 @@ fn build_tabled(
     build(rule, &mut table, states, transitions, initial)
 }
 
-// The automaton of a written rule in three tables: that of its normal form.
+// The automaton of a written rule in three tables: that of its normal form. Its counts and conflicts, or a refusal.
 pub fn translate(
     rule: &[u8],
     states: &mut [u8],
     transitions: &mut [u8],
     initial: &mut [u8],
-) -> Counted
-    ensures { λ r. ⌜ outcome (told r) (now (states .exit)) (now (transitions .exit)) (now (initial .exit))
-        ≡ translated (now (rule .entry)) (now (states .entry)) (now (transitions .entry)) (now (initial .entry)) ⌝ }
+) -> Translated
+    ensures { λ r. ⌜ toldWith r (now (states .exit)) (now (transitions .exit)) (now (initial .exit))
+        ≡ translates (now (rule .entry)) (now (states .entry)) (now (transitions .entry)) (now (initial .entry)) ⌝ }
 {
     if !tables_fit(states.len(), transitions.len(), initial.len()) {
-        return Counted::Refused(TABLE_TOO_SHORT, 0);
+        return Translated::Refused(TABLE_TOO_SHORT, 0);
     }
     let mut form = [0u8; MAX_BYTES];
     match normalform::check_form(rule, &mut form) {
-        Stored::Refused(number, place) => Counted::Refused(number, place),
+        Stored::Refused(number, place) => Translated::Refused(number, place),
         Stored::Accepted(n) => build_tabled(&form[..n], states, transitions, initial),
     }
 }

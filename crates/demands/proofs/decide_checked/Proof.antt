@@ -1,13 +1,17 @@
 -- `demands::decide_checked` meets its contract: `translate` stores the tables of the rule's automaton, `write` makes
 -- its image of them, and `judge` gives the verdict on that image. Assumes nothing.
-use mathlib.Core.Path.{sym, ap}
+use mathlib.Core.Path.{_≡_, sym, ap}
 use lib.Seq.{length-take-le}
-use Rattle.automaton.specs.Tables.{told}
+use Rattle.translation.specs.Conflicts.{toldCounts, Carried}
 use Rattle.answer.specs.Buffer.{storedAnswer}
 use Rattle.demands.proofs.Deciding.{rule-refused, write-refused, image-inside, lasso-judged}
 use borrow.Author.Needs.{needs}
 use Rattle.demands.proofs.decide_checked.Statement.{statement}
 use Rattle.demands.proofs.decide_checked.Tie as tie
+
+-- of what translate comes to, the counts with the tables
+tables : {x y : Carried} → x ≡ y → x .tables ≡ y .tables
+tables e = ap (λ (c : Carried). c .tables) e
 
 slice-reshare-prefix-judge : tie.Need-slice-reshare-prefix-judge
 slice-reshare-prefix-judge c =
@@ -18,8 +22,8 @@ slice-reshare-prefix-judge c =
     called .before .before .before .before .before .before .before .before .before .before .before .before in
     let a = start .args in
     image-inside (a .rule .now) (a .stem .now) (a .cycle .now) (a .states .now) (a .transitions .now) (a .initial .now)
-    (a .image .now) (a .work .now) (start .pre) _ _ _ (called .translate .ensures) _
-    (ap told (matched .counts .given .1)) _ (stored .write .ensures) _
+    (a .image .now) (a .work .now) (start .pre) _ _ _ (tables (called .translate .ensures)) _
+    (ap toldCounts (matched .counts .given .1)) _ (stored .write .ensures) _
     (ap storedAnswer (c .before .length .given .1))
 
 slice-aggregate-judge : tie.Need-slice-aggregate-judge
@@ -30,8 +34,8 @@ returns c =
     let called = c .before .before .before .before .before .before .before .before .before in
     let start =
     called .before .before .before .before .before .before .before .before .before .before .before .before in
-    rule-refused _ _ _ _ _ _ _ _ (start .pre) _ _ _ (called .translate .ensures)
-    (ap told (c .before .number .given .1))
+    rule-refused _ _ _ _ _ _ _ _ (start .pre) _ _ _ (tables (called .translate .ensures))
+    (ap toldCounts (c .before .number .given .1))
 
 returns-2 : tie.Need-returns-2
 returns-2 c =
@@ -40,8 +44,8 @@ returns-2 c =
     let called = matched .before .before .before .before .before .before .before .before in
     let start =
     called .before .before .before .before .before .before .before .before .before .before .before .before in
-    write-refused _ _ _ _ _ _ _ _ (start .pre) _ _ _ (called .translate .ensures) _
-    (ap told (matched .counts .given .1)) _ (stored .write .ensures)
+    write-refused _ _ _ _ _ _ _ _ (start .pre) _ _ _ (tables (called .translate .ensures)) _
+    (ap toldCounts (matched .counts .given .1)) _ (stored .write .ensures)
     (ap storedAnswer (c .before .number2 .given .1))
 
 returns-3 : tie.Need-returns-3
@@ -51,8 +55,8 @@ returns-3 c =
     let called = matched .before .before .before .before .before .before .before .before in
     let start =
     called .before .before .before .before .before .before .before .before .before .before .before .before in
-    lasso-judged _ _ _ _ _ _ _ _ (start .pre) _ _ _ (called .translate .ensures) _
-    (ap told (matched .counts .given .1)) _ (stored .write .ensures) _
+    lasso-judged _ _ _ _ _ _ _ _ (start .pre) _ _ _ (tables (called .translate .ensures)) _
+    (ap toldCounts (matched .counts .given .1)) _ (stored .write .ensures) _
     (ap storedAnswer (c .before .before .before .before .before .before .length .given .1))
     (c .before .before .judge .ensures)
 

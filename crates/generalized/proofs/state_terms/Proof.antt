@@ -12,11 +12,11 @@ use Rattle.generalized.proofs.state_terms.Statement.{statement}
 use Rattle.generalized.proofs.state_terms.Tie as tie
 
 abbrev Inv-loop : tie.InvT-loop
-Inv-loop rule table state product₀ next₀ n count₀ k₀ product next count k =
-    Multiplying rule state n product next count k
+Inv-loop rule table state product₀ next₀ n count₀ conflicts₀ k₀ product next count conflicts k =
+    Multiplying rule state n product next count conflicts k
 
 abbrev μ-loop : tie.MeasureT-loop
-μ-loop rule table state product₀ next₀ n count₀ k₀ product next count k = n - k
+μ-loop rule table state product₀ next₀ n count₀ conflicts₀ k₀ product next count conflicts k = n - k
 
 loop-holds : tie.Need-loop-holds Inv-loop μ-loop
 loop-holds c =
@@ -47,13 +47,13 @@ returns c =
 
 loop-again-2 : tie.Need-loop-again-2 Inv-loop μ-loop
 loop-again-2 c =
-    let call = c .before .before .before .before .before in
+    let call = c .before .before .before .before .before .before in
     let test = call .before .before .before in
     let at = test .before .before .before in
     let s = at .before .before .before .before .before in
     multiply-steps (at .loop .inv) (omega arith) (λ j lt. in-range _ (s .pre .0) j (omega arith))
     (s .pre .1 .rows _ (omega arith)) (sym (test .before .has .ensures) ∙ not-false _ (test .if1 .left)) _ _
-    (call .times .kept .1 .1 .0) (call .times .ensures) (call .times .kept .1 .1 .1 .1 .0) (c .if2 .left)
+    (call .times .kept .1 .1 .0) (call .times .ensures) (call .times .kept .1 .1 .1 .1 .0) (c .before .if2 .left)
 
 returns-2 : tie.Need-returns-2 Inv-loop μ-loop
 returns-2 c = multiply-ends (c .before .loop .inv) refl (c .loop-test .left)

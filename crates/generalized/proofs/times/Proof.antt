@@ -8,12 +8,13 @@ use Prim.Native.Nat.{ℕ, suc, _+_, _-_, _*_, _≤_, _<_}
 use lib.ListN.{length, getD, take, drop, length-append, length-drop}
 use borrow.Author.Tests.{eqb-true}
 use lib.Seq.{take-suc, take-take, take-at, length-take-le}
-use Rattle.sets.specs.Sets.{Stores, insertProductN}
+use Rattle.sets.specs.declared.Joined.{Joined}
+use Rattle.sets.specs.Sets.{Stores, Joins, insertProductN, productConflictsN}
 use Rattle.sets.proofs.Stores.{empty, items-are}
 use Rattle.term.specs.Limits.{rowPlaces}
 use Rattle.term.specs.Memory.{rowOf}
 use Rattle.generalized.specs.Limits.{maxProduct}
-use Rattle.generalized.specs.Memory.{Factor}
+use Rattle.generalized.specs.Memory.{Factor, Multiplied}
 use Rattle.generalized.proofs.times.Statement.{statement}
 use Rattle.generalized.proofs.times.Tie as tie
 
@@ -41,26 +42,45 @@ module _ {table : List ℕ} {k n : ℕ} (factor : Factor table k) (is : n ≡ ge
       rw (row, is) (length-take-le (getD table (k * rowPlaces) 0) _ (omega (arith, factor .inside, left)))
 
   module _ (product : List ℕ) (size : length product ≡ maxProduct) (count : ℕ) where
-    -- the product with the row
+    -- the product with the row, and its conflicts
     abbrev times : List ℕ
     times = insertProductN (take count product) (rowOf table k) []
 
+    abbrev dropped : ℕ
+    dropped = productConflictsN (take count product) (rowOf table k)
+
     alone : {after : List ℕ} → count ≡ 1 → getD product 0 0 ≡ 0 → after ≡ take n part ++ drop n product
-        → Stores after n times
+        → Multiplied after (record { count = n; conflicts = 0 }) times dropped
     alone one zero e =
         let first : take 1 product ≡ 0 ∷ [] = take-suc product 0 0 (omega arith) ∙ rw zero in
-        rw (one, first, factor .alone) (front (take n part) product (omega (arith, factor .few)) row-size row e)
+        record {
+          stores = rw (one, first, factor .alone)
+              (front (take n part) product (omega (arith, factor .few)) row-size row e);
+          conflicts = rw (one, first, factor .apart);
+        }
 
-    module _ {next : List ℕ} {more : ℕ} (room : length next ≡ maxProduct)
-        (h : Stores next more (insertProductN (take count product) (take n part) [])) where
-      over : maxProduct < more → Stores product more times
-      over lt = rw (← row) (record { count = omega (arith, h .count); items = λ le. absurd (omega (arith, h .count)) })
+    module _ {before next : List ℕ} {r : Joined} (room : length next ≡ maxProduct)
+        (joins : Joins before 0 next r (insertProductN (take count product) (take n part))
+        (productConflictsN (take count product) (take n part))) where
+      stored : Stores next (r .count) (insertProductN (take count product) (take n part) [])
+      stored = joins .updates [] (empty before)
 
-      back : more ≤ maxProduct → {after : List ℕ} → after ≡ take more next ++ drop more product
-          → Stores after more times
+      over : maxProduct < r .count → Multiplied product r times dropped
+      over lt = record {
+        stores = rw (← row)
+            (record { count = omega (arith, stored .count); items = λ le. absurd (omega (arith, stored .count)) });
+        conflicts = rw (← row) (joins .conflicts);
+      }
+
+      back : r .count ≤ maxProduct → {after : List ℕ} → after ≡ take (r .count) next ++ drop (r .count) product
+          → Multiplied after r times dropped
       back le e =
-          let taken = length-take-le more next (omega arith) in
-          rw (← row) (front (take more next) product (omega arith) taken (items-are h (omega arith)) e)
+          let taken = length-take-le (r .count) next (omega arith) in
+          record {
+            stores = rw (← row)
+                (front (take (r .count) next) product (omega arith) taken (items-are stored (omega arith)) e);
+            conflicts = rw (← row) (joins .conflicts);
+          }
 
 returns : tie.Need-returns
 returns c =
@@ -75,7 +95,7 @@ returns-2 c =
     let call = c .before .before .before in
     let s = call .before .before .before .before .before .before .before .before .before in
     over (s .pre .2) refl (s .args .product .now) (s .pre .3 .room) (s .args .count)
-    (call .product2 .kept .0 ∙ s .pre .3 .beside) (call .product2 .ensures .updates _ (empty _)) (c .if3 .taken)
+    (call .product2 .kept .0 ∙ s .pre .3 .beside) (call .product2 .ensures) (c .if3 .taken)
 
 returns-3 : tie.Need-returns-3
 returns-3 c =
@@ -84,7 +104,7 @@ returns-3 c =
     let call = test .before .before .before in
     let s = call .before .before .before .before .before .before .before .before .before in
     back (s .pre .2) refl (s .args .product .now) (s .pre .3 .room) (s .args .count)
-    (call .product2 .kept .0 ∙ s .pre .3 .beside) (call .product2 .ensures .updates _ (empty _))
+    (call .product2 .kept .0 ∙ s .pre .3 .beside) (call .product2 .ensures)
     (test .if3 .left) (copy .copy-words2 .ensures)
 
 pub times-spec : {M : Type 1} → statement M

@@ -12,11 +12,11 @@ use Rattle.generalized.proofs.walk.Statement.{statement}
 use Rattle.generalized.proofs.walk.Tie as tie
 
 abbrev Inv-loop : tie.InvT-loop
-Inv-loop rule table states₀ transitions₀ ends₀ untils initial product₀ next₀ bytes₀ size₀ state₀ states transitions ends product next bytes size state =
-    Walking rule initial states transitions ends size (state .0) × Space product next bytes
+Inv-loop rule table states₀ transitions₀ ends₀ untils initial product₀ next₀ bytes₀ size₀ conflicts₀ state₀ states transitions ends product next bytes size conflicts state =
+    Walking rule initial states transitions ends size conflicts (state .0) × Space product next bytes
 
 abbrev μ-loop : tie.MeasureT-loop
-μ-loop rule table states₀ transitions₀ ends₀ untils initial product₀ next₀ bytes₀ size₀ state₀ states transitions ends product next bytes size state =
+μ-loop rule table states₀ transitions₀ ends₀ untils initial product₀ next₀ bytes₀ size₀ conflicts₀ state₀ states transitions ends product next bytes size conflicts state =
     maxGeneralizedStates - state .0
 
 -- The places of a turn, each by the one after it: what the walk was given, the turn's beginning, the state that is
@@ -90,7 +90,7 @@ state-terms-requires c κs =
 returns : tie.Need-returns Inv-loop μ-loop
 returns c =
     let terms = c .before .before .before in
-    walk-over (turn (taken terms) .loop .inv .0) (taken terms .if1 .taken) (terms .state-terms .ensures) (c .if2 .taken)
+    walk-over (turn (taken terms) .loop .inv .0) (taken terms .if1 .taken) (terms .state-terms .ensures .product) (c .if2 .taken)
 
 slice-aggregate-fulfil-2 : tie.Need-slice-aggregate-fulfil-2 Inv-loop μ-loop
 slice-aggregate-fulfil-2 c = sym (turn (taken (product (c .before .before))) .loop .inv .1 .bytes-room)
@@ -120,7 +120,7 @@ drop-dominated-requires : tie.Need-drop-dominated-requires Inv-loop μ-loop
 drop-dominated-requires c κs =
     let few = small (c .before .before .before) in
     let terms = product few in
-    terms-sorted _ (start (turn (taken terms)) .pre .0) _ (terms .state-terms .ensures) (few .if2 .left)
+    terms-sorted _ (start (turn (taken terms)) .pre .0) _ (terms .state-terms .ensures .product) (few .if2 .left)
     (omega (arith, few .if2 .left, slice-aggregate-drop-dominated (c .before)))
     (omega (arith, few .if2 .left, slice-aggregate-drop-dominated-2 c))
 
@@ -158,26 +158,27 @@ numbered c =
     let state = turn-of (met (c .before .before .before)) in
     omega (arith, turn state .loop .inv .0 .room .few, state .if1 .taken)
 
-add-t51 : tie.Need-add-t51 Inv-loop μ-loop
-add-t51 c = omega (arith, numbered (c .before .before .before))
+add-t53 : tie.Need-add-t53 Inv-loop μ-loop
+add-t53 c = omega (arith, numbered (c .before .before .before .before))
 
 loop-less : tie.Need-loop-less Inv-loop μ-loop
-loop-less c = omega (arith, numbered (c .before .before .before))
+loop-less c = omega (arith, numbered (c .before .before .before .before))
 
 loop-again : tie.Need-loop-again Inv-loop μ-loop
 loop-again c =
-    let end = c .before .before .before in
+    let end = c .before .before .before .before in
     let step = end .before .before .before in
     let meets = met step in
     let left = sifted meets in
     let bytes = told left in
     let terms = product (small bytes) in
     let at = turn (taken terms) in (
-      walk-steps (at .loop .inv .0) (taken terms .if1 .taken) (terms .state-terms .ensures) (start at .pre .0)
+      walk-steps (at .loop .inv .0) (taken terms .if1 .taken) (terms .state-terms .ensures .product) (start at .pre .0)
           (small bytes .if2 .left) (bytes .fulfil .ensures) (left .drop-dominated .ensures) (meets .meet-all .result)
           (meets .meet-all .last .1 .1 .1 .1 .0) (meets .meet-all .last .1 .1 .1 .1 .1 .0)
           (meets .meet-all .ensures) (step .step .given .1) (meets .meet-all .kept .1 .1 .1 .1 .0)
-          (meets .meet-all .kept .1 .1 .1 .1 .1 .0) (end .put-end .ensures),
+          (meets .meet-all .kept .1 .1 .1 .1 .1 .0) (end .put-end .ensures)
+          (terms .state-terms .ensures .conflicts (small bytes .if2 .left)),
       record {
         products = record {
           room = sym (slice-aggregate-meet-all (meets .before .before .before .before));
@@ -213,7 +214,7 @@ returns-2 c =
     let bytes = told left in
     let terms = product (small bytes) in
     let at = turn (taken terms) in
-    walk-refused (at .loop .inv .0) (taken terms .if1 .taken) (terms .state-terms .ensures) (start at .pre .0)
+    walk-refused (at .loop .inv .0) (taken terms .if1 .taken) (terms .state-terms .ensures .product) (start at .pre .0)
     (small bytes .if2 .left) (bytes .fulfil .ensures) (left .drop-dominated .ensures) (meets .meet-all .result)
     (meets .meet-all .last .1 .1 .1 .1 .0) (meets .meet-all .last .1 .1 .1 .1 .1 .0)
     (meets .meet-all .ensures) (c .before .step2 .given .1)
@@ -228,6 +229,6 @@ walk-spec =
     slice-aggregate-state-terms slice-aggregate-state-terms-2 state-terms-requires (λ c. search needs)
     (λ c. search needs) (λ c. search needs) returns (λ c. search needs) slice-aggregate-fulfil-2 fulfil-requires
     slice-aggregate-drop-dominated slice-aggregate-drop-dominated-2 drop-dominated-requires
-    slice-aggregate-meet-all slice-aggregate-meet-all-2 meet-all-requires (λ c. search needs) put-end-requires add-t51 loop-less
+    slice-aggregate-meet-all slice-aggregate-meet-all-2 meet-all-requires (λ c. search needs) put-end-requires add-t53 loop-less
     loop-again (λ c. search needs) same-length-4 same-length-5 same-length-6 returns-2 (λ c. search needs)
     (λ c. search needs) (λ c. search needs) returns-3)

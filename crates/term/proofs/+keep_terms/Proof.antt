@@ -8,10 +8,9 @@ use Prim.Native.Nat.{ℕ, _<_}
 use Rattle.formula.proofs.kind_of.Reads as kind-of-reads
 use Rattle.formula.proofs.left_of.Reads as left-of-reads
 use Rattle.formula.proofs.right_of.Reads as right-of-reads
-use Rattle.term.specs.Term.{terms}
-use Rattle.term.specs.Memory.{IsTerms}
+use Rattle.term.specs.Memory.{IsNode}
 use Rattle.term.proofs.Sizes.{own-node, ready-small, ready-below, left-lower, right-lower, of-leaf}
-use Rattle.term.proofs.Descending.{found-terms, terms-next, terms-pair}
+use Rattle.term.proofs.Descending.{found-terms, terms-next, terms-pair, conflicts-next, conflicts-pair}
 use Rattle.term.proofs.Keeping.{keeps-leaf, keeps-next, keeps-pair}
 use Rattle.term.proofs.keep_terms.Reads as keep-terms
 use Rattle.term.proofs.keep_terms.Kinds as keep-terms-kinds
@@ -62,10 +61,10 @@ keep-terms-returns t c =
     let l = f .before .before in
     let k = l .before in
     let ready = k .before .before .before .pre .1 .0 in
-    keeps-leaf _ _
-    (found-terms _ _
-    (of-leaf ready (k .kind-of .ensures) (λ g. IsTerms (f .terms-leaf .result) (terms g)) (l .left-of .ensures)
-    (f .terms-leaf .ensures _)))
+    let leaf =
+    of-leaf ready (k .kind-of .ensures) (λ g. IsNode (f .terms-leaf .result) g) (l .left-of .ensures)
+    (f .terms-leaf .ensures _) in
+    keeps-leaf _ _ (found-terms _ _ (leaf .packed)) (λ _. leaf .conflicts)
     (omega (arith, k .kind-of .ensures)) (st .store-row .ensures)
 
 keep-terms-keep-terms-requires : (t : ℕ) → keep-terms-lts.Need-keep-terms-requires (claims t) (keep-terms-at t) keep-terms.Post
@@ -99,8 +98,12 @@ keep-terms-returns-2 t c =
     let l = a .before .before .before in
     let k = l .before in
     let ready = k .before .before .before .pre .1 .0 in
+    let next = v .before .if2 .taken in
+    let sets = v .cover-of .ensures in
     keeps-next _ _
-    (terms-next ready (k .kind-of .ensures) (l .left-of .ensures) (v .before .if2 .taken) (v .cover-of .ensures)) _
+    (terms-next ready (k .kind-of .ensures) (l .left-of .ensures) next
+    (record { within = sets .within; over = sets .over }))
+    (conflicts-next ready (k .kind-of .ensures) (l .left-of .ensures) next (a .keep-terms .ensures .conflicts)) _
     (l .left-of .ensures) (a .keep-terms .ensures) (omega (arith, k .kind-of .ensures)) (st .store-row2 .ensures)
 
 keep-terms-right-of-requires : (t : ℕ) → keep-terms-lts.Need-right-of-requires (claims t) (keep-terms-at t) keep-terms.Post
@@ -139,10 +142,14 @@ keep-terms-returns-3 t c =
     let l = a .before .before .before in
     let k = l .before in
     let ready = k .before .before .before .pre .1 .0 in
+    let left = a .keep-terms .ensures in
+    let right = b .keep-terms2 .ensures in
     keeps-pair _ _
     (terms-pair ready (k .kind-of .ensures) (l .left-of .ensures) (r .right-of .ensures) (omega arith)
-    (v .from-children .ensures) (a .keep-terms .ensures .value) (b .keep-terms2 .ensures .value))
-    _ (l .left-of .ensures) (a .keep-terms .ensures) _ (r .right-of .ensures) (b .keep-terms2 .ensures) (st .store-row3 .ensures)
+    (v .from-children .ensures) (left .value) (right .value))
+    (conflicts-pair ready (k .kind-of .ensures) (l .left-of .ensures) (r .right-of .ensures) (omega arith)
+    (v .from-children .ensures) (left .value) (right .value) (left .conflicts) (right .conflicts))
+    _ (l .left-of .ensures) left _ (r .right-of .ensures) right (st .store-row3 .ensures)
 
 pub +keep-terms-spec : {M : Type 1} → statement M
 +keep-terms-spec = close μ-keep-terms λ t. keep-terms-lts.spec (claims t)

@@ -9,7 +9,9 @@ use Rattle.term.proofs.product.Tie as tie
 
 returns : tie.Need-returns
 returns c us vs ia ib =
-    rw (← carried ia (omega arith), ← carried ib (omega arith)) (carries-of (search needs) (c .before .product .ensures .updates _ (empty _)))
+    let joined = c .before .before .product .ensures in
+    rw (← carried ia (omega arith), ← carried ib (omega arith))
+    (record { packed = carries-of (search needs) (joined .updates _ (empty _)); conflicts = rw (joined .conflicts) })
 
 pub product-spec : {M : Type 1} → statement M
 product-spec = tie.close (tie.spec (λ c. search needs) (λ c κs. search needs) returns)

@@ -15,9 +15,11 @@ product-requires c κs =
 
 returns : tie.Need-returns
 returns c us vs ia ib =
-    let u = c .before .before .before .before .before .before .before .before in
+    let joined = c .before .before .product .ensures in
+    let u = c .before .before .before .before .before .before .before .before .before in
     let a = u .before .before .before .before .before .args .t1 in
-    rw (← carried ia (omega arith), ← carried ib (omega arith)) (carries-of (search needs) (rw (← more-is _ (a .items) _ (a .count) _ (u .union .ensures .updates _ (single _ _)) (omega arith) (search needs)) (c .before .product .ensures .updates _ (empty _))))
+    rw (← carried ia (omega arith), ← carried ib (omega arith), ← more-is _ (a .items) _ (a .count) _ (u .union .ensures .updates _ (single _ _)) (omega arith) (search needs))
+    (record { packed = carries-of (search needs) (joined .updates _ (empty _)); conflicts = rw (joined .conflicts) })
 
 pub release-spec : {M : Type 1} → statement M
 release-spec =

@@ -2,11 +2,13 @@
 -- Assumes nothing.
 use borrow.Author.Needs.{needs}
 use native.Mathlib.Omega.{arith}
-use mathlib.Core.Path.{refl, sym, _∙_}
+use mathlib.Core.Path.{refl, sym, ap, _∙_}
+use Rattle.answer.specs.Result.{answer}
 use Rattle.formula.proofs.Accepted.{accepted-fine}
 use Rattle.term.proofs.Sizes.{root-ready}
 use Rattle.term.proofs.Reached.{reached-whole}
 use Rattle.term.proofs.Keeping.{table-fine}
+use Rattle.term.proofs.Descending.{root-conflicts}
 use Rattle.term.proofs.tabulate.Statement.{statement}
 use Rattle.term.proofs.tabulate.Tie as tie
 
@@ -24,16 +26,24 @@ check-sizes-requires c κs =
 
 returns : tie.Need-returns
 returns c =
-    let k = c .before .before .before .before in
-    let s = k .before .before .before .before in (
-      c .check-sizes .ensures,
-      λ e.
-          table-fine _ _ (search needs)
-          (λ j lt. k .keep-terms .ensures .reached j (reached-whole _ (s .pre .0) j lt))
-          (sym (c .check-sizes .ensures) ∙ e),
-    )
+    let sizes = c .before .before .before .check-sizes .ensures in
+    sym sizes ∙ ap answer (c .before .sizes .given .1)
+
+returns-2 : tie.Need-returns-2
+returns-2 c =
+    let sizes = c .before .before in
+    let k = sizes .before .before .before .before in
+    let s = k .before .before .before .before in
+    let passed = sym (sizes .check-sizes .ensures) ∙ ap answer (c .enum-told .given .1) in
+    record {
+      sizes = passed;
+      terms = table-fine _ _ (search needs)
+          (λ j lt. k .keep-terms .ensures .reached j (reached-whole _ (s .pre .0) j lt)) passed;
+      conflicts = root-conflicts _ (s .pre .0) passed (k .keep-terms .ensures .conflicts);
+    }
 
 pub tabulate-spec : {M : Type 1} → statement M
 tabulate-spec =
     tie.close
-    (tie.spec sub-keep-terms keep-terms-requires check-sizes-requires (λ c. search needs) returns)
+    (tie.spec sub-keep-terms keep-terms-requires check-sizes-requires (λ c. search needs) (λ c. search needs) returns
+    (λ c. search needs) (λ c. search needs) returns-2)

@@ -5,18 +5,18 @@ use native.Mathlib.Omega.{arith}
 use mathlib.Core.Path.{_≡_}
 use Prim.Native.Nat.{_^_}
 use Rattle.formula.specs.Limits.{propositions}
-use Rattle.term.specs.Term.{terms}
+use Rattle.term.specs.Term.{terms, conflicts}
 use Rattle.term.proofs.Packing.{pack-must, pack-must-not}
 use lib.Pow.{pow-lt}
 use Rattle.term.proofs.terms_leaf.Statement.{statement}
 use Rattle.term.proofs.terms_leaf.Tie as tie
 
 returns : tie.Need-returns
-unfolding terms
+unfolding terms conflicts
 returns c = λ n f g. rw (c .before .if1 .taken) (c .none .ensures)
 
 returns-2 : tie.Need-returns-2
-unfolding terms
+unfolding terms conflicts
 returns-2 c = λ n f g. rw (c .before .if2 .taken) (c .one .ensures)
 
 bit-requires : tie.Need-bit-requires
@@ -28,14 +28,14 @@ mul-one c =
     record { fits = omega (arith, c .bit .ensures, pow-lt {j = propositions} (s .pre .1 (omega arith))) }
 
 returns-3 : tie.Need-returns-3
-unfolding terms
+unfolding terms conflicts
 returns-3 c = λ n f g. rw (c .before .before .if3 .taken, pack-must, ← c .before .bit .ensures) (c .one2 .ensures)
 
 bit-requires-2 : tie.Need-bit-requires-2
 bit-requires-2 c κs = omega (arith, c .before .before .before .pre .1 (omega arith))
 
 returns-4 : tie.Need-returns-4
-unfolding terms
+unfolding terms conflicts
 returns-4 c = λ n f g.
     let s = c .before .before .before .before .before in
     let is-negated : s .args .kind ≡ 3 = omega arith in

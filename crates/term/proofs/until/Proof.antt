@@ -1,7 +1,6 @@
 -- `term::until` meets its contract: a product that starts empty, then a union.
 -- Assumes nothing.
 use borrow.Author.Needs.{needs}
-use native.Mathlib.Omega.{arith}
 use Rattle.sets.proofs.Stores.{empty}
 use Rattle.term.proofs.Carries.{carries-of, carried}
 use Rattle.term.proofs.until.Statement.{statement}
@@ -9,7 +8,15 @@ use Rattle.term.proofs.until.Tie as tie
 
 returns : tie.Need-returns
 returns c us vs ia ib =
-    rw (← carried ia (omega arith), ← carried ib (omega arith)) (carries-of (search needs) (c .before .union .ensures .updates _ (c .before .before .before .before .before .before .before .product .ensures .updates _ (empty _))))
+    let union = c .before .before in
+    let product = union .before .before .before .before .before .before in
+    let joined = product .product .ensures in
+    let few = product .before .before .before .before .before .before .pre in
+    rw (← carried ia (few .0), ← carried ib (few .1))
+    (record {
+      packed = carries-of (search needs) (union .union .ensures .updates _ (joined .updates _ (empty _)));
+      conflicts = rw (joined .conflicts);
+    })
 
 pub until-spec : {M : Type 1} → statement M
 until-spec =
