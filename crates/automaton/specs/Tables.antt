@@ -18,7 +18,7 @@ use Rattle.automaton.specs.Limits.{statesBytes, transitionsBytes, initia
 abbrev pub Counts : Type 0
 Counts = Struct
 
--- what an answer of that kind tells in document 01's numbers and values
+-- what counts or a refusal tell in document 01's numbers and values
 abbrev pub told : Counted → Result Counts
 told (Accepted c) = accepted c
 told (Refused number place) = refused number place

@@ -49,9 +49,10 @@ pub record Carried : Type 0 where
 abbrev pub carried : Outcome → Result ℕ → Carried
 carried tables conflicts = record { tables = tables; conflicts = conflicts }
 
+-- what an answer of translate tells, with the tables afterwards
 abbrev pub toldWith : Translated → (states transitions initial : List ℕ) → Carried
 toldWith r s t i = carried (outcome (toldCounts r) s t i) (toldConflicts r)
 
--- its answer, its place and every lent byte, and the conflicts that it carries
+-- what the call comes to: its answer, its place and every lent byte, and the conflicts that it carries
 abbrev pub translates : (rule states transitions initial : List ℕ) → Carried
 translates rule s t i = carried (translated rule s t i) (translatedConflicts rule s t i)

@@ -22,7 +22,7 @@ use Rattle.translation.specs.declared.Paired.{Paired}
 use Rattle.translation.specs.declared.Paired.the-variants.{Count, Stop}
 use Rattle.translation.specs.declared.Extent.{Extent}
 use Rattle.translation.specs.declared.Translated.{Translated}
-use Rattle.translation.specs.declared.Translated.the-variants.{Accepted as Carried, Refused as Turned}
+use Rattle.translation.specs.declared.Translated.the-variants.{Accepted as WithConflicts, Refused as Turned}
 use Rattle.automaton.specs.declared.Counted.{Counted}
 use Rattle.automaton.specs.declared.Counted.the-variants.{Accepted, Refused}
 use Rattle.automaton.specs.Automaton.{Automaton}
@@ -231,7 +231,7 @@ Leaves made answer s t i s′ t′ i′ = outcome (told answer) s′ t′ i′ �
 
 -- counts with conflicts, or a refusal
 abbrev pub carrying : Counted → ℕ → Translated
-carrying (Accepted c) conflicts = Carried c conflicts
+carrying (Accepted c) conflicts = WithConflicts c conflicts
 carrying (Refused number place) conflicts = Turned number place
 
 -- for a rule that 25 and 1 to 7 let pass, with the conflicts that an acceptance carries
