@@ -11,7 +11,7 @@ import rules  # noqa: E402
 import words  # noqa: E402
 import written  # noqa: E402
 from nodes import (ALWAYS, AND, EVENTUALLY, FALSE, IMPLIES, NEGATION, NEXT, NOT, OR, PROPOSITION,  # noqa: E402
-                   RELEASE, TRUE, UNTIL, Builder, second)
+                   PROPOSITIONS, RELEASE, TRUE, UNTIL, Builder, second)
 
 
 def theta(n):
@@ -103,8 +103,8 @@ LOADED = 200
 UNDECIDED = [fairness(n) for n in (1, 2, 3, 4)] + [responses(n) for n in (1, 2, 3)]
 
 # rules that are kept once what they wait for has come up, each with a letter that keeps it waiting
-WAITING = [(eventually(p), 0) for p in range(8)] + [
-    case for p, q in ((0, 1), (2, 3), (4, 5), (6, 7))
+WAITING = [(eventually(p), 0) for p in range(PROPOSITIONS)] + [
+    case for p, q in ((0, 1), (2, 3), (4, 5), (5, 6))
     for case in ((eventually_then(p, q), 0), (eventually_both(p, q), 0), (until(p, q), 1 << p))]
 
 FORMULAS = [(f"theta_{n}", *theta(n)) for n in (1, 2, 3)] + [(f"phi_{n}", *phi(n)) for n in (2, 3, 4, 5)]
@@ -134,12 +134,17 @@ def waiting_plans(count):
     for rule, quiet in WAITING:
         image = second.write(second.translate(rule))
         for _ in range(count):
-            word = bytes([quiet] * rng.randrange(12)) + b"\xff\xff"
-            word += bytes(rng.randrange(256) for _ in range(MOST - len(word)))
+            word = bytes([quiet] * rng.randrange(12)) + b"\x7f\x7f"
+            word += bytes(rng.randrange(lassos.SKIPPED) for _ in range(MOST - len(word)))
             stem, cycle = word[:MOST // 2], word[MOST // 2:]
             kept, pairs = second.judged(image, stem, cycle)
             assert kept and pairs < 50
             yield image, stem, cycle
+
+
+def some_skipped(rng, count):
+    """So many letters, about one in five of them skipped."""
+    return bytes(letter | lassos.SKIPPED if rng.random() < .2 else letter for letter in lassos.unskipped(rng, count))
 
 
 def framed(kind, *slices):
@@ -162,7 +167,8 @@ def plans_twice(count):
     """Plans of up to as many letters as there may be, each in two ways that are not the same."""
     rng = random.Random(6)
     while count:
-        stem, cycle = lassos.letters(rng, rng.randrange(MOST // 2)), lassos.letters(rng, rng.randrange(1, MOST // 4))
+        stem = lassos.unskipped(rng, rng.randrange(MOST // 2))
+        cycle = lassos.unskipped(rng, rng.randrange(1, MOST // 4))
         other = words.rewritten(rng, stem, cycle)
         if other != (stem, cycle):
             yield framed(b"S", stem, cycle, *other)
@@ -209,13 +215,16 @@ def groups():
         ("translate: phi_2 to phi_5", translations(rule for name, rule, _ in FORMULAS if name.startswith("phi"))),
         ("translate: 200 random rules", translations(random_rules)),
         ("judge: 200 random images, 12 slots",
-         plans((image, lassos.letters(letters, 4), lassos.letters(letters, 8)) for image in images)),
+         plans((image, lassos.unskipped(letters, 4), lassos.unskipped(letters, 8)) for image in images)),
         (f"judge: 200 random images, {MOST} slots",
-         plans((image, lassos.letters(letters, MOST // 2), lassos.letters(letters, MOST // 2)) for image in images)),
+         plans((image, lassos.unskipped(letters, MOST // 2), lassos.unskipped(letters, MOST // 2))
+               for image in images)),
         (f"judge: 7 undecided rules on 20 plans of {MOST} slots each",
-         plans((image, lassos.letters(letters, MOST // 2), lassos.letters(letters, MOST // 2))
+         plans((image, lassos.unskipped(letters, MOST // 2), lassos.unskipped(letters, MOST // 2))
                for image in map(second.write, map(second.translate, UNDECIDED)) for _ in range(20))),
         (f"judge: {len(WAITING)} eventually rules on 20 plans of {MOST} slots each", plans(waiting_plans(20))),
+        (f"judge: 200 random images, {MOST} slots of which some are skipped",
+         plans((image, some_skipped(letters, MOST // 2), some_skipped(letters, MOST // 2)) for image in images)),
         ("judge: a full image, 128 slots", plans([(full, b"", word[:128])])),
         (f"judge: a full image, {MOST} slots", plans([(full, b"", word)])),
         ("compare: 200 plans, each in two ways", b"".join(plans_twice(200))),

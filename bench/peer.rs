@@ -1,5 +1,7 @@
 //! The peer of the benchmark: the same translation, loading, judging, comparing and merging in idiomatic Rust, with the
 //! standard library alone. `bench/run` holds its answers against the library's while both are timed.
+use std::borrow::Cow;
+
 #[derive(Clone, Copy, PartialEq, Eq)]
 pub struct Refusal {
     pub number: u8,
@@ -94,7 +96,7 @@ fn well_formed(rule: &[u8]) -> Answer<Vec<Node>> {
         }
         let fits = match node.kind {
             0 | 1 => node.left == 0 && node.right == 0,
-            2 | 3 => node.left <= 7 && node.right == 0,
+            2 | 3 => node.left <= 6 && node.right == 0,
             6 => node.right == 0,
             _ => true,
         };
@@ -546,7 +548,8 @@ fn check(image: &[u8], pass: impl Fn(&[u8]) -> Answer<usize>) -> Answer<[&[u8]; 
     if let Some(q) = wrong_rest(states, transitions) {
         return refuse(11, q);
     }
-    if let Some(i) = transitions.chunks_exact(4).position(|r| number_at(r, 2) >= count || r[0] & r[1] != 0) {
+    let wrong = |r: &[u8]| number_at(r, 2) >= count || r[0] & r[1] != 0 || (r[0] | r[1]) & SKIPPED != 0;
+    if let Some(i) = transitions.chunks_exact(4).position(wrong) {
         return refuse(12, i);
     }
     let mut least = 0;
@@ -607,19 +610,34 @@ fn cases(bytes: &[u8]) -> Vec<(u8, Vec<&[u8]>)> {
     out
 }
 
-/// 8 and 9 of a lasso, at this place.
-fn check_lasso(stem: &[u8], cycle: &[u8], place: usize) -> Answer<()> {
+/// Bit 7 of a letter, which says that it is skipped.
+const SKIPPED: u8 = 0x80;
+
+/// The letters that remain; as they are lent if none is skipped.
+fn remaining(letters: &[u8]) -> Cow<'_, [u8]> {
+    if letters.iter().any(|letter| letter & SKIPPED != 0) {
+        letters.iter().copied().filter(|letter| letter & SKIPPED == 0).collect()
+    } else {
+        letters.into()
+    }
+}
+
+/// What remains of a stem and a cycle, or the lasso's refusal by 8, 9 or 28, at this place.
+fn check_lasso<'a>(stem: &'a [u8], cycle: &'a [u8], place: usize) -> Answer<[Cow<'a, [u8]>; 2]> {
     match (stem.len(), cycle.len()) {
         (_, 0) => refuse(8, place),
         (s, c) if s + c > 336 => refuse(9, place),
-        _ => Ok(()),
+        _ => match [remaining(stem), remaining(cycle)] {
+            [_, cycle] if cycle.is_empty() => refuse(28, place),
+            lasso => Ok(lasso),
+        },
     }
 }
 
 /// Whether two lassos are one word: the letters of the longer stem agree, and as many behind it as both cycles have.
 fn same_word(stem: &[u8], cycle: &[u8], other_stem: &[u8], other_cycle: &[u8]) -> Answer<bool> {
-    check_lasso(stem, cycle, 0)?;
-    check_lasso(other_stem, other_cycle, 1)?;
+    let [stem, cycle] = check_lasso(stem, cycle, 0)?;
+    let [other_stem, other_cycle] = check_lasso(other_stem, other_cycle, 1)?;
     let n = stem.len().max(other_stem.len()) + cycle.len() + other_cycle.len();
     let word = stem.iter().chain(cycle.iter().cycle());
     let other = other_stem.iter().chain(other_cycle.iter().cycle());
@@ -646,10 +664,13 @@ fn answer(kind: u8, slices: &[&[u8]], tables: &mut Tables) -> u64 {
             length.map_or_else(refused, |n| 256 * n as u64)
         }
         b'S' => same_word(slices[0], slices[1], slices[2], slices[3]).map_or_else(refused, |same| 256 * same as u64),
-        _ => read(slices[0]).and_then(|a| check_lasso(slices[1], slices[2], 0).map(|()| a)).map_or_else(refused, |a| {
-            let (kept, taken) = judge(&a, slices[1], slices[2]);
-            256 * kept as u64 + 65536 * taken as u64
-        }),
+        _ => {
+            let lasso = |a| check_lasso(slices[1], slices[2], 0).map(|[stem, cycle]| (a, stem, cycle));
+            read(slices[0]).and_then(lasso).map_or_else(refused, |(a, stem, cycle)| {
+                let (kept, taken) = judge(&a, &stem, &cycle);
+                256 * kept as u64 + 65536 * taken as u64
+            })
+        }
     }
 }
 

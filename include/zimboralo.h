@@ -24,6 +24,11 @@ extern "C" {
 #define ZIMBORALO_MAX_INITIAL 96
 #define ZIMBORALO_MAX_TRANSITIONS (ZIMBORALO_MAX_STATES * ZIMBORALO_MAX_OF_STATE)
 
+/* Bit p of a letter is proposition p, for p from 0 to 6. Bit 7 says that the letter is skipped, whatever its other
+ * bits: if letter & ZIMBORALO_SKIPPED, it is no letter of the word, and the others remain. ZIMBORALO_MAX_LETTERS counts
+ * it all the same. */
+#define ZIMBORALO_SKIPPED 0x80
+
 /* The longest rule in bytes, and the smallest buffer for a rule in negation normal form or for a merged one. */
 #define ZIMBORALO_RULE_BYTES (3 * ZIMBORALO_MAX_NODES)
 
@@ -74,7 +79,10 @@ enum zimboralo_number {
     ZIMBORALO_TOO_MANY_NODES = 26,
 
     /* two rules that are too long as one; looked at after 6 of both and before 7 */
-    ZIMBORALO_MERGED_TOO_LARGE = 27
+    ZIMBORALO_MERGED_TOO_LARGE = 27,
+
+    /* a lasso of whose cycle every letter is skipped; looked at after 9 */
+    ZIMBORALO_ALL_SKIPPED = 28
 };
 
 /* ---- the calls */
@@ -109,22 +117,23 @@ uint64_t zimboralo_write(const uint8_t *states, size_t states_len, size_t state_
 uint64_t zimboralo_read(const uint8_t *image, size_t image_len, uint8_t *states, size_t states_len,
                         uint8_t *transitions, size_t transitions_len, uint8_t *initial, size_t initial_len);
 
-/* A lasso, stem and cycle, against an image. The verdict and how many pairs judging took, or a refusal. */
+/* A lasso, stem and cycle, against an image. The verdict on the letters that remain and how many pairs judging took, or
+ * a refusal. */
 uint64_t zimboralo_judge(const uint8_t *image, size_t image_len, const uint8_t *stem, size_t stem_len,
                          const uint8_t *cycle, size_t cycle_len, uint8_t *work, size_t work_len);
 
 /* A lasso against a written rule, in one call: translate, write and judge in a row. The verdict and the pairs, as of
- * judge, or the first refusal of 25, 1 to 6, 26, 7, 8, 9 and 20 to 24 in this order. By 20 to 24 the tables are zero
- * and the rest is as it was; by any other refusal every buffer is as it was; with a verdict the tables have the
+ * judge, or the first refusal of 25, 1 to 6, 26, 7, 8, 9, 28 and 20 to 24 in this order. By 20 to 24 the tables are
+ * zero and the rest is as it was; by any other refusal every buffer is as it was; with a verdict the tables have the
  * automaton, the buffer begins with its image, and the working bytes are zero. */
 uint64_t zimboralo_decide(const uint8_t *rule, size_t rule_len, const uint8_t *stem, size_t stem_len,
                           const uint8_t *cycle, size_t cycle_len, uint8_t *states, size_t states_len,
                           uint8_t *transitions, size_t transitions_len, uint8_t *initial, size_t initial_len,
                           uint8_t *image, size_t image_len, uint8_t *work, size_t work_len);
 
-/* Whether two lassos are one word, one plan written in two ways: their letters agree one by one, for ever. Then every
- * rule that is accepted gives both the same verdict; the pairs that judging takes may differ. Yes or no, or the first
- * refusal: 8 and 9 of the first lasso, at place 0, then of the other, at place 1. */
+/* Whether two lassos are one word, one plan written in two ways: their letters that remain agree one by one, for ever.
+ * Then every rule that is accepted gives both the same verdict; the pairs that judging takes may differ. Yes or no, or
+ * the first refusal: 8, 9 and 28 of the first lasso, at place 0, then of the other, at place 1. */
 uint64_t zimboralo_same_word(const uint8_t *stem, size_t stem_len, const uint8_t *cycle, size_t cycle_len,
                              const uint8_t *other_stem, size_t other_stem_len, const uint8_t *other_cycle,
                              size_t other_cycle_len);
@@ -151,7 +160,7 @@ static inline size_t zimboralo_length(uint64_t answer) { return (size_t)(answer 
 
 /* Of an accepted judge or decide: whether the lasso is kept, and how many pairs of a position and a state were taken to
  * tell. They are taken breadth first, up to the first state at rest, an accepting one that a free transition leads back
- * to; without one, all that runs reach. That is at most the states times the letters, which fits 16 bits. */
+ * to; without one, all that runs reach. That is at most states times letters that remain, which fits 16 bits. */
 static inline int zimboralo_kept(uint64_t answer) { return (int)(answer >> 8 & 1); }
 static inline unsigned zimboralo_pairs(uint64_t answer) { return (unsigned)(answer >> 16 & 0xffff); }
 

@@ -10,7 +10,7 @@
 #define ZIMBORALO_DIGITS(limit) ZIMBORALO_DIGITS_OF(limit)
 
 /* Why a call refused, and what the place of this refusal is; where nothing is said of it, the place is always 0, but
- * that of 8 and 9 is 1 where two plans are compared and the second one is refused. */
+ * that of 8, 9 and 28 is 1 where two plans are compared and the second one is refused. */
 static inline const char *zimboralo_text(unsigned number)
 {
     switch (number) {
@@ -23,7 +23,7 @@ static inline const char *zimboralo_text(unsigned number)
     case ZIMBORALO_UNKNOWN_KIND:
         return "a node of the rule has an unknown kind; the place is the node";
     case ZIMBORALO_BAD_BYTE:
-        return "a node of the rule has a mark above 7 or an unused byte that is not 0; the place is the node";
+        return "a node of the rule has a mark above 6 or an unused byte that is not 0; the place is the node";
     case ZIMBORALO_CHILD_NOT_BELOW:
         return "a child in the rule is not below its parent; the place is the parent";
     case ZIMBORALO_BAD_PLACES:
@@ -34,15 +34,15 @@ static inline const char *zimboralo_text(unsigned number)
     case ZIMBORALO_EMPTY_CYCLE:
         return "the plan's loop is empty";
     case ZIMBORALO_TOO_MANY_LETTERS:
-        return "the plan has over " ZIMBORALO_DIGITS(ZIMBORALO_MAX_LETTERS) " slots";
+        return "the plan has over " ZIMBORALO_DIGITS(ZIMBORALO_MAX_LETTERS) " slots, skipped ones counted";
     case ZIMBORALO_BAD_CONTENTS:
         return "the image's contents are wrong, or there are more records than fit";
     case ZIMBORALO_BAD_STATE:
         return "a state record is wrong, or their transition counts do not add up; the place is the wrong record, or "
                "for the counts the number of states";
     case ZIMBORALO_BAD_TRANSITION:
-        return "a transition leads to no state, or wants a mark both set and clear; the place is the lowest such "
-               "transition";
+        return "a transition leads to no state, wants a mark both set and clear, or wants bit 7 set or clear; the "
+               "place is the lowest such transition";
     case ZIMBORALO_BAD_INITIAL:
         return "an initial number is no state's or not above the one before; the place is the lowest such entry";
     case ZIMBORALO_TOO_MANY_TERMS:
@@ -65,6 +65,8 @@ static inline const char *zimboralo_text(unsigned number)
     case ZIMBORALO_MERGED_TOO_LARGE:
         return "the rules are too large together: merged they have over " ZIMBORALO_DIGITS(ZIMBORALO_MAX_NODES)
                " nodes";
+    case ZIMBORALO_ALL_SKIPPED:
+        return "every slot of the plan's loop is skipped";
     }
     return "unknown refusal";
 }

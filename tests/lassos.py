@@ -3,18 +3,31 @@ import rules
 from nodes import second
 
 
+SKIPPED = 128
+
+
 def sparse(rng, count):
     """Random letters with few propositions."""
     return bytes(rng.choice((0, 1, 2, 3, 4, 8)) for _ in range(count))
 
 
+def unskipped(rng, count):
+    """Random letters, none of them skipped, most of them with few propositions, so that rules are kept and broken about
+    as often."""
+    return bytes(rng.randrange(SKIPPED) for _ in range(count)) if rng.random() < .5 else sparse(rng, count)
+
+
 def letters(rng, count):
-    """Random letters, most of them with few propositions, so that rules are kept and broken about as often."""
-    return bytes(rng.randrange(256) for _ in range(count)) if rng.random() < .5 else sparse(rng, count)
+    """Letters as `unskipped` draws them; often none is skipped, often some are, now and then all, or all but one."""
+    skipped = rng.choice((0, 0, 0, 0, .2, .2, .2, .5, .5, 1))
+    stays = rng.randrange(2 * count) if count and skipped == 1 else None
+    return bytes(x | SKIPPED if i != stays and rng.random() < skipped else x
+                 for i, x in enumerate(unskipped(rng, count)))
 
 
 def lasso(rng):
-    """A stem and a cycle: short ones, and some with no letter, as many as a lasso may have, and one more."""
+    """A stem and a cycle: short ones, and some with no letter, as many as a lasso may have, and one more, skipped ones
+    counted."""
     most = second.max_slots()
     pick = rng.random()
     if pick < .75:
@@ -37,8 +50,8 @@ def hand_made(rng):
     for q in range(n):
         row = []
         for _ in range(rng.choice((0, 1, 1, 2, 2, 3, 6, 127 if n < 8 else 6))):
-            must = rng.choice((0, 0, 1, 2, 3, rng.randrange(256)))
-            row.append((must, rng.choice((0, 0, 1, 2, 4, rng.randrange(256))) & ~must, rng.randrange(n)))
+            must = rng.choice((0, 0, 1, 2, 3, rng.randrange(SKIPPED)))
+            row.append((must, rng.choice((0, 0, 1, 2, 4, rng.randrange(SKIPPED))) & ~must, rng.randrange(n)))
         if rng.random() < loops:
             row.insert(rng.randrange(len(row) + 1), (*rng.choice(((0, 0), (0, 0), (1, 0), (0, 1))), q))
         states.append((rng.random() < accepting, row))
@@ -102,7 +115,7 @@ def damage_transitions(rng, counts, tables):
         q, a = owners[k], counts[0]
         tables[1][4 * k:4 * k + 4] = bytes(rng.choice((
             (0, 0, q, 0), (0, 0, q, 0), (1, 0, q, 0), (0, 1, q, 0), (0, 0, rng.randrange(a), 0), (1, 1, q, 0),
-            (0, 0, q, 1), (0, 0, 0, q), (0, 0, a, 0))))
+            (0, 0, q, 1), (0, 0, 0, q), (0, 0, a, 0), (SKIPPED, 0, q, 0), (0, SKIPPED, q, 0), (1, SKIPPED | 2, q, 0))))
 
 
 def damage_initial(rng, counts, tables):
@@ -189,7 +202,9 @@ FAULTS = [(EVENTUALLY[:-1], (10, 0)), (EVENTUALLY.ljust(65535, b"\0"), (10, 0))]
         ({25: 0, 38: 2}, (11, 1)),
         # with the last byte right: 12, and 13
         ({25: 0, 36: 2}, (12, 2)), ({25: 0, 37: 1}, (12, 2)), ({25: 0, 34: 1, 35: 1}, (12, 2)), ({27: 1}, (12, 0)),
-        ({38: 2}, (13, 0)))]
+        # bit 7 asked for, forbidden, and both
+        ({26: 129}, (12, 0)), ({27: 128}, (12, 0)), ({31: 128}, (12, 1)), ({25: 0, 34: 128}, (12, 2)),
+        ({30: 128, 31: 128}, (12, 1)), ({38: 2}, (13, 0)))]
 
 # how many letters stem and cycle have, at the limit of 336 together: within it, and past it or empty with the refusal; the
 # last stems are as long as two bytes can say, and the last cycles longer than what is read
@@ -198,9 +213,23 @@ PAST = [(0, 337, 9), (1, 336, 9), (168, 169, 9), (169, 168, 9), (336, 1, 9), (33
         (336, 0, 8), (337, 0, 8), (65535, 0, 8), (65535, 1, 9), (0, 65536, 9), (65535, 65536, 9), (65535, 200000, 9)]
 
 
+# stem and cycle with skipped letters: these count for 9, 28 is a cycle of them alone, and what remains is judged by
+# "eventually proposition 0"
+WITH_SKIPPED = [
+    (b"", b"\x80", "refused 28 place 0"), (b"\1", b"\x80\xff", "refused 28 place 0"),
+    (b"", b"\x81" * 336, "refused 28 place 0"), (bytes(1), b"\x81" * 335, "refused 28 place 0"),
+    (bytes(1), b"\x81" * 336, "refused 9 place 0"), (b"\x80" * 336, b"\1", "refused 9 place 0"),
+    (b"", b"\x80" * 336 + b"\1", "refused 9 place 0"), (b"\x80" * 337, b"", "refused 8 place 0"),
+    (b"\x80" * 335, b"\1", "kept"), (b"\x80" * 335, b"\0", "broken"), (b"\x81" * 5, b"\0", "broken"),
+    (b"\xff" * 100, b"\x80" * 200 + b"\1" + b"\x80" * 35, "kept"), (b"", b"\x81" * 335 + b"\x7e", "broken"),
+    (b"\x81", b"\0", "broken"), (b"", b"\x81\0\xff", "broken"), (b"", b"\xff\0\x80\1", "kept"),
+    (b"\x80\1", b"\xff\0", "kept")]
+
+
 def limits():
-    """Lassos at the limit of letters: name, what judgeplan reads, its answer. Within the limit the last letter alone decides.
-    An image's own refusal comes before 8, and 8 before 9."""
+    """Lassos at the limit of letters: name, what judgeplan reads, its answer. Within the limit the last letter alone
+    decides. An image's own refusal comes before 8, and 8 before 9. Then lassos with skipped letters, and an image's own
+    refusal before 28."""
     for s, c in WITHIN:
         for image, letter in ((EVENTUALLY, b"\0"), (ALWAYS, b"\1")):
             for last, answer in ((b"\0", "broken\n"), (b"\1", "kept\n")):
@@ -209,6 +238,10 @@ def limits():
     for s, c, number in PAST:
         for image, (first, place) in FAULTS + [(EVENTUALLY, (number, 0))]:
             yield f"{s} | {c} letters", plan_input(image, bytes(s), bytes(c)), f"refused {first} place {place}\n"
+    for stem, cycle, answer in WITH_SKIPPED:
+        yield f"{stem.hex() or '-'} | {cycle.hex() or '-'}", plan_input(EVENTUALLY, stem, cycle), answer + "\n"
+    for image, (first, place) in FAULTS:
+        yield "an image's fault before 28", plan_input(image, b"", b"\x80"), f"refused {first} place {place}\n"
 
 
 def any_image(rng):
@@ -236,8 +269,8 @@ NO_STATES = second.write(second.Watcher([], []))
 
 
 def decided(rule, stem, cycle):
-    """What decide answers, by the calls of the second translator: 1 to 6, 26 and 7 of the rule, 8 and 9 of the lasso,
-    20 to 24 of the rule, then the verdict with the pairs taken."""
+    """What decide answers, by the calls of the second translator: 1 to 6, 26 and 7 of the rule, 8, 9 and 28 of the
+    lasso, 20 to 24 of the rule, then the verdict with the pairs taken."""
     second.accepted_form(rule)
     second.judged(NO_STATES, stem, cycle)
     return second.judged(second.write(second.translate(rule)), stem, cycle)

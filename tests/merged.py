@@ -3,7 +3,7 @@ place; and what deciding a plan by both of them answers."""
 import lassos
 import rules
 import written
-from nodes import AND, MAX_NODES, NEXT, OR, PROPOSITION, RELEASE, TRUE, UNTIL, Builder, second
+from nodes import AND, MAX_NODES, NEXT, OR, PROPOSITION, PROPOSITIONS, RELEASE, TRUE, UNTIL, Builder, second
 
 MAX_UNTILS = 8
 
@@ -12,7 +12,7 @@ def of_size(rng, nodes):
     """A well-formed first-edition rule of exactly so many nodes."""
     while True:
         kinds = rng.choice(((AND, OR, NEXT, UNTIL, RELEASE), (AND, OR, NEXT, RELEASE), (AND, OR)))
-        rule = written.tree(rng, rng.randrange(nodes), kinds, 8, shared=rng.choice((0, .5, 1)))
+        rule = written.tree(rng, rng.randrange(nodes), kinds, PROPOSITIONS, shared=rng.choice((0, .5, 1)))
         if len(rule) == 3 * nodes:
             return rule
 
@@ -27,7 +27,7 @@ def near_nodes(rng):
 def tower(rng, untils):
     """So many untils one in another, of true or of a proposition, with a next or a release between some of them."""
     b = Builder()
-    node = b.leaf(PROPOSITION, rng.randrange(8))
+    node = b.leaf(PROPOSITION, rng.randrange(PROPOSITIONS))
     for _ in range(untils):
         if rng.random() < .2:
             node = b.add(NEXT, node) if rng.random() < .5 else b.add(RELEASE, b.leaf(PROPOSITION, rng.randrange(3)), node)
@@ -54,7 +54,7 @@ def two_sentences(rng):
 
 def small_pair(rng):
     """Two rules of few operators."""
-    return tuple(second.random_rule(rng, rng.randrange(7), marks=rng.choice((2, 8))) for _ in range(2))
+    return tuple(second.random_rule(rng, rng.randrange(7), marks=rng.choice((2, PROPOSITIONS))) for _ in range(2))
 
 
 def whole_pair(rng):

@@ -5,13 +5,14 @@ import sys
 sys.path.insert(0, os.path.join(os.path.dirname(os.path.abspath(__file__)), "second"))
 import second  # noqa: E402  (the second translator, by another author)
 
-second.UPTO = 8  # the requests that have landed
+second.UPTO = 9  # the requests that have landed
 
 # those of the first edition, then those that the second one adds
 FALSE, TRUE, PROPOSITION, NEGATION, AND, OR, NEXT, UNTIL, RELEASE, NOT, IMPLIES, ALWAYS, EVENTUALLY = range(13)
 ONE_OPERAND = (NEXT, NOT, ALWAYS, EVENTUALLY)
 
 MAX_NODES = 32
+PROPOSITIONS = 7
 
 
 class Builder:

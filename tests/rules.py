@@ -2,7 +2,8 @@
 import random
 
 import written
-from nodes import AND, FALSE, NEGATION, NEXT, OR, PROPOSITION, RELEASE, TRUE, UNTIL, Builder, second
+from nodes import (AND, EVENTUALLY, FALSE, NEGATION, NEXT, OR, PROPOSITION, PROPOSITIONS, RELEASE, TRUE, UNTIL, Builder,
+                   second)
 
 
 def choices(count):
@@ -60,7 +61,13 @@ FIRST_EDITION_LIMITS = [
     ("nine nested eventually", nested_eventually(9), (7, 0)),
     ("eight nested eventually", nested_eventually(8), None),
 ]
-LIMITS = FIRST_EDITION_LIMITS + written.LIMITS
+PROPOSITION_LIMITS = [
+    ("proposition 6", bytes((PROPOSITION, 6, 0)), None),
+    ("proposition 7", bytes((PROPOSITION, 7, 0)), (4, 0)),
+    ("negated proposition 7 at node 1", bytes((PROPOSITION, 6, 0, NEGATION, 7, 0, AND, 0, 1)), (4, 1)),
+    ("eventually proposition 7", bytes((PROPOSITION, 7, 0, EVENTUALLY, 0, 0)), (4, 0)),
+]
+LIMITS = FIRST_EDITION_LIMITS + PROPOSITION_LIMITS + written.LIMITS
 
 # a list of 65 that belongs to no node: both are accepted
 SIXTY_FIVE = [bytes.fromhex(text) for text in (
@@ -77,9 +84,10 @@ def fixed():
 
 
 def damaged(rng, rule):
-    """The rule with a byte changed, cut, grown, or two nodes exchanged."""
+    """The rule with a byte changed, the proposition of a leaf changed, cut, grown, or two nodes exchanged."""
     out = bytearray(rule)
-    way = rng.randrange(6)
+    leaves = [at for at in range(0, len(out) - 2, 3) if out[at] in (PROPOSITION, NEGATION)]
+    way = rng.randrange(7)
     if way == 0:
         out[rng.randrange(len(out))] = rng.choice((0, 1, 7, 8, 9, 12, 13, len(out) // 3, rng.randrange(256)))
     elif way == 1:
@@ -88,9 +96,11 @@ def damaged(rng, rule):
     elif way == 2:
         at = 3 * rng.randrange(len(out) // 3) + rng.randrange(1, 3)
         out[at] = rng.randrange(len(out) // 3 + 1)
-    elif way == 3:
-        del out[rng.randrange(len(out)):]
+    elif way == 3 and leaves:
+        out[rng.choice(leaves) + 1] = rng.choice((PROPOSITIONS - 1, PROPOSITIONS, PROPOSITIONS + 1, 128))
     elif way == 4:
+        del out[rng.randrange(len(out)):]
+    elif way == 5:
         out += bytes(rng.randrange(4) for _ in range(rng.randrange(1, 7)))
     else:
         i, j = (3 * rng.randrange(len(out) // 3) for _ in range(2))
@@ -173,7 +183,8 @@ def first_edition(rng):
         return crowded(rng)
     if pick < .35:
         return clauses(rng)
-    return second.random_rule(rng, rng.randrange(1, 18), marks=rng.choice((2, 4, 8)), kinds=rng.choice(FLAVOURS))
+    marks, kinds = rng.choice((2, 4, PROPOSITIONS)), rng.choice(FLAVOURS)
+    return second.random_rule(rng, rng.randrange(1, 18), marks=marks, kinds=kinds)
 
 
 def well_formed(rng):

@@ -1,6 +1,6 @@
 """Written rules, those of the second edition: fixed ones, ones at the limits, and random ones."""
 from nodes import (ALWAYS, AND, EVENTUALLY, FALSE, IMPLIES, MAX_NODES, NEGATION, NEXT, NOT, ONE_OPERAND, OR,
-                   PROPOSITION, RELEASE, TRUE, UNTIL, Builder, second)
+                   PROPOSITION, PROPOSITIONS, RELEASE, TRUE, UNTIL, Builder, second)
 
 # always (0 implies 1), the README's rule; then rows P4, P5 and P9 of document 01 as a grower writes them
 IF_THEN = bytes.fromhex("020000 020100 0a0001 0b0200")
@@ -40,10 +40,10 @@ def negated_untils(count):
 
 
 def themselves(*above, unused=False):
-    """Some proposition implies itself, below the operators: 23 nodes, and 31 in normal form, since every leaf comes in
-    both senses. A true that is unused is node 8."""
+    """Some leaf implies itself, below the operators: 23 nodes, and 31 in normal form, since every leaf comes in both
+    senses. A true that is unused is node 8."""
     b = Builder()
-    leaves = [b.add(PROPOSITION, i) for i in range(8)]
+    leaves = [b.add(PROPOSITION, i) for i in range(PROPOSITIONS)] + [b.add(NEGATION, 0)]
     if unused:
         b.add(TRUE)
     b.below(above, b.joined(OR, [b.add(IMPLIES, leaf, leaf) for leaf in leaves]))
@@ -54,7 +54,7 @@ def far_longer():
     """32 nodes whose normal form has 44: ten leaves in both senses, 20 operators of two operands, always and eventually,
     and for these a false and a true."""
     b = Builder()
-    leaves = [b.add(PROPOSITION, i) for i in range(8)] + [b.add(NEGATION, i) for i in range(2)]
+    leaves = [b.add(PROPOSITION, i) for i in range(PROPOSITIONS)] + [b.add(NEGATION, i) for i in range(3)]
     parts = [b.add(IMPLIES, leaf, leaf) for leaf in leaves]
     b.below([ALWAYS, EVENTUALLY], b.joined(OR, parts + leaves[:1]))
     return b.bytes()
@@ -196,7 +196,7 @@ def near_limit(rng):
     wanted = rng.choice(((31,), (32,), (32,), (33,), range(34, 45)))
     while True:
         kinds = rng.choice((PLAIN, PLAIN + (ALWAYS, EVENTUALLY), EVERY))
-        rule = tree(rng, rng.randrange(15, 24), kinds, 8, rng.choice((0, .1)), shared=1)
+        rule = tree(rng, rng.randrange(15, 24), kinds, PROPOSITIONS, rng.choice((0, .1)), shared=1)
         if len(rule) <= 3 * MAX_NODES and len(second.first_form(second.well_formed(rule, EVENTUALLY))) in wanted:
             return rule
 
@@ -238,5 +238,5 @@ def random_rule(rng):
         return near_limit(rng)
     if pick < .75:
         return tree(rng, rng.randrange(1, 16), MANY_NOTS, constants=.5)
-    kinds, propositions, shared = rng.choice((EVERY, TEMPORAL)), rng.choice((2, 4, 8)), rng.choice((0, .5, 1))
-    return tree(rng, rng.randrange(1, 16), kinds, propositions, shared=shared)
+    kinds, propositions = rng.choice((EVERY, TEMPORAL)), rng.choice((2, 4, PROPOSITIONS))
+    return tree(rng, rng.randrange(1, 16), kinds, propositions, shared=rng.choice((0, .5, 1)))

@@ -150,7 +150,7 @@ static int zero(enum buffer b, size_t n)
 static void in_a_row(const uint8_t *rule, size_t length)
 {
     static uint8_t after[BUFFERS][ZIMBORALO_IMAGE_BYTES + 2 * GUARD];
-    const uint8_t cycle[] = {1, 0, 255};
+    const uint8_t cycle[] = {1, 255, 0, 127};
     refill();
     uint64_t written = write_image(translate(rule, length, BUFFERS), BUFFERS);
     static uint8_t copy[ZIMBORALO_IMAGE_BYTES];
@@ -190,7 +190,7 @@ static void refused(void)
 static void whole(const uint8_t *rule, size_t length)
 {
     static uint8_t copy[ZIMBORALO_IMAGE_BYTES];
-    const uint8_t cycle[] = {1, 0, 255};
+    const uint8_t cycle[] = {1, 255, 0, 127};
     refill();
     uint64_t made = translate(rule, length, BUFFERS);
     expect(zimboralo_number(made) == 0, "translate refused", "a rule");
@@ -299,16 +299,19 @@ static size_t image_over_structs(uint64_t made)
 /* Each function over structs against its plain call, on a rule that may be refused, with lassos that may be. */
 static void over_structs(const uint8_t *rule, size_t rule_length)
 {
-    static const uint8_t cycle[ZIMBORALO_MAX_LETTERS + 1] = {1, 0, 255};
-    static const size_t letters[] = {0, 1, 3, ZIMBORALO_MAX_LETTERS, ZIMBORALO_MAX_LETTERS + 1};
+    static const uint8_t word[ZIMBORALO_MAX_LETTERS + 2] = {255, 1, 255, 127};
+    /* where the cycle begins in the word, and how many letters it has */
+    static const size_t cycles[][2] = {{1, 0}, {1, 1}, {0, 1}, {1, 3}, {1, ZIMBORALO_MAX_LETTERS},
+                                       {1, ZIMBORALO_MAX_LETTERS + 1}};
     refill_both();
     uint64_t made = translate(rule, rule_length, BUFFERS);
     expect_same("translate_rule", made, zimboralo_translate_rule(rule, rule_length, tables), made, NOT_SET);
     size_t length = accepted(made) ? image_over_structs(made) : NOT_SET;
-    for (size_t i = 0; i < sizeof letters / sizeof *letters; i++) {
+    for (size_t i = 0; i < sizeof cycles / sizeof *cycles; i++) {
+        const uint8_t *cycle = word + cycles[i][0];
         refill_both();
-        uint64_t plain = decide(rule, rule_length, cycle, 0, cycle, letters[i], BUFFERS);
-        uint64_t answer = zimboralo_decide_plan(rule, rule_length, cycle, 0, cycle, letters[i], &guarded.buffers);
+        uint64_t plain = decide(rule, rule_length, cycle, 0, cycle, cycles[i][1], BUFFERS);
+        uint64_t answer = zimboralo_decide_plan(rule, rule_length, cycle, 0, cycle, cycles[i][1], &guarded.buffers);
         expect_same("decide_plan", plain, answer, made, accepted(answer) ? length : NOT_SET);
         if (!accepted(answer))
             continue;
@@ -340,12 +343,15 @@ static void limits(void)
 }
 
 /* A rule with a node too many in negation normal form, all of always or all of eventually, which are untils: 26 comes
- * after 25 and before 7, 8 and 9, and leaves every buffer as it was. With a node less, so many untils are 7, before 8
- * and 9. */
+ * after 25 and before 7, 8, 9 and 28, and leaves every buffer as it was. With a node less, so many untils are 7, before
+ * 8, 9 and 28. */
 static void node_too_many(uint8_t kind)
 {
-    static const uint8_t letters[ZIMBORALO_MAX_LETTERS + 1] = {0};
-    static const size_t cycles[] = {0, 1, ZIMBORALO_MAX_LETTERS + 1};
+    static const uint8_t letters[ZIMBORALO_MAX_LETTERS + 1] = {0}, skipped[] = {ZIMBORALO_SKIPPED};
+    static const struct {
+        const uint8_t *at;
+        size_t length;
+    } cycles[] = {{letters, 0}, {letters, 1}, {letters, sizeof letters}, {skipped, 1}};
     const struct zimboralo_rule over = stacked(kind, ZIMBORALO_MAX_NODES - 1);
     const struct zimboralo_rule most = stacked(kind, ZIMBORALO_MAX_NODES - 2);
     refill();
@@ -357,15 +363,15 @@ static void node_too_many(uint8_t kind)
     if (kind == EVENTUALLY)
         expect(translate(most.bytes, most.length, BUFFERS) == ZIMBORALO_TOO_MANY_UNTILS, "translate took", "untils");
     for (size_t i = 0; i < sizeof cycles / sizeof *cycles; i++) {
-        expect(decide(over.bytes, over.length, letters, 0, letters, cycles[i], BUFFERS) == ZIMBORALO_TOO_MANY_NODES,
+        const uint8_t *cycle = cycles[i].at;
+        size_t length = cycles[i].length;
+        expect(decide(over.bytes, over.length, letters, 0, cycle, length, BUFFERS) == ZIMBORALO_TOO_MANY_NODES,
                "decide took", "a node too many");
         for (int shorter = 0; shorter < BUFFERS; shorter++)
-            expect(decide(over.bytes, over.length, letters, 0, letters, cycles[i], shorter)
-                       == ZIMBORALO_TABLE_TOO_SHORT,
+            expect(decide(over.bytes, over.length, letters, 0, cycle, length, shorter) == ZIMBORALO_TABLE_TOO_SHORT,
                    "decide took a node too many before a short", NAMES[shorter]);
         if (kind == EVENTUALLY)
-            expect(decide(most.bytes, most.length, letters, 0, letters, cycles[i], BUFFERS)
-                       == ZIMBORALO_TOO_MANY_UNTILS,
+            expect(decide(most.bytes, most.length, letters, 0, cycle, length, BUFFERS) == ZIMBORALO_TOO_MANY_UNTILS,
                    "decide took", "untils");
     }
     expect_untouched("26, 25 or 7 touched a buffer");
@@ -508,7 +514,7 @@ static const struct {
 } MERGED[] = {
     /* propositions keep their numbers, negated ones too */
     {{{2, 0, 0}, 3}, {{2, 1, 0}, 3}, {{2, 0, 0, 2, 1, 0, 4, 0, 1}, 9}},
-    {{{3, 7, 0}, 3}, {{3, 6, 0}, 3}, {{3, 7, 0, 3, 6, 0, 4, 0, 1}, 9}},
+    {{{3, 6, 0}, 3}, {{3, 5, 0}, 3}, {{3, 6, 0, 3, 5, 0, 4, 0, 1}, 9}},
     /* constants, also twice the same */
     {{{0, 0, 0}, 3}, {{1, 0, 0}, 3}, {{0, 0, 0, 1, 0, 0, 4, 0, 1}, 9}},
     {{{1, 0, 0}, 3}, {{1, 0, 0}, 3}, {{1, 0, 0, 1, 0, 0, 4, 0, 1}, 9}},
@@ -520,7 +526,7 @@ static const struct {
      {{1, 0, 0, 2, 0, 0, 7, 0, 1}, 9},
      {{0, 0, 0, 2, 1, 0, 8, 0, 1, 1, 0, 0, 2, 0, 0, 7, 3, 4, 4, 2, 5}, 21}},
     /* the right byte of next is no child */
-    {{{2, 7, 0}, 3}, {{2, 3, 0, 6, 0, 0}, 6}, {{2, 7, 0, 2, 3, 0, 6, 1, 0, 4, 0, 2}, 12}},
+    {{{2, 6, 0}, 3}, {{2, 3, 0, 6, 0, 0}, 6}, {{2, 6, 0, 2, 3, 0, 6, 1, 0, 4, 0, 2}, 12}},
     /* one rule twice, with a leaf at two places; a proposition as high as the nodes are many */
     {{{2, 5, 0, 4, 0, 0}, 6}, {{2, 5, 0, 4, 0, 0}, 6}, {{2, 5, 0, 4, 0, 0, 2, 5, 0, 4, 2, 2, 4, 1, 3}, 15}},
     {{{2, 0, 0, 5, 0, 0}, 6},
@@ -542,7 +548,8 @@ static const struct {
     {{{2, 0, 0, 2, 1, 0, 10, 0, 1}, 9}, ZIMBORALO_UNKNOWN_KIND, 2},
     {{{2, 0, 0, 11, 0, 0}, 6}, ZIMBORALO_UNKNOWN_KIND, 1},
     {{{2, 0, 0, 12, 0, 0}, 6}, ZIMBORALO_UNKNOWN_KIND, 1},
-    {{{2, 8, 0, 13, 0, 0}, 6}, ZIMBORALO_BAD_BYTE, 0},
+    {{{2, 7, 0, 13, 0, 0}, 6}, ZIMBORALO_BAD_BYTE, 0},
+    {{{2, 6, 0, 3, 7, 0, 4, 0, 1}, 9}, ZIMBORALO_BAD_BYTE, 1},
     {{{2, 0, 0, 6, 0, 1}, 6}, ZIMBORALO_BAD_BYTE, 1},
     {{{2, 0, 0, 7, 0, 1}, 6}, ZIMBORALO_CHILD_NOT_BELOW, 1},
     {{{2, 0, 0, 6, 0, 0, 6, 0, 0}, 9}, ZIMBORALO_BAD_PLACES, 1},
@@ -723,17 +730,18 @@ static void last_bytes(void)
     expect_untouched("a refused last byte touched a buffer");
 }
 
-/* Each state with other transitions, accepting and not, so that it comes to rest or leaves it; two of them are refused
- * by 12, the first because its target is 256 too high. With the last byte right there is no 11, with the other one it
- * comes before that 12. */
+/* Each state with other transitions, accepting and not, so that it comes to rest or leaves it. Some are refused by 12:
+ * a target is 256 too high, a proposition is asked for and forbidden, bit 7 is one or the other or both. With the last
+ * byte right there is no 11, with the other one it comes before that 12. */
 static void rests(void)
 {
     static const struct {
         uint8_t must, must_not, further, high;
         unsigned number;
-    } edges[] = {{0, 0, 0, 0, ZIMBORALO_ACCEPTED}, {1, 0, 0, 0, ZIMBORALO_ACCEPTED}, {0, 128, 0, 0, ZIMBORALO_ACCEPTED},
+    } edges[] = {{0, 0, 0, 0, ZIMBORALO_ACCEPTED}, {1, 0, 0, 0, ZIMBORALO_ACCEPTED}, {0, 64, 0, 0, ZIMBORALO_ACCEPTED},
                  {0, 0, 1, 0, ZIMBORALO_ACCEPTED}, {0, 0, 0, 1, ZIMBORALO_BAD_TRANSITION},
-                 {1, 1, 0, 0, ZIMBORALO_BAD_TRANSITION}};
+                 {1, 1, 0, 0, ZIMBORALO_BAD_TRANSITION}, {128, 0, 0, 0, ZIMBORALO_BAD_TRANSITION},
+                 {2, 129, 0, 0, ZIMBORALO_BAD_TRANSITION}, {128, 128, 0, 0, ZIMBORALO_BAD_TRANSITION}};
     for (size_t q = 0; q < ZIMBORALO_MAX_STATES; q++)
         for (size_t n = 0; n < 2 * (sizeof edges / sizeof *edges); n++) {
             struct bodies bodies = sound_bodies();
@@ -770,8 +778,8 @@ static const struct {
     {{{2, 1, 0, 2, 2, 0, 10, 0, 1, 11, 2, 0, 9, 1, 0, 4, 0, 4, 4, 3, 5}, 21}, 1 << 1 | 1 << 2, 1, 0},
     /* (0 or 1) and (not 0 or 2): one of four ways is dropped, and three lead on */
     {{{2, 0, 0, 2, 1, 0, 5, 0, 1, 3, 0, 0, 2, 2, 0, 5, 3, 4, 4, 2, 5}, 21}, 1 << 0, 5, 4},
-    /* always 7 and eventually not 7, the highest bit: it waits for ever */
-    {{{2, 7, 0, 11, 0, 0, 9, 0, 0, 12, 2, 0, 4, 1, 3}, 15}, 1 << 7, 1, 1},
+    /* always 6 and eventually not 6, the highest proposition: it waits for ever */
+    {{{2, 6, 0, 11, 0, 0, 9, 0, 0, 12, 2, 0, 4, 1, 3}, 15}, 1 << 6, 1, 1},
     /* next 4 and next not 4: no node's terms clash, the product of the second state does */
     {{{2, 4, 0, 6, 0, 0, 3, 4, 0, 6, 2, 0, 4, 1, 3}, 15}, 1 << 4, 2, 1},
     /* false and next (1 and not 1): there is no state, and the clash is below the next alone */
@@ -845,6 +853,11 @@ static const struct {
     {{{2, 0, 0, 12, 0, 0, 11, 1, 0}, 9}, 0, 2, {0, 1}, 1, 4},
     /* state 0, then 1 and 2 at the cycle's one letter, from where only 2 is reached */
     {{{2, 0, 0, 12, 0, 0, 11, 1, 0}, 9}, 1, 1, {1, 0}, 0, 3},
+    /* some of these again with skipped letters, which have no pairs */
+    {{{2, 0, 0, 12, 0, 0}, 6}, 1, 3, {129, 0, 255, 1}, 1, 3},
+    {{{2, 0, 0, 12, 0, 0}, 6}, 2, 2, {129, 128, 0, 129}, 0, 1},
+    {{{2, 0, 0, 11, 0, 0}, 6}, 0, 4, {1, 128, 1, 1}, 1, 3},
+    {{{2, 0, 0, 12, 0, 0, 11, 1, 0}, 9}, 2, 2, {128, 1, 129, 0}, 0, 3},
 };
 
 /* An answer that is a verdict with so many pairs, by which the working space is zero. */
@@ -876,20 +889,20 @@ static void known_pairs(void)
     }
 }
 
-/* As many states as there may be, all of them initial and staying, on as many letters as there may be: all pairs are
- * taken, or those of the first letter where the last state is at rest. */
+/* As many states as there may be, all of them initial and staying, on as many letters as there may be, and with some of
+ * these skipped: the pairs of all letters that remain are taken, or those of the first one where the last state is at
+ * rest. */
 static void most_pairs(void)
 {
-    enum { COUNT = ZIMBORALO_MAX_STATES, MOST = COUNT * ZIMBORALO_MAX_LETTERS };
-    /* of the last state: whether it accepts and what it wants; the verdict and the pairs */
+    enum { COUNT = ZIMBORALO_MAX_STATES, LETTERS = ZIMBORALO_MAX_LETTERS };
+    /* of the last state: whether it accepts and what it wants; the verdict, and whether all pairs are taken */
     static const struct {
         uint8_t accepting, must;
-        unsigned kept, pairs;
-    } last[] = {{0, 0, 0, MOST}, {1, 0, 1, COUNT}, {1, 1, 1, MOST}};
+        unsigned kept, all;
+    } last[] = {{0, 0, 0, 1}, {1, 0, 1, 0}, {1, 1, 1, 1}};
+    static const unsigned skipped[] = {0, 1, 100, LETTERS - 2};
     static struct zimboralo_tables many;
     static struct zimboralo_image bytes;
-    uint8_t word[ZIMBORALO_MAX_LETTERS];
-    memset(word, 1, sizeof word);
     many.state_count = many.transition_count = many.initial_count = COUNT;
     for (uint8_t q = 0; q < COUNT; q++) {
         many.states[4 * q] = 1;
@@ -900,20 +913,25 @@ static void most_pairs(void)
         many.states[4 * COUNT - 1] = last[i].accepting && !last[i].must;
         many.transitions[4 * COUNT - 4] = last[i].must;
         expect(accepted(zimboralo_write_image(&many, &bytes)), "not written", "as many states as there may be");
-        for (size_t s = 0; s < sizeof word; s += sizeof word - 1) {
-            refill();
-            expect_taken(judge(bytes.bytes, bytes.length, word, s, word + s, sizeof word - s, BUFFERS), last[i].kept,
-                         last[i].pairs, "most pairs");
+        for (size_t n = 0; n < sizeof skipped / sizeof *skipped; n++) {
+            uint8_t word[LETTERS];
+            memset(word, 1, sizeof word);
+            memset(word + 1, ZIMBORALO_SKIPPED, skipped[n]);
+            for (size_t s = 0; s < sizeof word; s += sizeof word - 1) {
+                refill();
+                expect_taken(judge(bytes.bytes, bytes.length, word, s, word + s, sizeof word - s, BUFFERS),
+                             last[i].kept, COUNT * (last[i].all ? LETTERS - skipped[n] : 1), "most pairs");
+            }
         }
     }
 }
 
-/* A lasso of so many letters, which judge and decide refuse by this number, or call broken if it is ZIMBORALO_ACCEPTED.
- * Before it come 25, in judge the image's numbers, in decide the rule's 1 to 7 and 26; after it comes 24. A verdict
- * leaves the working space zero, a refusal leaves every buffer as it was. */
-static void lasso(size_t stem_letters, size_t cycle_letters, unsigned number)
+/* A lasso with a stem of so many letters, which judge and decide refuse by this number, or call broken if it is
+ * ZIMBORALO_ACCEPTED. Before it come 25, in judge the image's numbers, in decide the rule's 1 to 7 and 26; after it
+ * comes 24. A verdict leaves the working space zero, a refusal leaves every buffer as it was. */
+static void lasso(size_t stem_letters, const uint8_t *cycle, size_t cycle_letters, unsigned number)
 {
-    static const uint8_t stem[ZIMBORALO_MAX_LETTERS + 1] = {0}, cycle[ZIMBORALO_MAX_LETTERS + 1] = {0};
+    static const uint8_t stem[ZIMBORALO_MAX_LETTERS + 1] = {0};
     static const uint8_t no_states[] = {1, 0, 0, 0, 18, 0, 2, 0, 0, 0, 18, 0, 3, 0, 0, 0, 18, 0};
     refill();
     expect(judge(no_states, 0, stem, stem_letters, cycle, cycle_letters, WORK) == ZIMBORALO_TABLE_TOO_SHORT,
@@ -947,20 +965,36 @@ static void lasso(size_t stem_letters, size_t cycle_letters, unsigned number)
     }
 }
 
-/* No letter; as many as a lasso may have, and one more: in the cycle, in both, and in the stem. */
+/* No letter; as many as a lasso may have, and one more: in the cycle, in both, and in the stem. Then cycles of which
+ * every letter is skipped, whatever its other bits, with 8 and 9 before that; and with one letter that remains. */
 static void lassos(void)
 {
+    static const uint8_t plain[ZIMBORALO_MAX_LETTERS + 1] = {0};
+    static uint8_t skipped[ZIMBORALO_MAX_LETTERS + 1];
     const size_t most = ZIMBORALO_MAX_LETTERS;
-    lasso(0, 0, ZIMBORALO_EMPTY_CYCLE);
-    lasso(most, 0, ZIMBORALO_EMPTY_CYCLE);
-    lasso(most + 1, 0, ZIMBORALO_EMPTY_CYCLE);
-    lasso(0, most, ZIMBORALO_ACCEPTED);
-    lasso(most / 2, most - most / 2, ZIMBORALO_ACCEPTED);
-    lasso(most - 1, 1, ZIMBORALO_ACCEPTED);
-    lasso(0, most + 1, ZIMBORALO_TOO_MANY_LETTERS);
-    lasso(most / 2 + 1, most - most / 2, ZIMBORALO_TOO_MANY_LETTERS);
-    lasso(most, 1, ZIMBORALO_TOO_MANY_LETTERS);
-    lasso(most + 1, most + 1, ZIMBORALO_TOO_MANY_LETTERS);
+    lasso(0, plain, 0, ZIMBORALO_EMPTY_CYCLE);
+    lasso(most, plain, 0, ZIMBORALO_EMPTY_CYCLE);
+    lasso(most + 1, plain, 0, ZIMBORALO_EMPTY_CYCLE);
+    lasso(0, plain, most, ZIMBORALO_ACCEPTED);
+    lasso(most / 2, plain, most - most / 2, ZIMBORALO_ACCEPTED);
+    lasso(most - 1, plain, 1, ZIMBORALO_ACCEPTED);
+    lasso(0, plain, most + 1, ZIMBORALO_TOO_MANY_LETTERS);
+    lasso(most / 2 + 1, plain, most - most / 2, ZIMBORALO_TOO_MANY_LETTERS);
+    lasso(most, plain, 1, ZIMBORALO_TOO_MANY_LETTERS);
+    lasso(most + 1, plain, most + 1, ZIMBORALO_TOO_MANY_LETTERS);
+    for (unsigned other = 0; other < ZIMBORALO_SKIPPED; other += 127) {
+        memset(skipped, (int)(ZIMBORALO_SKIPPED | other), sizeof skipped);
+        lasso(0, skipped, 1, ZIMBORALO_ALL_SKIPPED);
+        lasso(0, skipped, most, ZIMBORALO_ALL_SKIPPED);
+        lasso(most - 1, skipped, 1, ZIMBORALO_ALL_SKIPPED);
+        lasso(0, skipped, most + 1, ZIMBORALO_TOO_MANY_LETTERS);
+        lasso(most, skipped, 1, ZIMBORALO_TOO_MANY_LETTERS);
+        lasso(most + 1, skipped, 0, ZIMBORALO_EMPTY_CYCLE);
+        skipped[most - 2] = ZIMBORALO_SKIPPED - 1;
+        lasso(0, skipped, most, ZIMBORALO_ACCEPTED);
+        lasso(1, skipped, most - 1, ZIMBORALO_ACCEPTED);
+        lasso(2, skipped, most - 2, ZIMBORALO_ALL_SKIPPED);
+    }
 }
 
 /* A lasso: so many letters in its stem and, behind them, in its cycle. */
@@ -995,10 +1029,15 @@ static const struct {
     {{0, 2, {1, 2}}, {1, 2, {1, 2, 1}}, 1},
     {{0, 2, {1, 2}}, {0, 2, {2, 1}}, 0},
     {{0, 2, {1, 2}}, {1, 2, {1, 1, 2}}, 0},
-    /* stems of other lengths; another letter at the stem's end, and at its beginning in the highest bit alone */
+    /* stems of other lengths; another letter at the stem's end, and at its beginning in the highest proposition alone
+     * */
     {{3, 1, {0, 0, 1, 0}}, {5, 2, {0, 0, 1, 0, 0, 0, 0}}, 1},
     {{3, 1, {0, 0, 1, 0}}, {5, 2, {0, 0, 1, 0, 1, 0, 0}}, 0},
-    {{3, 1, {0, 0, 1, 0}}, {3, 1, {128, 0, 1, 0}}, 0},
+    {{3, 1, {0, 0, 1, 0}}, {3, 1, {64, 0, 1, 0}}, 0},
+    /* skipped letters, whatever their other bits; one of them is not skipped */
+    {{2, 2, {128, 1, 2, 255}}, {1, 1, {1, 2}}, 1},
+    {{3, 1, {129, 130, 131, 0}}, {0, 3, {0, 128, 0}}, 1},
+    {{2, 2, {128, 1, 2, 127}}, {1, 1, {1, 2}}, 0},
     /* cycles of 3 and 5 letters whose words agree on six letters */
     {{0, 3, {0, 1, 0}}, {0, 5, {0, 1, 0, 0, 1}}, 0},
 };
@@ -1012,7 +1051,7 @@ static void words(void)
         expect_words(&WORDS[i].first, &WORDS[i].second, WORDS[i].same, "a word");
     struct word half = {0, MOST / 2, {0}}, whole_cycle = {0, MOST, {0}};
     for (size_t i = 0; i < MOST / 2; i++)
-        half.letters[i] = whole_cycle.letters[i] = whole_cycle.letters[MOST / 2 + i] = pattern(i);
+        half.letters[i] = whole_cycle.letters[i] = whole_cycle.letters[MOST / 2 + i] = pattern(i) & 127;
     expect_words(&half, &whole_cycle, 1, "half of the cycle");
     whole_cycle.letters[MOST - 1] ^= 1;
     expect_words(&half, &whole_cycle, 0, "another last letter");
@@ -1021,27 +1060,36 @@ static void words(void)
     expect_words(&longest, &shorter, 0, "words that agree for long");
 }
 
-/* 8 before 9, and the first of two lassos, at place 0, before the second, at place 1. */
+/* 8 before 9 before 28, and the first of two lassos, at place 0, before the second, at place 1. */
 static void words_refused(void)
 {
     enum { MOST = ZIMBORALO_MAX_LETTERS };
-    /* how many letters stem and cycle have, and the number by which that is refused */
+    /* how many letters stem and cycle have, and the last of them; the number by which that is refused */
     static const struct {
         size_t stem, cycle;
+        uint8_t last;
         uint64_t number;
     } sizes[] = {
-        {0, 1, ZIMBORALO_ACCEPTED},
-        {MOST - 1, 1, ZIMBORALO_ACCEPTED},
-        {0, MOST, ZIMBORALO_ACCEPTED},
-        {0, 0, ZIMBORALO_EMPTY_CYCLE},
-        {MOST + 1, 0, ZIMBORALO_EMPTY_CYCLE},
-        {0, MOST + 1, ZIMBORALO_TOO_MANY_LETTERS},
-        {MOST, 1, ZIMBORALO_TOO_MANY_LETTERS},
+        {0, 1, 0, ZIMBORALO_ACCEPTED},
+        {MOST - 1, 1, 0, ZIMBORALO_ACCEPTED},
+        {0, MOST, 0, ZIMBORALO_ACCEPTED},
+        {0, MOST, 255, ZIMBORALO_ACCEPTED},
+        {0, 0, 0, ZIMBORALO_EMPTY_CYCLE},
+        {MOST + 1, 0, 128, ZIMBORALO_EMPTY_CYCLE},
+        {0, MOST + 1, 0, ZIMBORALO_TOO_MANY_LETTERS},
+        {MOST, 1, 0, ZIMBORALO_TOO_MANY_LETTERS},
+        {MOST, 1, 128, ZIMBORALO_TOO_MANY_LETTERS},
+        {MOST - 1, 1, 128, ZIMBORALO_ALL_SKIPPED},
+        {0, 1, 255, ZIMBORALO_ALL_SKIPPED},
     };
     const size_t count = sizeof sizes / sizeof *sizes;
     for (size_t i = 0; i < count * count; i++) {
         struct word a = {sizes[i / count].stem, sizes[i / count].cycle, {0}};
         struct word b = {sizes[i % count].stem, sizes[i % count].cycle, {0}};
+        if (a.stem + a.cycle)
+            a.letters[a.stem + a.cycle - 1] = sizes[i / count].last;
+        if (b.stem + b.cycle)
+            b.letters[b.stem + b.cycle - 1] = sizes[i % count].last;
         uint64_t first = sizes[i / count].number, second = sizes[i % count].number;
         uint64_t want = first ? first : second ? second | 1 << 8 : 1 << 8;
         expect(same_word(&a, &b) == want, "two words of so many letters", "another answer");

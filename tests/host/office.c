@@ -9,6 +9,9 @@
  * negation normal form and merged one after another; the lasso is kept where it keeps all of them. The place of 3 to 6
  * is a node of the rule as written, that of 20 a node of the negation normal form of the rule, or of the merged one.
  *
+ * A slot with bit 7 set, 80 to ff, is skipped, whatever its marks: it is no slot of the plan, and only the limit of
+ * slots counts it.
+ *
  * Exits 0 for a kept lasso or one plan, 1 for a broken lasso or two plans, 2 for a refusal or bad words. */
 #include <ctype.h>
 #include <stdio.h>

@@ -6,15 +6,16 @@ use mathlib.Core.List.{List, [], _∷_}
 use native.Mathlib.Omega.{arith}
 use lib.ListN.{getD, length}
 use lib.Bits.{bitAnd}
+use Rattle.lasso.specs.Lasso.{skipped}
 use Rattle.sets.specs.Sets.{In}
 use Rattle.automaton.specs.Automaton.{Transition, State, Automaton}
 use Rattle.automaton.specs.Limits.{maxStates, maxOfState, maxInitial}
 use Rattle.automaton.specs.Tables.{transitionCount}
 
--- the propositions that a transition asks for and those that it forbids: bytes, with no bit in both
+-- the propositions that a transition asks for and those that it forbids: bytes with bit 7 clear and with no bit in both
 pub record Label (must mustNot : ℕ) : Type 0 where
-  pub must-byte : must < 256
-  pub not-byte : mustNot < 256
+  pub must-small : must < skipped
+  pub not-small : mustNot < skipped
   pub disjoint : bitAnd must mustNot ≡ 0
 
 -- a state of an automaton that has this many states
@@ -24,7 +25,8 @@ pub record WellFormedState (states : ℕ) (s : State) : Type 0 where
   pub targets : (t : Transition) → In t (s .transitions) → t .target < states
 
 -- an automaton within the limits of specs/Limits.antt: not too many states, transitions of each and initial numbers,
--- labels of two bytes that share no bit, targets that are states, initial numbers that are states and rise
+-- labels of two bytes that have bit 7 clear and share no bit, targets that are states, initial numbers that are states
+-- and rise
 pub record WellFormed (a : Automaton) : Type 0 where
   pub states : length (a .states) ≤ maxStates
   pub each : (s : State) → In s (a .states) → WellFormedState (length (a .states)) s

@@ -58,7 +58,8 @@ passBegin stem cycle k = length stem + k * length cycle
 
 -- an accepting pass (document 01: lap): a run, `at i` being its state when letter i comes, that starts in an initial
 -- state, is in one and the same state when passes `first` and `second` through the cycle begin, and between these two
--- letters, or at one of them, is in an accepting state (01, Judging, sentences 1, 3 and 4)
+-- letters, or at one of them, is in an accepting state (01, Judging, sentences 1, 3 and 4). Where letters are skipped,
+-- stem and cycle are what remains of them (02, R-9).
 pub record AcceptingPass (automaton : Automaton) (stem cycle : List ℕ) : Type 0 where
   pub at : ℕ → ℕ
   pub first : ℕ

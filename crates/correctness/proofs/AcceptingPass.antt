@@ -8,7 +8,7 @@ use mathlib.Core.List.{List}
 use lib.ListN.{length}
 use Rattle.answer.specs.Result.{accepted}
 use Rattle.answer.proofs.Results.{then-accepted}
-use Rattle.lasso.specs.Lasso.{letter}
+use Rattle.lasso.specs.Lasso.{remaining, letter}
 use Rattle.formula.specs.Satisfaction.{Satisfies}
 use Rattle.normalform.specs.Written.{SatisfiesWritten}
 use Rattle.normalform.specs.NormalForm.{normalForm}
@@ -65,3 +65,11 @@ accepting-pass-iff-satisfied rule stem cycle a e pos =
 pub written-recognizes : (rule : List ℕ) (a : Automaton) → writtenTranslation rule ≡ accepted a
     → Recognizes (SatisfiesWritten rule) a
 written-recognizes rule a e stem cycle pos = accepting-pass-iff-satisfied rule stem cycle a e pos
+
+-- the same of a lasso as it is lent, of any length, of whose cycle a letter remains: accepting passes, and what
+-- satisfies the rule, are over the letters that remain (R-9)
+pub remaining-pass-iff-satisfied : (rule stem cycle : List ℕ) (a : Automaton) → writtenTranslation rule ≡ accepted a
+    → 0 < length (remaining cycle)
+    → AcceptingPass a (remaining stem) (remaining cycle) ↔ SatisfiesWritten rule (remaining stem) (remaining cycle)
+remaining-pass-iff-satisfied rule stem cycle a e some =
+    written-recognizes rule a e (remaining stem) (remaining cycle) some

@@ -206,7 +206,7 @@ conflicts-both-signs rule set e p h =
     let (plain, negated) = rule-both-signs form set of-form p h in
     (form, made, plain, negated)
 
--- so the set fits a byte: there are at most 8 propositions
+-- so the set fits a byte: there are no more propositions than bits
 pub conflicts-byte : (rule : List ℕ) (set : ℕ) → writtenConflicts rule ≡ accepted set → set < 256
 unfolding writtenConflicts
 conflicts-byte rule set e =

@@ -1,5 +1,5 @@
--- The labels of a rule's transitions: two bytes that share no bit. Assumes of a formula that its propositions are
--- below 8.
+-- The labels of a rule's transitions: two bytes with bit 7 clear that share no bit. Assumes of a formula that its
+-- propositions are among those that there are.
 use Prim.Native.Nat.{ℕ, zero, suc, _^_, _<_, _≤_}
 use mathlib.Core.Path.{sym, subst}
 use mathlib.Core.List.{List, [], _∷_}
@@ -8,7 +8,9 @@ use native.Mathlib.Omega.{arith}
 use lib.Bits.{bitAnd, or-lt, and-zero-r, and-zero-l}
 use lib.Pow.{pow-lt}
 use borrow.Author.Tests.{eqb-true}
+use Rattle.lasso.specs.Lasso.{skipped}
 use Rattle.sets.specs.Sets.{union}
+use Rattle.formula.specs.Limits.{propositions}
 use Rattle.formula.specs.Rule.{nodeCount}
 use Rattle.formula.specs.Formula.{Formula, bottom, top, proposition, negatedProposition, conjunction, disjunction, next, until, release, tree, InRange}
 use Rattle.sets.specs.Bits.{has}
@@ -24,17 +26,20 @@ Labelled t = Label (t .must) (t .mustNot)
 
 -- a term that asks nothing of the letter
 owing-labelled : (obligations : ℕ) → Labelled (term 0 0 obligations)
-owing-labelled obligations = record { must-byte = omega arith; not-byte = omega arith; disjoint = and-zero-r 0 }
+owing-labelled obligations = record { must-small = omega arith; not-small = omega arith; disjoint = and-zero-r 0 }
 
 product-labelled : (ts us : List Term) → All Labelled ts → All Labelled us → All Labelled (product ts us)
 product-labelled ts us p q z h =
     let (x, y, mx, my, e) = product-in less joined consistent z ts us h in
     let a = p x mx in
     let b = q y my in
-    let bytes : (joined x y .must < 256) × (joined x y .mustNot < 256) = (or-lt 8 (x .must) (y .must) (a .must-byte) (b .must-byte), or-lt 8 (x .mustNot) (y .mustNot) (a .not-byte) (b .not-byte)) in
+    let bytes : (joined x y .must < skipped) × (joined x y .mustNot < skipped) = (
+      or-lt propositions (x .must) (y .must) (a .must-small) (b .must-small),
+      or-lt propositions (x .mustNot) (y .mustNot) (a .not-small) (b .not-small),
+    ) in
     record {
-      must-byte = subst (λ (t : Term). t .must < 256) (sym e) (bytes .0);
-      not-byte = subst (λ (t : Term). t .mustNot < 256) (sym e) (bytes .1);
+      must-small = subst (λ (t : Term). t .must < skipped) (sym e) (bytes .0);
+      not-small = subst (λ (t : Term). t .mustNot < skipped) (sym e) (bytes .1);
       disjoint = eqb-true (bitAnd (z .must) (z .mustNot)) 0 (product-kept less joined consistent ts us z h);
     }
 
@@ -42,8 +47,8 @@ terms-labelled : (f : Formula) → InRange f → All Labelled (terms f)
 unfolding terms InRange
 terms-labelled bottom m = λ t h. absurd h
 terms-labelled top m = all-one Labelled (term 0 0 0) (owing-labelled 0)
-terms-labelled (proposition n p) m = all-one Labelled (term (2 ^ p) 0 0) (record { must-byte = pow-lt {j = 8} m; not-byte = omega arith; disjoint = and-zero-r (2 ^ p) })
-terms-labelled (negatedProposition n p) m = all-one Labelled (term 0 (2 ^ p) 0) (record { must-byte = omega arith; not-byte = pow-lt {j = 8} m; disjoint = and-zero-l (2 ^ p) })
+terms-labelled (proposition n p) m = all-one Labelled (term (2 ^ p) 0 0) (record { must-small = pow-lt {j = propositions} m; not-small = omega arith; disjoint = and-zero-r (2 ^ p) })
+terms-labelled (negatedProposition n p) m = all-one Labelled (term 0 (2 ^ p) 0) (record { must-small = omega arith; not-small = pow-lt {j = propositions} m; disjoint = and-zero-l (2 ^ p) })
 terms-labelled (conjunction a b) (p, q) = product-labelled (terms a) (terms b) (terms-labelled a p) (terms-labelled b q)
 terms-labelled (disjunction a b) (p, q) = all-union less Labelled (terms a) (terms b) (terms-labelled a p) (terms-labelled b q)
 terms-labelled (next n a) m = λ t h. let (c, mc, e) = map-in (term 0 0) t (cover a) h in subst Labelled (sym e) (owing-labelled c)

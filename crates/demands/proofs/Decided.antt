@@ -1,5 +1,5 @@
--- Demand 3 of translate, write and judge in a row: `decided` says the first refusal, else kept exactly when the lasso
--- satisfies the rule and broken exactly when it does not. Assumes nothing.
+-- Demand 3 of translate, write and judge in a row: `decided` says the first refusal, else kept exactly when the letters
+-- of the lasso that remain satisfy the rule and broken exactly when they do not. Assumes nothing.
 use Prim.Native.Nat.{ℕ, _<_}
 use mathlib.Core.Path.{_≡_, refl, sym}
 use mathlib.Core.List.{List}
@@ -10,6 +10,7 @@ use Rattle.normalform.specs.Written.{SatisfiesWritten}
 use Rattle.answer.proofs.Results.{then-accepted}
 use Rattle.automaton.specs.Automaton.{Automaton}
 use Rattle.translation.specs.Translate.{writtenTranslation}
+use Rattle.lasso.specs.Lasso.{remaining}
 use Rattle.lasso.proofs.Checking.{lasso-some}
 use Rattle.demands.specs.Demand.{roomCheck, inputCheck, concluded, decidedBy, decided, decidable, Answers}
 use Rattle.demands.specs.Demand.{Decides}
@@ -22,14 +23,14 @@ module _ (rule stem cycle s t i image work : List ℕ) where
   unfolding decided decidable
   decided-exactly = go (inputCheck rule stem cycle s t i image work) refl (writtenTranslation rule) refl
     where
-      some : inputCheck rule stem cycle s t i image work ≡ fine → 0 < length cycle
+      some : inputCheck rule stem cycle s t i image work ≡ fine → 0 < length (remaining cycle)
       some e = unfold inputCheck in
           let (_, _, after-room) = then-accepted (roomCheck s t i image work) _ e in
           let (_, _, lasso) = then-accepted (writtenChecked rule) _ after-room in
           lasso-some stem cycle (sym lasso)
 
       go : (check : Check) → inputCheck rule stem cycle s t i image work ≡ check → (r : Result Automaton) → writtenTranslation rule ≡ r
-          → Answers (decidedBy check (concluded r stem cycle s t i image work) s t i image work .answer) (andThen check (λ _. andThen r (λ _. accepted tt))) (SatisfiesWritten rule stem cycle)
+          → Answers (decidedBy check (concluded r stem cycle s t i image work) s t i image work .answer) (andThen check (λ _. andThen r (λ _. accepted tt))) (SatisfiesWritten rule (remaining stem) (remaining cycle))
       go (refused number place) e r known = refl
       go (accepted u) e (refused number place) known = refl
       go (accepted u) e (accepted a) known =

@@ -15,13 +15,13 @@ use Rattle.automaton.specs.Automaton.{Automaton}
 use Rattle.automaton.specs.Records.{stateRecords, transitionRecords, initialRecords}
 use Rattle.automaton.specs.Tables.{Counts, counts, Outcome, outcome, lengthsFit, tableCheck, TablesRoom}
 use Rattle.automaton.proofs.Room.{tables-short, room-fine, fine-room, filled-room}
-use Rattle.answer.specs.Bytes.{zeros, filled}
+use Rattle.answer.specs.Bytes.{filled}
 use Rattle.translation.specs.Translate.{writtenTranslation, stored, translated}
 use Rattle.image.specs.Image.{imageBytes, largestImage}
 use Rattle.image.specs.Calls.{bufferCheck, writes}
 use Rattle.answer.specs.Buffer.{Buffer, buffer}
-use Rattle.judge.specs.Judge.{workBytes, Finding, found, judgement, judged}
-use Rattle.lasso.specs.Lasso.{lassoCheck}
+use Rattle.judge.specs.Judge.{workBytes, Finding, judgement, lettersJudged, judged}
+use Rattle.lasso.specs.Lasso.{remaining, lassoCheck}
 use Rattle.judge.proofs.VerdictIff.{image-judged}
 use Rattle.correctness.proofs.WellFormed.{written-well-formed}
 use Rattle.demands.specs.Demand.{roomCheck, inputCheck, Decision, decision, concluded, decided}
@@ -29,7 +29,7 @@ use Rattle.image.proofs.ImageAccepted.{counts-fit, tables-read}
 
 -- ---- buffers that are long enough, a rule and a lasso that are not refused
 
--- what 25 lets pass, and then 1 to 7, 26, 8 and 9
+-- what 25 lets pass, and then 1 to 7, 26, 8, 9 and 28
 pub record Room (states transitions initial image work : List ℕ) : Type 0 where
   pub tables : TablesRoom states transitions initial
   pub buffer : largestImage ≤ length image
@@ -149,7 +149,7 @@ module _ (rule stem cycle s t i image work : List ℕ) (passes : inputCheck rule
             → decision answer s' t' i' image' work' ≡ concluded (writtenTranslation rule) stem cycle s t i image work
         unfolding stored
         lasso-judged {answer} {work'} judges =
-            let known : judgement answer work' ≡ judgement (accepted (found a stem cycle)) (zeros work) =
+            let known : judgement answer work' ≡ lettersJudged a (remaining stem) (remaining cycle) work =
             judges ∙ ap (λ (bytes : List ℕ). judged bytes stem cycle work) image-is ∙ image-judged a (written-well-formed rule a (has-stored .translated-to)) stem cycle work (passed .lasso) (passed .room .working) in
             let tables = has-stored .tables in
             rw (has-stored .translated-to) (λ k. decision (known k .answer) (tables k .states) (tables k .transitions) (tables k .initial) (has-stored .stored-in k) (known k .work))

@@ -1,5 +1,5 @@
--- R-7: merge, translate, write and judge in a row say whether a lasso satisfies both rules, and so do merge and decide.
--- Assumes nothing.
+-- R-7: merge, translate, write and judge in a row say whether the letters of a lasso that remain satisfy both rules,
+-- and so do merge and decide. Assumes nothing.
 use Prim.Native.Nat.{ℕ, _+_, _≤_, _<_}
 use mathlib.Core.Path.{_≡_, sym}
 use mathlib.Core.Logic.{_↔_, Iff·trans, Iff·not}
@@ -7,7 +7,7 @@ use mathlib.Core.List.{List}
 use lib.ListN.{length, take}
 use Rattle.answer.specs.Result.{Result, accepted, refused, Check}
 use Rattle.answer.specs.Buffer.{buffer}
-use Rattle.lasso.specs.Lasso.{maxLetters}
+use Rattle.lasso.specs.Lasso.{remaining, maxLetters}
 use Rattle.automaton.specs.Tables.{Counts, outcome}
 use Rattle.formula.specs.Satisfaction.{Satisfies}
 use Rattle.normalform.specs.Written.{SatisfiesWritten}
@@ -38,22 +38,26 @@ module _ (first second lent merged : List ℕ) (m : ℕ) (merging : buffer (acce
       rw (made .is) (written-both first second (made .may) stem cycle)
 
   -- merge has accepted two first-edition rules, translate what merge left, and write what translate left. Then judging
-  -- the image that write left says kept exactly when the lasso satisfies both rules, and broken exactly when it does not.
+  -- the image that write left says kept exactly when the letters of the lasso that remain satisfy both rules, and
+  -- broken exactly when they do not.
   pub merged-verdict : (s t i s' t' i' image image' : List ℕ) (c : Counts) (n : ℕ)
       → outcome (accepted c) s' t' i' ≡ translated (take m merged) s t i
       → buffer (accepted n) image' ≡ writes c s' t' i' image
-      → (stem cycle work : List ℕ) → 0 < length cycle → length stem + length cycle ≤ maxLetters → workBytes ≤ length work
-      → Exactly (judged (take n image') stem cycle work .answer) (Satisfies first stem cycle × Satisfies second stem cycle)
+      → (stem cycle work : List ℕ) → 0 < length (remaining cycle) → length stem + length cycle ≤ maxLetters
+      → workBytes ≤ length work
+      → Exactly (judged (take n image') stem cycle work .answer)
+      (Satisfies first (remaining stem) (remaining cycle) × Satisfies second (remaining stem) (remaining cycle))
   merged-verdict s t i s' t' i' image image' c n translating writing stem cycle work some few enough =
-      exactly-same (judged (take n image') stem cycle work .answer) _ _ (both stem cycle)
+      exactly-same (judged (take n image') stem cycle work .answer) _ _ (both (remaining stem) (remaining cycle))
       (three-calls-exactly (take m merged) s t i s' t' i' image image' c n translating writing stem cycle work some few enough)
 
-  -- the same of merge and decide: the first refusal in decide's order, else kept exactly when the lasso satisfies both
-  -- rules, and broken exactly when it does not
+  -- the same of merge and decide: the first refusal in decide's order, else kept exactly when the letters of the lasso
+  -- that remain satisfy both rules, and broken exactly when they do not
   pub merged-decided : (stem cycle s t i image work : List ℕ)
       → Answers (decided (take m merged) stem cycle s t i image work .answer)
-      (decidable (take m merged) stem cycle s t i image work) (Satisfies first stem cycle × Satisfies second stem cycle)
+      (decidable (take m merged) stem cycle s t i image work)
+      (Satisfies first (remaining stem) (remaining cycle) × Satisfies second (remaining stem) (remaining cycle))
   merged-decided stem cycle s t i image work =
       answers-same (decided (take m merged) stem cycle s t i image work .answer)
-      (decidable (take m merged) stem cycle s t i image work) _ _ (both stem cycle)
+      (decidable (take m merged) stem cycle s t i image work) _ _ (both (remaining stem) (remaining cycle))
       (decided-exactly (take m merged) stem cycle s t i image work)

@@ -1,6 +1,6 @@
 -- The rows P1 to P9 of 01, Watchers to hold against the definitions, four of R-3 and two of R-8 under one theorem: normal
 -- form, first walk, conflicts, automaton, given images, verdicts and numbers of pairs of each, computed from the
--- definitions. Assumes nothing.
+-- definitions; some lassos have skipped letters (R-9). Assumes nothing.
 use Prim.Native.Nat.{ℕ, _≤_}
 use mathlib.Core.Path.{_≡_, refl, sym, _∙_, ap}
 use mathlib.Core.Logic.{inl, inr}
@@ -17,7 +17,7 @@ use Rattle.formula.specs.Formula.{trees, tree, formula}
 use Rattle.normalform.specs.Written.{writtenCheck, writtenTree}
 use Rattle.normalform.specs.NormalForm.{code, below, member, rank, emit, size, result, normalForm}
 use Rattle.normalform.specs.NormalForm
-use Rattle.lasso.specs.Lasso.{letter, lassoCheck}
+use Rattle.lasso.specs.Lasso.{remaining, letter, lassoCheck}
 use Rattle.term.specs.Term.{cover, terms, conflicts}
 use Rattle.term.specs.Size.{sizeCheck, sizesChecked}
 use Rattle.generalized.specs.Explore.{find, meet, meetAll, explore}
@@ -145,7 +145,10 @@ p4 = record {
   conflicts = 0;
   automaton = record { states = state false (transition 1 0 1 ∷ transition 0 0 0 ∷ []) ∷ state true (transition 0 0 1 ∷ []) ∷ []; initial = 0 ∷ [] };
   images = [];
-  cases = on (1 ∷ []) (0 ∷ []) kept 2 ∷ on [] (0 ∷ []) broken 1 ∷ [];
+  -- then the same two with skipped letters, whatever their other bits (R-9)
+  cases =
+      on (1 ∷ []) (0 ∷ []) kept 2 ∷ on [] (0 ∷ []) broken 1
+      ∷ on (128 ∷ 1 ∷ []) (255 ∷ 0 ∷ []) kept 2 ∷ on (129 ∷ []) (0 ∷ []) broken 1 ∷ [];
 }
 
 p5 : Row
@@ -169,7 +172,10 @@ p6 = record {
   conflicts = 0;
   automaton = record { states = state true (transition 0 0 1 ∷ []) ∷ state true (transition 1 0 2 ∷ []) ∷ state true (transition 0 0 2 ∷ []) ∷ []; initial = 0 ∷ [] };
   images = [];
-  cases = on [] (1 ∷ []) kept 3 ∷ on [] (1 ∷ 0 ∷ []) broken 2 ∷ [];
+  -- then the same two with skipped letters, which take no place (R-9)
+  cases =
+      on [] (1 ∷ []) kept 3 ∷ on [] (1 ∷ 0 ∷ []) broken 2
+      ∷ on (128 ∷ []) (128 ∷ 1 ∷ []) kept 3 ∷ on [] (1 ∷ 129 ∷ 0 ∷ []) broken 2 ∷ [];
 }
 
 p7 : Row
@@ -326,14 +332,15 @@ images = refl
 fits : map (λ row. map (λ c. lassoCheck (c .stem) (c .cycle)) (row .cases)) table ≡ map (λ row. map (λ c. fine) (row .cases)) table
 unfolding on state transition writtenAs table p1 p2 p3 p4 p5 p6 p7 p8 p9 p4Written p5Written p9Written ifOpenPadded
     bothWays bothWaysNext
-    lassoCheck
+    remaining lassoCheck
 fits = refl
 
-findings : map (λ row. map (λ c. found (row .automaton) (c .stem) (c .cycle)) (row .cases)) table
+findings :
+    map (λ row. map (λ c. found (row .automaton) (remaining (c .stem)) (remaining (c .cycle))) (row .cases)) table
     ≡ map (λ row. map (λ c. c .finds) (row .cases)) table
 unfolding on state transition writtenAs table p1 p2 p3 p4 p5 p6 p7 p8 p9 p4Written p5Written p9Written ifOpenPadded
     bothWays bothWaysNext
-    letter any atRest Search.visit Search.visitAll Search.readTargets Search.after Search.onward Search.reach
+    remaining letter any atRest Search.visit Search.visitAll Search.readTargets Search.after Search.onward Search.reach
     Search.reachedFrom Search.starts upTo taken restTaken pairsTaken hasAcceptingPass verdict
 findings = refl
 

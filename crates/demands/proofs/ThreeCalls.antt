@@ -10,7 +10,7 @@ use Rattle.answer.specs.Result.{Result, accepted, refused, andThen, Check, fine
 use Rattle.answer.specs.Buffer.{Buffer, buffer}
 use Rattle.answer.proofs.Lowest.{fine-first, fine-second}
 use Rattle.answer.proofs.Results.{require-fine, never-both, then-accepted}
-use Rattle.lasso.specs.Lasso.{maxLetters}
+use Rattle.lasso.specs.Lasso.{remaining, maxLetters}
 use Rattle.lasso.proofs.Checking.{lasso-within}
 use Rattle.automaton.specs.Automaton.{Automaton}
 use Rattle.automaton.specs.Tables.{Counts, Outcome, outcome, tableCheck}
@@ -56,10 +56,12 @@ module _ (rule s t i s' t' i' image image' : List ℕ) (c : Counts) (n : ℕ)
     (translating : outcome (accepted c) s' t' i' ≡ translated rule s t i)
     (writing : buffer (accepted n) image' ≡ writes c s' t' i' image) where
   -- translate has accepted the written rule, write the tables and counts that translate left; then judging the image
-  -- that write left says kept exactly when the lasso satisfies the rule, and broken exactly when it does not
-  pub three-calls-exactly : (stem cycle work : List ℕ) → 0 < length cycle → length stem + length cycle ≤ maxLetters
-      → workBytes ≤ length work
-      → Exactly (judged (take n image') stem cycle work .answer) (SatisfiesWritten rule stem cycle)
+  -- that write left says kept exactly when the letters of the lasso that remain satisfy the rule, and broken exactly
+  -- when they do not
+  pub three-calls-exactly : (stem cycle work : List ℕ) → 0 < length (remaining cycle)
+      → length stem + length cycle ≤ maxLetters → workBytes ≤ length work
+      → Exactly (judged (take n image') stem cycle work .answer)
+      (SatisfiesWritten rule (remaining stem) (remaining cycle))
   three-calls-exactly stem cycle work some few enough =
       let (tables, bytes) = translate-fine rule s t i s' t' i' c translating in
       let room = write-fine c s' t' i' image image' n writing in

@@ -5,7 +5,7 @@ use mathlib.Core.Path.{_≡_}
 use mathlib.Core.List.{List}
 use lib.ListN.{length}
 use Rattle.answer.specs.Result.{accepted}
-use Rattle.lasso.specs.Lasso.{maxLetters}
+use Rattle.lasso.specs.Lasso.{remaining, maxLetters}
 use Rattle.automaton.specs.Automaton.{Automaton}
 use Rattle.normalform.specs.Written.{SatisfiesWritten}
 use Rattle.translation.specs.Translate.{writtenTranslation}
@@ -16,11 +16,13 @@ use Rattle.correctness.proofs.WellFormed.{written-well-formed}
 use Rattle.correctness.proofs.AcceptingPass.{written-recognizes}
 
 -- Demand 3, of judging: the written rule is accepted, and a is its automaton, that of its negation normal form; the image
--- is the one byte string of a, whoever wrote it; the lasso has a letter in its cycle and is within the limit of letters,
--- and there are working bytes enough. Then the answer is kept exactly when the lasso satisfies the rule as it is
--- written, and broken exactly when it does not.
+-- is the one byte string of a, whoever wrote it; a letter of the lasso's cycle remains, stem and cycle as they are lent
+-- are within the limit of letters, and there are working bytes enough. Then the answer is kept exactly when the letters
+-- that remain satisfy the rule as it is written, and broken exactly when they do not.
 pub verdict-iff-satisfied : (rule stem cycle : List ℕ) (a : Automaton) → writtenTranslation rule ≡ accepted a
-    → (work : List ℕ) → 0 < length cycle → length stem + length cycle ≤ maxLetters → workBytes ≤ length work
-    → Exactly (judged (imageBytes a) stem cycle work .answer) (SatisfiesWritten rule stem cycle)
+    → (work : List ℕ) → 0 < length (remaining cycle) → length stem + length cycle ≤ maxLetters
+    → workBytes ≤ length work
+    → Exactly (judged (imageBytes a) stem cycle work .answer)
+    (SatisfiesWritten rule (remaining stem) (remaining cycle))
 verdict-iff-satisfied rule stem cycle a e work pos few enough =
     recognized-verdict a (written-well-formed rule a e) stem cycle (written-recognizes rule a e) pos work few enough

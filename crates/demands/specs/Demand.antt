@@ -15,14 +15,14 @@ use Rattle.answer.specs.Bytes.{zeros, filled}
 use Rattle.image.specs.Image.{imageBytes}
 use Rattle.image.specs.Calls.{bufferCheck}
 use Rattle.judge.specs.Judge.{Finding, Exactly, workCheck, found}
-use Rattle.lasso.specs.Lasso.{lassoCheck}
+use Rattle.lasso.specs.Lasso.{remaining, lassoCheck}
 
 -- 25: one of the three tables, the image's buffer or the working bytes is too short for its call
 unfoldable pub roomCheck : (states transitions initial image work : List ℕ) → Check
 roomCheck states transitions initial image work =
     andThen (tableCheck states transitions initial) (λ _. andThen (bufferCheck image) (λ _. workCheck work))
 
--- what is refused before anything is stored: 25, the rule's 1 to 6, 26 and 7, the lasso's 8 and 9
+-- what is refused before anything is stored: 25, the rule's 1 to 6, 26 and 7, the lasso's 8, 9 and 28
 unfoldable pub inputCheck : (rule stem cycle states transitions initial image work : List ℕ) → Check
 inputCheck rule stem cycle states transitions initial image work =
     andThen (roomCheck states transitions initial image work)
@@ -45,7 +45,7 @@ decision answer s t i image work =
 -- buffer, the working bytes zero. After 20 to 24 the tables are zero, and the rest is as it was.
 abbrev pub concluded : Result Automaton → (stem cycle states transitions initial image work : List ℕ) → Decision
 concluded (accepted a) stem cycle s t i image work =
-    decision (accepted (found a stem cycle))
+    decision (accepted (found a (remaining stem) (remaining cycle)))
     (filled s (stateRecords a)) (filled t (transitionRecords a)) (filled i (initialRecords a))
     (imageBytes a ++ drop (length (imageBytes a)) image) (zeros work)
 concluded (refused number place) stem cycle s t i image work =
@@ -63,7 +63,7 @@ decided rule stem cycle s t i image work =
 
 -- ---- what the answer says
 
--- every refusal in its order: 25, 1 to 6, 26 and 7, 8 and 9, then the rule's 20 to 24
+-- every refusal in its order: 25, 1 to 6, 26 and 7, 8, 9 and 28, then the rule's 20 to 24
 unfoldable pub decidable : (rule stem cycle states transitions initial image work : List ℕ) → Check
 decidable rule stem cycle s t i image work =
     andThen (inputCheck rule stem cycle s t i image work) (λ _. andThen (writtenTranslation rule) (λ _. accepted tt))
@@ -73,7 +73,7 @@ abbrev pub Answers : Result Finding → Check → Type 0 → Type 0
 Answers r (accepted _) P = Exactly r P
 Answers r (refused number place) P = r ≡ refused number place
 
--- demand 3 of one answer: P is that the lasso satisfies the rule
+-- demand 3 of one answer: P is that the letters of the lasso that remain satisfy the rule (02, R-9)
 abbrev pub Decides : Result Finding → (rule stem cycle states transitions initial image work : List ℕ) → Type 0
 Decides r rule stem cycle s t i image work =
-    Answers r (decidable rule stem cycle s t i image work) (SatisfiesWritten rule stem cycle)
+    Answers r (decidable rule stem cycle s t i image work) (SatisfiesWritten rule (remaining stem) (remaining cycle))

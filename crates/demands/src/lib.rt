@@ -17,7 +17,7 @@ ghost use Rattle.translation.specs.Translate.{writtenTranslation};
 ghost use Rattle.judge.specs.Judge.{judgeAnswer};
 ghost use Rattle.demands.specs.Demand.{inputCheck, decision, concluded, decided};
 
-// translate, write and judge in a row, where 25, 1 to 7, 26, 8 and 9 refuse nothing.
+// translate, write and judge in a row, where 25, 1 to 7, 26, 8, 9 and 28 refuse nothing.
 fn decide_checked(
     rule: &[u8],
     stem: &[u8],
@@ -51,8 +51,8 @@ fn decide_checked(
     }
 }
 
-// Whether the lasso satisfies the rule: the rule's automaton, its image, and the verdict of judging that image. What is
-// known of the input alone, 25, 1 to 7, 26, 8 and 9, is refused before anything is stored.
+// Whether what remains of the lasso satisfies the rule: the rule's automaton, its image, and the verdict of judging
+// that image. What is known of the input alone, 25, 1 to 7, 26, 8, 9 and 28, is refused before anything is stored.
 pub fn decide(
     rule: &[u8],
     stem: &[u8],

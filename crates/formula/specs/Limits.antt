@@ -13,6 +13,7 @@ ruleBytes = 3 * maxNodes
 abbrev pub maxUntils : ℕ
 maxUntils = 8
 
--- how many propositions there are, 0 to 7 (01, Numbers that come from the input, 4)
+-- how many propositions there are, 0 to 6: bit 7 of a letter says that it is skipped (01, Numbers that come from the
+-- input, 4, with 02, R-9)
 abbrev pub propositions : ℕ
-propositions = 8
+propositions = 7

@@ -1,5 +1,6 @@
 -- When a formula holds, and when a lasso satisfies a rule. A lasso is document 01's plan: a stem, and a cycle (its
--- loop) that is repeated for ever. A letter is its slot: one byte, in which bit p is proposition (mark) p.
+-- loop) that is repeated for ever. A letter is its slot: one byte, in which bit p is proposition (mark) p. Where
+-- letters are skipped, stem and cycle are what remains of them (02, R-9).
 use Prim.Native.Nat.{ℕ, suc, _/_, _%_, _^_, _≤_, _<_}
 use mathlib.Core.Path.{_≡_}
 use mathlib.Core.List.{List}

@@ -36,7 +36,7 @@ pub const MAX_BYTES: usize = 3 * MAX_NODES;
 
 pub const MAX_UNTILS: usize = 8;
 
-pub const PROPOSITIONS: usize = 8;
+pub const PROPOSITIONS: usize = 7;
 
 // The kinds of node that the code tells apart.
 pub const FALSE: u8 = 0;

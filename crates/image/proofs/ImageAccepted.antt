@@ -11,6 +11,7 @@ use lib.Dec.{leb}
 use lib.Bits.{bitAnd}
 use borrow.Author.Tests.{lt-ltb, le-leb, eq-eqb}
 use Rattle.answer.specs.Result.{accepted, fine}
+use Rattle.lasso.specs.Lasso.{skipped}
 use Rattle.automaton.specs.Automaton.{Transition, State, Automaton, noState, atRest}
 use Rattle.sets.specs.Sets.{In}
 use Rattle.automaton.specs.Limits.{maxStates, maxOfState, maxTransitions, maxInitial}
@@ -18,8 +19,8 @@ use Rattle.automaton.specs.Records.{records, stateRecord, transitionRecord, sta
 use Rattle.answer.specs.Bytes.{twoBytes, numberAt}
 use Rattle.automaton.specs.Tables.{counts, transitionCount}
 use Rattle.image.specs.Image.{imageBytes}
-use Rattle.image.specs.Reader.{countsFit, stateCheck, statesFrom, restCheck, transitionRecordCheck, initialCheck}
-use Rattle.image.specs.Reader.{automatonFrom, readTables, readImage}
+use Rattle.image.specs.Reader.{countsFit, stateCheck, statesFrom, restCheck, labelFits, transitionRecordCheck}
+use Rattle.image.specs.Reader.{initialCheck, automatonFrom, readTables, readImage}
 use Rattle.sets.proofs.Members.{at-in, append-in}
 use Rattle.automaton.proofs.WellFormed.{WellFormed, few-together}
 use Rattle.automaton.proofs.Records.{records-append, byte-at, number-at, number-length, transition-length, state-byte-at, state-number-at}
@@ -130,10 +131,19 @@ module _ (a : Automaton) (formed : WellFormed a) where
     transition-not = rw (transitions-are a) (byte-at transitionRecord 4 transition-length none (together (a .states)) rest i 1 (4 * i + 1) within (omega arith) refl)
 
     transition-fine : transitionRecordCheck (length (a .states)) (transitionRecords a ++ rest) i ≡ fine
-    unfolding transitionRecordCheck
+    unfolding transitionRecordCheck labelFits
     transition-fine =
         let (s, m, n) = together-in transition (a .states) (at-in none (together (a .states)) i within) in
-        rw (transition-target, transition-must, transition-not, lt-ltb (transition .target) (length (a .states)) (formed .each s m .targets transition n), eq-eqb (bitAnd (transition .must) (transition .mustNot)) 0 (formed .each s m .labels transition n .disjoint))
+        let label = formed .each s m .labels transition n in
+        rw (
+          transition-target,
+          transition-must,
+          transition-not,
+          lt-ltb (transition .target) (length (a .states)) (formed .each s m .targets transition n),
+          eq-eqb (bitAnd (transition .must) (transition .mustNot)) 0 (label .disjoint),
+          lt-ltb (transition .must) skipped (label .must-small),
+          lt-ltb (transition .mustNot) skipped (label .not-small),
+        )
 
   initial-at : (rest : List ℕ) (i : ℕ) → i < length (a .initial) → numberAt (initialRecords a ++ rest) (2 * i) ≡ getD (a .initial) i 0
   unfolding initialRecords twoBytes

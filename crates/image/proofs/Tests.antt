@@ -5,10 +5,11 @@ use mathlib.Core.List.{List}
 use Prim.Native.Nat.{ℕ, zero, suc, _+_, _*_, _≤_, _<_}
 use native.Mathlib.Omega.{arith}
 use lib.ListN.{length, getD}
-use lib.Dec.{eqb}
+use lib.Dec.{eqb, ltb}
 use lib.Bits.{bitAnd}
 use borrow.Author.Tests.{leb-true, lt-ltb, le-ltb, le-leb, lt-leb, eq-eqb, ne-eqb, not-true, not-false}
 use Rattle.answer.specs.Result.{Result, accepted, refused, andThen, Check, fine, require, lowest}
+use Rattle.lasso.specs.Lasso.{skipped}
 use Rattle.automaton.specs.Limits.{maxStates, maxOfState, maxTransitions, maxInitial}
 use Rattle.automaton.specs.Tables.{Counts}
 use Rattle.image.specs.Memory.{Small}
@@ -18,7 +19,7 @@ use Rattle.answer.specs.Bytes.{numberAt}
 use Rattle.image.specs.Reader.{countsAt, countsFit, kindsFit, offsetsFit, contentsCheck}
 use Rattle.image.specs.Reader.{stateCheck, addState, statePass, sumCheck, statesCheck}
 use Rattle.image.specs.Reader.{statesFrom, restCheck, restsCheck}
-use Rattle.image.specs.Reader.{transitionRecordCheck, initialCheck, recordsCheck}
+use Rattle.image.specs.Reader.{labelFits, transitionRecordCheck, initialCheck, recordsCheck}
 
 pub counts-small : (c : Counts) → countsFit c ≡ true → Small c
 unfolding countsFit
@@ -103,20 +104,36 @@ module _ (c : Counts) (s : List ℕ) where
   unfolding statesCheck
   pass-summed e f = rw (← e) f
 
+-- the label of a transition
+module _ (must mustNot : ℕ) where
+  pub label-shares : (bitAnd must mustNot ≡ 0 → ⊥) → false ≡ labelFits must mustNot
+  unfolding labelFits
+  label-shares ne = rw (ne-eqb (bitAnd must mustNot) 0 ne)
+
+  module _ (apart : bitAnd must mustNot ≡ 0) where
+    pub must-skips : skipped ≤ must → false ≡ labelFits must mustNot
+    unfolding labelFits
+    must-skips le = rw (eq-eqb (bitAnd must mustNot) 0 apart, le-ltb must skipped le)
+
+    pub not-told : must < skipped → ltb mustNot skipped ≡ labelFits must mustNot
+    unfolding labelFits
+    not-told lt = rw (eq-eqb (bitAnd must mustNot) 0 apart, lt-ltb must skipped lt)
+
 -- transition record i, in an automaton of n states
 module _ (n : ℕ) (t : List ℕ) (i : ℕ) where
   pub target-wrong : n ≤ numberAt t (4 * i + 2) → refused 12 i ≡ transitionRecordCheck n t i
   unfolding transitionRecordCheck
   target-wrong le = rw (le-ltb (numberAt t (4 * i + 2)) n le)
 
-  module _ (target : numberAt t (4 * i + 2) < n) where
-    pub shared-proposition : (bitAnd (getD t (4 * i) 0) (getD t (4 * i + 1) 0) ≡ 0 → ⊥) → refused 12 i ≡ transitionRecordCheck n t i
+  module _ (target : numberAt t (4 * i + 2) < n) {r : Bool}
+      (label : r ≡ labelFits (getD t (4 * i) 0) (getD t (4 * i + 1) 0)) where
+    pub label-wrong : not r ≡ true → refused 12 i ≡ transitionRecordCheck n t i
     unfolding transitionRecordCheck
-    shared-proposition ne = rw (lt-ltb (numberAt t (4 * i + 2)) n target, ne-eqb (bitAnd (getD t (4 * i) 0) (getD t (4 * i + 1) 0)) 0 ne)
+    label-wrong e = rw (lt-ltb (numberAt t (4 * i + 2)) n target, ← label, not-true r e)
 
-    pub transition-fits : bitAnd (getD t (4 * i) 0) (getD t (4 * i + 1) 0) ≡ 0 → fine ≡ transitionRecordCheck n t i
+    pub transition-fits : not r ≡ false → fine ≡ transitionRecordCheck n t i
     unfolding transitionRecordCheck
-    transition-fits e = rw (lt-ltb (numberAt t (4 * i + 2)) n target, eq-eqb (bitAnd (getD t (4 * i) 0) (getD t (4 * i + 1) 0)) 0 e)
+    transition-fits e = rw (lt-ltb (numberAt t (4 * i + 2)) n target, ← label, not-false r e)
 
 -- what initial number i is to be at least
 abbrev pub leastAt : List ℕ → ℕ → ℕ

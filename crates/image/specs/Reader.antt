@@ -7,6 +7,7 @@ use lib.Dec.{eqb, leb, ltb}
 use lib.Bits.{bitAnd}
 use Rattle.answer.specs.Bytes.{numberAt}
 use Rattle.answer.specs.Result.{Result, accepted, andThen, Check, require, lowest}
+use Rattle.lasso.specs.Lasso.{skipped}
 use Rattle.automaton.specs.Automaton.{Transition, State, Automaton, noState, atRest}
 use Rattle.automaton.specs.Limits.{maxStates, maxOfState, maxTransitions, maxInitial}
 use Rattle.automaton.specs.Tables.{Counts}
@@ -115,12 +116,16 @@ restCheck read states i = require (restFits read states i) 11 i
 unfoldable pub restsCheck : Counts → (states transitions : List ℕ) → Check
 restsCheck c states transitions = lowest (restCheck (statesFrom (c .states) states transitions) states) (c .states)
 
--- whether 12 lets transition record i pass: it leads to a state, and asks for no proposition that it forbids (01,
--- Numbers that come from the input, 12)
+-- whether 12 lets a label pass: no proposition is asked for that is forbidden (01, Numbers that come from the input,
+-- 12), and bit 7 is clear in both bytes, since no letter of a word has it (02, R-9)
+unfoldable pub labelFits : (must mustNot : ℕ) → Bool
+labelFits must mustNot = eqb (bitAnd must mustNot) 0 && (ltb must skipped && ltb mustNot skipped)
+
+-- whether 12 lets transition record i pass: it leads to a state, and its label fits
 abbrev pub transitionFits : (stateCount : ℕ) → List ℕ → ℕ → Bool
 transitionFits stateCount transitions i =
     ltb (numberAt transitions (4 * i + 2)) stateCount
-    && eqb (bitAnd (getD transitions (4 * i) 0) (getD transitions (4 * i + 1) 0)) 0
+    && labelFits (getD transitions (4 * i) 0) (getD transitions (4 * i + 1) 0)
 
 -- 12, at place i: transition record i does not fit
 unfoldable pub transitionRecordCheck : (stateCount : ℕ) → List ℕ → ℕ → Check

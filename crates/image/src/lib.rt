@@ -15,6 +15,7 @@ use automaton::MAX_TRANSITIONS;
 use automaton::STATES_BYTES;
 use automaton::TRANSITIONS_BYTES;
 use automaton::tables_fit;
+use lasso::SKIPPED;
 ghost use mathlib.Core.Path.{_≡_};
 ghost use mathlib.Core.Bool.{cond};
 ghost use Prim.Native.Nat.{_+_, _*_, _<_, _≤_};
@@ -29,7 +30,7 @@ ghost use Rattle.answer.specs.Bytes.{numberAt, filled};
 ghost use Rattle.answer.specs.Buffer.{storedAnswer, buffer};
 ghost use Rattle.image.specs.Image.{entry, entryBytes, contentsBytes, largestImage};
 ghost use Rattle.image.specs.Reader.{countsAt, countsFit, entriesHave, contentsCheck, addState, statePass};
-ghost use Rattle.image.specs.Reader.{sumCheck, statesCheck, transitionRecordCheck, initialCheck};
+ghost use Rattle.image.specs.Reader.{sumCheck, statesCheck, labelFits, transitionRecordCheck, initialCheck};
 ghost use Rattle.image.specs.Reader.{transitionsFrom, countSum, statesFrom, restCheck, recordsCheck, bodiesCheck};
 ghost use Rattle.image.specs.Lookup.{recordAt};
 ghost use Rattle.image.specs.Calls.{writes, readInto, checks};
@@ -208,6 +209,19 @@ fn check_rests(states: &[u8], transitions: &[u8], n: usize) -> Checked
     Checked::Accepted
 }
 
+// Whether 12 lets the label of a transition pass.
+fn label_fits(must: u8, must_not: u8) -> bool
+    ensures { λ r. ⌜ r ≡ labelFits must «must_not» ⌝ }
+{
+    if must & must_not != 0 {
+        return false;
+    }
+    if SKIPPED <= must {
+        return false;
+    }
+    must_not < SKIPPED
+}
+
 // 12 for transition record i.
 fn check_transition(transitions: &[u8], i: usize, state_count: usize) -> Checked
     requires { ⌜ 4 * i + 3 < length (now transitions) ⌝ }
@@ -217,7 +231,7 @@ fn check_transition(transitions: &[u8], i: usize, state_count: usize) -> Checked
     if state_count <= number_at(transitions, at + 2) {
         return Checked::Refused(BAD_TRANSITION, i);
     }
-    if transitions[at] & transitions[at + 1] != 0 {
+    if !label_fits(transitions[at], transitions[at + 1]) {
         return Checked::Refused(BAD_TRANSITION, i);
     }
     Checked::Accepted

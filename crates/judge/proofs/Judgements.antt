@@ -3,17 +3,18 @@ use Prim.Native.Nat.{ℕ, _<_, _≤_}
 use mathlib.Core.Path.{_≡_, refl, sym, _∙_}
 use mathlib.Core.List.{List}
 use mathlib.Core.Bool.{Bool, true, false, _||_}
-use lib.ListN.{length, replicate}
+use lib.ListN.{length}
 use borrow.Author.Tests.{le-leb, lt-leb}
 use Rattle.answer.specs.Result.{Result, accepted, refused, fine}
+use Rattle.answer.specs.Bytes.{zeros}
 use Rattle.automaton.specs.Automaton.{Automaton, AcceptingPass}
 use Rattle.automaton.specs.Tables.{Counts}
 use Rattle.image.specs.Calls.{checks}
 use Rattle.image.proofs.Contents.{read-of, checks-of, checks-refused}
 use Rattle.judge.specs.Search.{hasAcceptingPass}
 use Rattle.judge.specs.Judge.{workBytes, Verdict, kept, broken, finding, lassoJudgeable, judgeable, verdict}
-use Rattle.judge.specs.Judge.{Judgement, judgement, judgedBy, judged}
-use Rattle.lasso.specs.Lasso.{lassoCheck}
+use Rattle.judge.specs.Judge.{Judgement, judgement, lettersJudged, judgedBy, judged}
+use Rattle.lasso.specs.Lasso.{remaining, lassoCheck}
 use Rattle.rest.specs.Rest.{restTaken, pairsTaken}
 use Rattle.judge.specs.Memory.{Tells}
 use Rattle.image.specs.Lookup.{imageAutomaton}
@@ -32,6 +33,23 @@ decided-pass a stem cycle range pos {k} tells = go (hasAcceptingPass a stem cycl
     go true e false f = absurd (tells .no f (has-accepting-pass-iff a range stem cycle pos .0 e))
     go false e true f = true-false (sym (has-accepting-pass-iff a range stem cycle pos .1 (tells .yes f)) ∙ e)
 
+-- letters none of which is skipped: so many pairs were taken, and k says whether they are kept
+module _ (a : Automaton) (stem cycle work : List ℕ) {rests k : Bool} {pairs : ℕ}
+    (at-rest : rests ≡ restTaken a stem cycle) (counted : pairs ≡ pairsTaken a stem cycle)
+    (decided : k ≡ (rests || hasAcceptingPass a stem cycle))
+    {after : List ℕ} (zero : after ≡ zeros work) where
+  letters-judged : {v : Verdict} → v ≡ verdict a stem cycle
+      → judgement (accepted (finding v pairs)) after ≡ lettersJudged a stem cycle work
+  letters-judged e = rw (e, counted, zero)
+
+  pub letters-kept : k ≡ true → judgement (accepted (finding kept pairs)) after ≡ lettersJudged a stem cycle work
+  unfolding verdict
+  letters-kept e = letters-judged (rw (← at-rest, ← decided, e, verdict))
+
+  pub letters-broken : k ≡ false → judgement (accepted (finding broken pairs)) after ≡ lettersJudged a stem cycle work
+  unfolding verdict
+  letters-broken e = letters-judged (rw (← at-rest, ← decided, e, verdict))
+
 module _ (stem cycle work : List ℕ) where
   judged-refused : {x : Result Automaton} {number place : ℕ} → refused number place ≡ x → judgement (refused number place) work ≡ judgedBy x stem cycle work
   judged-refused e = rw (← e)
@@ -40,24 +58,16 @@ module _ (stem cycle work : List ℕ) where
     pub lasso-refused : {number place : ℕ} → refused number place ≡ lassoCheck stem cycle → judgement (refused number place) work ≡ judgedBy (lassoJudgeable a stem cycle) stem cycle work
     lasso-refused e = judged-refused {x = lassoJudgeable a stem cycle} (rw (← e))
 
-    -- the lasso is not refused, so many pairs were taken, and k says whether it is kept
-    module _ (passed : fine ≡ lassoCheck stem cycle) {rests k : Bool} {pairs : ℕ}
-        (at-rest : rests ≡ restTaken a stem cycle) (counted : pairs ≡ pairsTaken a stem cycle)
-        (decided : k ≡ (rests || hasAcceptingPass a stem cycle))
-        {after : List ℕ} (zero : after ≡ replicate (length work) 0) where
-      judged-by : {v : Verdict} → v ≡ verdict a stem cycle
-          → judgement (accepted (finding v pairs)) after ≡ judgedBy (lassoJudgeable a stem cycle) stem cycle work
-      judged-by e = rw (e, counted, zero, ← passed)
+    -- the letters that were judged are those that remain
+    pub remaining-judged : {s c : List ℕ} → s ≡ remaining stem → c ≡ remaining cycle
+        → {j : Judgement} → j ≡ lettersJudged a s c work
+        → j ≡ lettersJudged a (remaining stem) (remaining cycle) work
+    remaining-judged e f h = rw (← e, ← f) h
 
-      pub lasso-kept : k ≡ true
-          → judgement (accepted (finding kept pairs)) after ≡ judgedBy (lassoJudgeable a stem cycle) stem cycle work
-      unfolding verdict
-      lasso-kept e = judged-by (rw (← at-rest, ← decided, e, verdict))
-
-      pub lasso-broken : k ≡ false
-          → judgement (accepted (finding broken pairs)) after ≡ judgedBy (lassoJudgeable a stem cycle) stem cycle work
-      unfolding verdict
-      lasso-broken e = judged-by (rw (← at-rest, ← decided, e, verdict))
+    pub lasso-judged : fine ≡ lassoCheck stem cycle
+        → {j : Judgement} → j ≡ lettersJudged a (remaining stem) (remaining cycle) work
+        → j ≡ judgedBy (lassoJudgeable a stem cycle) stem cycle work
+    lasso-judged passed h = rw (← passed) h
 
   module _ (image : List ℕ) where
     pub work-short : length work < workBytes → judgement (refused 25 0) work ≡ judged image stem cycle work

@@ -15,3 +15,4 @@ pub mod AtRest
 pub mod Judgements
 pub mod VerdictIff
 pub mod Pairs
+pub mod Skipped

@@ -8,7 +8,7 @@ use lib.ListN.{length}
 use lib.Dec.{leb}
 use Rattle.answer.specs.Result.{Result, accepted, refused, andThen, Check, require}
 use Rattle.answer.specs.Bytes.{zeros}
-use Rattle.lasso.specs.Lasso.{maxLetters, lassoCheck}
+use Rattle.lasso.specs.Lasso.{remaining, maxLetters, lassoCheck}
 use Rattle.automaton.specs.Automaton.{Automaton}
 use Rattle.automaton.specs.Limits.{maxStates}
 use Rattle.image.specs.Reader.{readImage}
@@ -52,11 +52,11 @@ workBytes = maxStates * maxLetters
 abbrev pub workCheck : List ℕ → Check
 workCheck work = require (leb workBytes (length work)) 25 0
 
--- the automaton, if the lasso is not refused by 8 or 9
+-- the automaton, if the lasso is not refused by 8, 9 or 28
 abbrev pub lassoJudgeable : Automaton → (stem cycle : List ℕ) → Result Automaton
 lassoJudgeable a stem cycle = andThen (lassoCheck stem cycle) (λ _. accepted a)
 
--- the order of judging's refusals: 25, the image's 10 to 13, the lasso's 8 and 9; else the automaton that is judged
+-- the order of judging's refusals: 25, the image's 10 to 13, the lasso's 8, 9 and 28; else the automaton that is judged
 unfoldable pub judgeable : (image stem cycle work : List ℕ) → Result Automaton
 judgeable image stem cycle work =
     andThen (workCheck work) (λ _. andThen (readImage image) (λ a. lassoJudgeable a stem cycle))
@@ -67,7 +67,7 @@ unfoldable pub verdict : Automaton → (stem cycle : List ℕ) → Verdict
 verdict a stem cycle =
     elim (restTaken a stem cycle || hasAcceptingPass a stem cycle) [ true ↦ kept | false ↦ broken ]
 
--- the verdict with the number of pairs taken
+-- the verdict with the number of pairs taken, of a stem and a cycle in which no letter is skipped
 abbrev pub found : Automaton → (stem cycle : List ℕ) → Finding
 found a stem cycle = finding (verdict a stem cycle) (pairsTaken a stem cycle)
 
@@ -79,9 +79,14 @@ pub record Judgement : Type 0 where
 abbrev pub judgement : Result Finding → List ℕ → Judgement
 judgement answer work = record { answer = answer; work = work }
 
--- a refusal leaves the working bytes as they were, a verdict leaves them zero, all that were lent
+-- letters none of which is skipped: what is found, and the working bytes zero, all that were lent
+abbrev pub lettersJudged : Automaton → (stem cycle work : List ℕ) → Judgement
+lettersJudged a stem cycle work = judgement (accepted (found a stem cycle)) (zeros work)
+
+-- A verdict is on the letters that remain, so that passes and positions are theirs (02, R-9, sentences 3 and 6). A
+-- refusal leaves the working bytes as they were.
 abbrev pub judgedBy : Result Automaton → (stem cycle work : List ℕ) → Judgement
-judgedBy (accepted a) stem cycle work = judgement (accepted (found a stem cycle)) (zeros work)
+judgedBy (accepted a) stem cycle work = lettersJudged a (remaining stem) (remaining cycle) work
 judgedBy (refused number place) stem cycle work = judgement (refused number place) work
 
 -- an automaton on a lasso

@@ -6,7 +6,10 @@ use answer::zero;
 use automaton::Counted;
 use image::CONTENTS_BYTES;
 use image::check;
+use lasso::MAX_LETTERS;
 use lasso::check_lasso;
+use lasso::keep_remaining;
+use lasso::none_skipped;
 use rest::reads_letter;
 use rest::take_pairs;
 ghost use mathlib.Core.Path.{_≡_};
@@ -17,7 +20,9 @@ ghost use lib.ListN.{length, getD, replicate, drop};
 ghost use Rattle.automaton.specs.Automaton.{AcceptingPass, Accepts, Step};
 ghost use Rattle.automaton.specs.Limits.{maxStates};
 ghost use Rattle.answer.specs.Bytes.{numberAt};
-ghost use Rattle.judge.specs.Judge.{workBytes, judgeAnswer, judgement, judgedOn, judged};
+ghost use Rattle.answer.specs.Result.{fine};
+ghost use Rattle.lasso.specs.Lasso.{remaining, lassoCheck};
+ghost use Rattle.judge.specs.Judge.{workBytes, judgeAnswer, judgement, lettersJudged, judgedOn, judged};
 ghost use Rattle.judge.specs.Search.{hasAcceptingPass};
 ghost use Rattle.judge.specs.Limits.{metBit, rowBits};
 ghost use Rattle.judge.specs.Memory.{Token, Lifted, Is, Gains, Ored, Tells, Onward, ByRecord, Moved, AfterAll};
@@ -28,7 +33,7 @@ ghost use Rattle.image.specs.Reader.{countsAt};
 ghost use Rattle.image.specs.Lookup.{imageAutomaton, AcceptingByte, transitionCountOf, recordsAt, Readable};
 
 // How many working bytes judging asks for.
-pub const WORK_BYTES: usize = automaton::MAX_STATES * lasso::MAX_LETTERS;
+pub const WORK_BYTES: usize = automaton::MAX_STATES * MAX_LETTERS;
 
 // The words of the rows of all states, four each (specs/Memory.antt has what the bits are).
 const ROWS_WORDS: usize = 4 * automaton::MAX_STATES;
@@ -416,7 +421,44 @@ fn is_kept(image: &[u8], n: usize, stem: &[u8], cycle: &[u8], rests: bool, work:
     search(image, n, stem, cycle, work)
 }
 
-// 8 and 9, then the verdict of an image that is not refused and the number of pairs taken, and the working bytes zero.
+// The verdict of an image that is not refused on letters none of which is skipped, and the number of pairs taken; the
+// working bytes zero.
+fn judge_letters(image: &[u8], n: usize, stem: &[u8], cycle: &[u8], work: &mut [u8]) -> Judged
+    requires { ⌜ Readable (now image) × (n ≡ countsAt (now image) .states) × (0 < length (now cycle))
+        × (maxStates * (length (now stem) + length (now cycle)) ≤ length (now work)) ⌝ }
+    ensures { λ r. ⌜ judgement (judgeAnswer r) (now (work .exit))
+        ≡ lettersJudged (imageAutomaton (now (image .entry)))
+        (now (stem .entry)) (now (cycle .entry)) (now (work .entry)) ⌝ }
+{
+    let taken = take_pairs(image, n, stem, cycle, work);
+    let kept = is_kept(image, n, stem, cycle, taken.rests, work);
+    zero(work);
+    if kept {
+        return Judged::Kept(taken.pairs);
+    }
+    Judged::Broken(taken.pairs)
+}
+
+// The verdict on the letters of a lasso that remain. Where none is skipped they are judged as they are lent; else they
+// are gathered first, once.
+fn judge_remaining(image: &[u8], n: usize, stem: &[u8], cycle: &[u8], work: &mut [u8]) -> Judged
+    requires { ⌜ Readable (now image) × (n ≡ countsAt (now image) .states)
+        × (fine ≡ lassoCheck (now stem) (now cycle)) × (workBytes ≤ length (now work)) ⌝ }
+    ensures { λ r. ⌜ judgement (judgeAnswer r) (now (work .exit))
+        ≡ lettersJudged (imageAutomaton (now (image .entry)))
+        (remaining (now (stem .entry))) (remaining (now (cycle .entry))) (now (work .entry)) ⌝ }
+{
+    if none_skipped(stem, cycle) {
+        return judge_letters(image, n, stem, cycle, work);
+    }
+    let mut stem_letters = [0u8; MAX_LETTERS];
+    let mut cycle_letters = [0u8; MAX_LETTERS];
+    let s = keep_remaining(stem, &mut stem_letters);
+    let c = keep_remaining(cycle, &mut cycle_letters);
+    judge_letters(image, n, &stem_letters[..s], &cycle_letters[..c], work)
+}
+
+// 8, 9 and 28, then the verdict of an image that is not refused.
 fn judge_lasso(image: &[u8], n: usize, stem: &[u8], cycle: &[u8], work: &mut [u8]) -> Judged
     requires { ⌜ Readable (now image) × (n ≡ countsAt (now image) .states) × (workBytes ≤ length (now work)) ⌝ }
     ensures { λ r. ⌜ judgement (judgeAnswer r) (now (work .exit))
@@ -427,16 +469,10 @@ fn judge_lasso(image: &[u8], n: usize, stem: &[u8], cycle: &[u8], work: &mut [u8
     if let Checked::Refused(number, place) = checked {
         return Judged::Refused(number, place);
     }
-    let taken = take_pairs(image, n, stem, cycle, work);
-    let kept = is_kept(image, n, stem, cycle, taken.rests, work);
-    zero(work);
-    if kept {
-        return Judged::Kept(taken.pairs);
-    }
-    Judged::Broken(taken.pairs)
+    judge_remaining(image, n, stem, cycle, work)
 }
 
-// The verdict on a lasso: 25, then 10 to 13 of the image, then 8 and 9 of the lasso.
+// The verdict on a lasso: 25, then 10 to 13 of the image, then 8, 9 and 28 of the lasso.
 pub fn judge(image: &[u8], stem: &[u8], cycle: &[u8], work: &mut [u8]) -> Judged
     ensures { λ r. ⌜ judgement (judgeAnswer r) (now (work .exit))
         ≡ judged (now (image .entry)) (now (stem .entry)) (now (cycle .entry)) (now (work .entry)) ⌝ }

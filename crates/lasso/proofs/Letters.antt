@@ -1,12 +1,19 @@
--- The word of a lasso repeats from the end of the stem on. Assumes nothing.
-use Prim.Native.Nat.{ℕ, _+_, _-_, _%_, _≤_}
+-- The word of two lists repeats from the end of the stem on, and stays the same where the cycle is written out once in
+-- the stem. Assumes nothing.
+use Prim.Native.Nat.{ℕ, _+_, _-_, _%_, _<_, _≤_}
 use mathlib.Core.Path.{_≡_, sym, _∙_, ap}
-use mathlib.Core.List.{List}
+use mathlib.Core.List.{List, _++_}
 use native.Mathlib.Omega.{arith}
-use native.Mathlib.Nat.{add-mod-right}
-use lib.ListN.{getD, length}
-use borrow.Author.Tests.{le-ltb}
+use native.Mathlib.Decide.{decLt}
+use native.Mathlib.Nat.{add-mod-right, mod-eq-of-lt}
+use lib.ListN.{getD, length, length-append, List·getD-append}
+use lib.Seq.{getD-append-add}
+use borrow.Author.Tests.{lt-ltb, le-ltb}
 use Rattle.lasso.specs.Lasso.{letter}
+
+pub letter-early : (stem cycle : List ℕ) (i : ℕ) → i < length stem → letter stem cycle i ≡ getD stem i 0
+unfolding letter
+letter-early stem cycle i l = rw (lt-ltb i (length stem) l)
 
 letter-late : (stem cycle : List ℕ) (i : ℕ) → length stem ≤ i
     → letter stem cycle i ≡ getD cycle ((i - length stem) % length cycle) 0
@@ -21,3 +28,30 @@ letter-round stem cycle i l =
     ∙ ap (λ (x : ℕ). getD cycle (x % length cycle) 0) e
     ∙ ap (λ (x : ℕ). getD cycle x 0) (add-mod-right (i - length stem) (length cycle))
     ∙ sym (letter-late stem cycle i l)
+
+-- one round of the cycle written out behind the stem
+pub letter-unrolled : (stem cycle : List ℕ) (i : ℕ) → letter (stem ++ cycle) cycle i ≡ letter stem cycle i
+letter-unrolled stem cycle i = go (decLt i (length stem)) (decLt i (length stem + length cycle))
+  where
+    longer : length (stem ++ cycle) ≡ length stem + length cycle
+    longer = length-append stem cycle
+
+    go : Dec (i < length stem) → Dec (i < length stem + length cycle)
+        → letter (stem ++ cycle) cycle i ≡ letter stem cycle i
+    go (yes l) d =
+        letter-early (stem ++ cycle) cycle i (omega (arith, longer)) ∙ List·getD-append stem cycle 0 i l
+        ∙ sym (letter-early stem cycle i l)
+    go (no l) (yes m) =
+        let k = i - length stem in
+        let at : i ≡ length stem + k = omega arith in
+        letter-early (stem ++ cycle) cycle i (omega (arith, longer))
+        ∙ ap (λ (x : ℕ). getD (stem ++ cycle) x 0) at ∙ getD-append-add stem cycle k 0
+        ∙ ap (λ (x : ℕ). getD cycle x 0) (sym (mod-eq-of-lt {n = k} {m = length cycle} (omega arith)))
+        ∙ sym (letter-late stem cycle i (omega arith))
+    go (no l) (no m) =
+        let k = i - length (stem ++ cycle) in
+        let back : i - length stem ≡ k + length cycle = omega (arith, longer) in
+        letter-late (stem ++ cycle) cycle i (omega (arith, longer))
+        ∙ ap (λ (x : ℕ). getD cycle x 0) (sym (add-mod-right k (length cycle)))
+        ∙ ap (λ (x : ℕ). getD cycle (x % length cycle) 0) (sym back)
+        ∙ sym (letter-late stem cycle i (omega arith))

@@ -1,2 +1,2 @@
--- Lassos: their letters, and refusals 8 and 9.
+-- Lassos: their letters, those that remain, and refusals 8, 9 and 28.
 pub mod Lasso

@@ -69,6 +69,7 @@ HoldsWritten word (binary n implies a b) i = (HoldsWritten word a i → ⊥) ⊎
 HoldsWritten word (future n true a) i = (k : ℕ) → i ≤ k → HoldsWritten word a k
 HoldsWritten word (future n false a) i = (k : ℕ) × (i ≤ k) × HoldsWritten word a k
 
--- a lasso satisfies a written rule: its root's tree holds at letter 0
+-- a lasso satisfies a written rule: its root's tree holds at letter 0; where letters are skipped, stem and cycle are
+-- what remains of them (02, R-9)
 unfoldable pub SatisfiesWritten : (rule stem cycle : List ℕ) → Type 0
 SatisfiesWritten rule stem cycle = HoldsWritten (letter stem cycle) (writtenTree rule (root rule)) 0

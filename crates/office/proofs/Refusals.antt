@@ -325,12 +325,12 @@ writes-proper c s t i image =
     (andThen (tableCheck s t i) (λ _. andThen (bufferCheck image) (λ _. readCounted c s t i)))
     (search (proper, tables-proper, counted-proper) depth 7) (λ a. accepts) (λ number place. refl)
 
--- 8 and 9
+-- 8, 9 and 28
 lasso-proper : (stem cycle : List ℕ) → Proper (lassoCheck stem cycle)
 unfolding lassoCheck
 lasso-proper stem cycle = search proper
 
--- 8 and 9, of two lassos
+-- 8, 9 and 28, of two lassos
 second-proper : (check : Check) → Proper check → Proper (ofSecond check)
 second-proper (accepted u) p = accepts
 second-proper (refused number place) p =
@@ -341,14 +341,14 @@ pub compared-proper : (stem cycle otherStem otherCycle : List ℕ) → Proper (c
 unfolding compared lassosCheck
 compared-proper stem cycle otherStem otherCycle = search (proper, lasso-proper, second-proper) depth 7
 
--- 25, 10 to 13, 8 and 9
+-- 25, 10 to 13, 8, 9 and 28
 pub judged-proper : (image stem cycle work : List ℕ) → Proper (judged image stem cycle work .answer)
 unfolding judged judgeable
 judged-proper image stem cycle work =
     cases-proper (λ r. judgedBy r stem cycle work .answer) (judgeable image stem cycle work)
     (search (proper, image-proper, lasso-proper) depth 7) (λ a. accepts) (λ number place. refl)
 
--- 25, 1 to 9, 26 and 20 to 24
+-- 25, 1 to 9, 26, 28 and 20 to 24
 pub decided-proper : (rule stem cycle s t i image work : List ℕ)
     → Proper (decided rule stem cycle s t i image work .answer)
 unfolding decided inputCheck roomCheck tableCheck

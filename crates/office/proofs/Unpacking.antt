@@ -35,7 +35,7 @@ use Rattle.image.proofs.Contents.{checks-sized}
 use Rattle.image.proofs.Sizes.{image-size}
 use Rattle.image.proofs.Tables.{counts-back}
 use Rattle.image.proofs.Outcomes.{writes-of, reads-of}
-use Rattle.lasso.specs.Lasso.{lassoCheck}
+use Rattle.lasso.specs.Lasso.{remaining, lassoCheck}
 use Rattle.sameword.specs.Words.{compared}
 use Rattle.judge.specs.Judge.{workBytes, Verdict, kept, broken, Finding, finding, found, judged}
 use Rattle.judge.proofs.VerdictIff.{image-in-range}
@@ -231,7 +231,7 @@ decided-few rule stem cycle s t i image work f e =
     second (accepted a) known lasso e =
         let formed = written-well-formed rule a known in
         let range = image-in-range (imageBytes a) a (image-accepted a formed) in
-        let same : found a stem cycle ≡ f = cc in
+        let same : found a (remaining stem) (remaining cycle) ≡ f = cc in
         rw (← ap (λ (g : Finding). g .pairs) same) (found-few a range (formed .states) stem cycle lasso)
 
     first : (check : Check) → inputCheck rule stem cycle s t i image work ≡ check

@@ -182,7 +182,7 @@ pub extern "C" fn zimboralo_read(
     pack_counted(read(image, states, transitions, initial))
 }
 
-// A lasso, stem and cycle, against an image. The verdict, or a refusal.
+// A lasso, stem and cycle, against an image. The verdict on the letters that remain, or a refusal.
 #[no_mangle]
 pub extern "C" fn zimboralo_judge(image: &[u8], stem: &[u8], cycle: &[u8], work: &mut [u8]) -> u64
     ensures { λ r. ⌜ packedSlice r (now (work .exit))
@@ -191,7 +191,8 @@ pub extern "C" fn zimboralo_judge(image: &[u8], stem: &[u8], cycle: &[u8], work:
     pack_judged(judge(image, stem, cycle, work))
 }
 
-// A lasso against a rule: its automaton in the three tables, its image, and the verdict; or a refusal.
+// A lasso against a rule: its automaton in the three tables, its image, and the verdict on the letters that remain; or
+// a refusal.
 #[no_mangle]
 pub extern "C" fn zimboralo_decide(
     rule: &[u8],
@@ -212,7 +213,8 @@ pub extern "C" fn zimboralo_decide(
     pack_judged(decide(rule, stem, cycle, states, transitions, initial, image, work))
 }
 
-// Whether two lassos are one word; or a refusal, at place 0 for the first lasso and 1 for the second.
+// Whether the letters of two lassos that remain are one word; or a refusal, at place 0 for the first lasso and 1 for
+// the second.
 #[no_mangle]
 pub extern "C" fn zimboralo_same_word(
     stem: &[u8],

@@ -6,7 +6,7 @@ use mathlib.Core.Logic.{_↔_}
 use mathlib.Core.Bool.{Bool, true, false}
 use Rattle.answer.specs.Result.{accepted, refused, fine}
 use Rattle.lasso.specs.Lasso.{lassoCheck}
-use Rattle.sameword.specs.Words.{SameWord, lassosCheck, compared}
+use Rattle.sameword.specs.Words.{SameRemaining, lassosCheck, compared}
 use Rattle.sameword.proofs.Exactly.{same-different, compared-exactly}
 
 module _ (stem cycle otherStem otherCycle : List ℕ) where
@@ -22,7 +22,7 @@ module _ (stem cycle otherStem otherCycle : List ℕ) where
     second-refused e = rw (← first, ← e)
 
     module _ (second : fine ≡ lassoCheck otherStem otherCycle) {r : Bool}
-        (tells : (r ≡ true) ↔ SameWord stem cycle otherStem otherCycle) where
+        (tells : (r ≡ true) ↔ SameRemaining stem cycle otherStem otherCycle) where
       pub told-same : r ≡ true → accepted true ≡ compared stem cycle otherStem otherCycle
       told-same e = sym (compared-exactly stem cycle otherStem otherCycle first second .0 .1 (tells .0 e))
 

@@ -1,5 +1,5 @@
 -- What comparing says of two lassos of which neither is refused: that they are one word exactly where their letters
--- agree at each i, and that they are not exactly where they do not. Assumes nothing.
+-- that remain agree at each i, and that they are not exactly where these do not. Assumes nothing.
 use Prim.Native.Nat.{ℕ}
 use mathlib.Core.Path.{_≡_, refl, sym, ap}
 use mathlib.Core.List.{List}
@@ -9,9 +9,9 @@ use native.Mathlib.Omega.{arith}
 use Rattle.answer.specs.Result.{accepted, refused, Check, fine}
 use Rattle.answer.proofs.Lowest.{not-fine}
 use Rattle.answer.proofs.Results.{then-accepted}
-use Rattle.lasso.specs.Lasso.{lassoCheck}
+use Rattle.lasso.specs.Lasso.{remaining, lassoCheck}
 use Rattle.lasso.proofs.Checking.{lasso-some}
-use Rattle.sameword.specs.Words.{ofSecond, SameWord, wordsAgree, lassosCheck, compared}
+use Rattle.sameword.specs.Words.{ofSecond, SameRemaining, wordsAgree, lassosCheck, compared}
 use Rattle.sameword.proofs.Periods.{words-agree-exactly}
 
 -- no answer says both
@@ -30,17 +30,18 @@ answer-exactly false tells = (
 )
 
 module _ (stem cycle otherStem otherCycle : List ℕ) where
-  -- R-6, of comparing: neither lasso is refused; then the answer is yes exactly when their letters agree at each i, and
-  -- no exactly when they do not
+  -- R-6 and R-9, of comparing: neither lasso is refused; then the answer is yes exactly when their letters that remain
+  -- agree at each i, and no exactly when they do not
   pub compared-exactly : fine ≡ lassoCheck stem cycle → fine ≡ lassoCheck otherStem otherCycle
-      → ((compared stem cycle otherStem otherCycle ≡ accepted true) ↔ SameWord stem cycle otherStem otherCycle)
-      × ((compared stem cycle otherStem otherCycle ≡ accepted false) ↔ (SameWord stem cycle otherStem otherCycle → ⊥))
+      → ((compared stem cycle otherStem otherCycle ≡ accepted true) ↔ SameRemaining stem cycle otherStem otherCycle)
+      × ((compared stem cycle otherStem otherCycle ≡ accepted false)
+      ↔ (SameRemaining stem cycle otherStem otherCycle → ⊥))
   unfolding compared lassosCheck
   compared-exactly first second =
       rw (← first, ← second)
-      (answer-exactly (wordsAgree stem cycle otherStem otherCycle)
-      (words-agree-exactly stem cycle otherStem otherCycle (lasso-some stem cycle first)
-      (lasso-some otherStem otherCycle second)))
+      (answer-exactly (wordsAgree (remaining stem) (remaining cycle) (remaining otherStem) (remaining otherCycle))
+      (words-agree-exactly (remaining stem) (remaining cycle) (remaining otherStem) (remaining otherCycle)
+      (lasso-some stem cycle first) (lasso-some otherStem otherCycle second)))
 
   -- and where the answer is yes or no, neither is refused
   pub compared-fine : {b : Bool} → compared stem cycle otherStem otherCycle ≡ accepted b

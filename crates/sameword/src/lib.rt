@@ -1,16 +1,19 @@
-// Whether two lassos are one word, and so one plan: same_word, and compare, which refuses by 8 and 9.
+// Whether two lassos are one word, and so one plan: compare, which refuses by 8, 9 and 28.
 use answer::Checked;
+use lasso::MAX_LETTERS;
 use lasso::check_lasso;
+use lasso::keep_remaining;
+use lasso::none_skipped;
 use rest::letter_at;
 use rest::position_after;
 ghost use mathlib.Core.Path.{_≡_};
 ghost use mathlib.Core.Bool.{true};
 ghost use mathlib.Core.Logic.{_↔_};
-ghost use Prim.Native.Nat.{_<_, max};
+ghost use Prim.Native.Nat.{_+_, _<_, _≤_, max};
 ghost use lib.ListN.{length};
 ghost use Rattle.answer.specs.Result.{fine};
-ghost use Rattle.lasso.specs.Lasso.{letter, lassoCheck};
-ghost use Rattle.sameword.specs.Words.{agree, SameWord, compared, comparison};
+ghost use Rattle.lasso.specs.Lasso.{letter, maxLetters, lassoCheck};
+ghost use Rattle.sameword.specs.Words.{agree, SameWord, SameRemaining, compared, comparison};
 
 // The place of a refusal that is about the second of two lassos.
 const SECOND: usize = 1;
@@ -52,11 +55,11 @@ fn letters_agree(stem: &[u8], cycle: &[u8], other_stem: &[u8], other_cycle: &[u8
     true
 }
 
-// Whether the letters of two lassos agree at each i, for ever: told by those of the longer stem, and behind it as many
-// as both cycles have together.
-fn same_word(stem: &[u8], cycle: &[u8], other_stem: &[u8], other_cycle: &[u8]) -> bool
-    requires { ⌜ (fine ≡ lassoCheck (now stem) (now cycle))
-        × (fine ≡ lassoCheck (now «other_stem») (now «other_cycle»)) ⌝ }
+// Whether the letters of two lassos without skipped ones agree at each i, for ever: told by those of the longer stem,
+// and behind it as many as both cycles have together.
+fn same_letters(stem: &[u8], cycle: &[u8], other_stem: &[u8], other_cycle: &[u8]) -> bool
+    requires { ⌜ (0 < length (now cycle)) × (length (now stem) + length (now cycle) ≤ maxLetters)
+        × (0 < length (now «other_cycle»)) × (length (now «other_stem») + length (now «other_cycle») ≤ maxLetters) ⌝ }
     ensures { λ r. ⌜ (r ≡ true) ↔ SameWord (now (stem .entry)) (now (cycle .entry))
         (now («other_stem» .entry)) (now («other_cycle» .entry)) ⌝ }
 {
@@ -64,7 +67,43 @@ fn same_word(stem: &[u8], cycle: &[u8], other_stem: &[u8], other_cycle: &[u8]) -
     letters_agree(stem, cycle, other_stem, other_cycle, n)
 }
 
-// Whether two lassos are one word: 8 and 9 of the first, then of the second, then the letters.
+// Whether the letters of two lassos that remain agree at each i, for ever: they are gathered first, once.
+fn same_remaining(stem: &[u8], cycle: &[u8], other_stem: &[u8], other_cycle: &[u8]) -> bool
+    requires { ⌜ (fine ≡ lassoCheck (now stem) (now cycle))
+        × (fine ≡ lassoCheck (now «other_stem») (now «other_cycle»)) ⌝ }
+    ensures { λ r. ⌜ (r ≡ true) ↔ SameRemaining (now (stem .entry)) (now (cycle .entry))
+        (now («other_stem» .entry)) (now («other_cycle» .entry)) ⌝ }
+{
+    let mut first_stem = [0u8; MAX_LETTERS];
+    let mut first_cycle = [0u8; MAX_LETTERS];
+    let mut second_stem = [0u8; MAX_LETTERS];
+    let mut second_cycle = [0u8; MAX_LETTERS];
+    let s = keep_remaining(stem, &mut first_stem);
+    let c = keep_remaining(cycle, &mut first_cycle);
+    let t = keep_remaining(other_stem, &mut second_stem);
+    let d = keep_remaining(other_cycle, &mut second_cycle);
+    same_letters(
+        &first_stem[..s],
+        &first_cycle[..c],
+        &second_stem[..t],
+        &second_cycle[..d],
+    )
+}
+
+// The same. Where no letter is skipped they are compared as they are lent.
+fn same_word(stem: &[u8], cycle: &[u8], other_stem: &[u8], other_cycle: &[u8]) -> bool
+    requires { ⌜ (fine ≡ lassoCheck (now stem) (now cycle))
+        × (fine ≡ lassoCheck (now «other_stem») (now «other_cycle»)) ⌝ }
+    ensures { λ r. ⌜ (r ≡ true) ↔ SameRemaining (now (stem .entry)) (now (cycle .entry))
+        (now («other_stem» .entry)) (now («other_cycle» .entry)) ⌝ }
+{
+    if none_skipped(stem, cycle) && none_skipped(other_stem, other_cycle) {
+        return same_letters(stem, cycle, other_stem, other_cycle);
+    }
+    same_remaining(stem, cycle, other_stem, other_cycle)
+}
+
+// Whether two lassos are one word: 8, 9 and 28 of the first, then of the second, then the letters.
 pub fn compare(stem: &[u8], cycle: &[u8], other_stem: &[u8], other_cycle: &[u8]) -> Compared
     ensures { λ r. ⌜ comparison r ≡ compared (now (stem .entry)) (now (cycle .entry))
         (now («other_stem» .entry)) (now («other_cycle» .entry)) ⌝ }

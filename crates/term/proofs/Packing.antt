@@ -198,8 +198,8 @@ pub terms-numbers : (f : Formula) → InRange f → Numbers of-terms (terms f) (
 unfolding terms InRange
 terms-numbers bottom m = none
 terms-numbers top m = owing-numbers (0 ∷ [])
-terms-numbers (proposition n p) m = more (term (2 ^ p) 0 0) (record { must = pow-lt {j = propositions} m; mustNot = omega arith }) none
-terms-numbers (negatedProposition n p) m = more (term 0 (2 ^ p) 0) (record { must = omega arith; mustNot = pow-lt {j = propositions} m }) none
+terms-numbers (proposition n p) m = more (term (2 ^ p) 0 0) (record { must = omega (arith, pow-lt {j = propositions} m); mustNot = omega arith }) none
+terms-numbers (negatedProposition n p) m = more (term 0 (2 ^ p) 0) (record { must = omega arith; mustNot = omega (arith, pow-lt {j = propositions} m) }) none
 terms-numbers (conjunction a b) m = canonical of-terms (product-numbers of-terms (terms-numbers a (m .0)) (terms-numbers b (m .1)))
 terms-numbers (disjunction a b) m = canonical of-terms (union-numbers of-terms (terms-numbers a (m .0)) (terms-numbers b (m .1)))
 terms-numbers (next n a) m = owing-numbers (cover a)

@@ -52,7 +52,7 @@ terms-rise bottom m = tt
 terms-rise top m = one-rises _ (set-drops 0)
 terms-rise (proposition n p) m = rw (pack-must (2 ^ p)) (one-rises _ (asking (2 ^ p)))
 terms-rise (negatedProposition n p) m =
-    rw (pack-must-not (2 ^ p)) (one-rises _ (forbidding (2 ^ p) (pow-lt {j = propositions} m)))
+    rw (pack-must-not (2 ^ p)) (one-rises _ (forbidding (2 ^ p) (omega (arith, pow-lt {j = propositions} m))))
 terms-rise (conjunction a b) m =
     rw (pack-conjunction 0 a b (m .0) (m .1)) (product-rises Consistent kept 0 0 _ _ _ (terms-rise a (m .0)) (terms-rise b (m .1)) tt)
 terms-rise (disjunction a b) m =

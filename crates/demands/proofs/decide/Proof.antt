@@ -1,5 +1,5 @@
--- `demands::decide` meets its contract: 25, 1 to 7 and 26, 8 and 9 in turn, each with every buffer as it was, then what
--- `decide_checked` stores and says. Assumes nothing.
+-- `demands::decide` meets its contract: 25, 1 to 7 and 26, 8, 9 and 28 in turn, each with every buffer as it was, then
+-- what `decide_checked` stores and says. Assumes nothing.
 use borrow.Author.Needs.{needs}
 use mathlib.Core.Path.{sym, ap, _∙_}
 use Rattle.answer.specs.Result.{answer}
