@@ -38,5 +38,5 @@ install: $(library) programs
 	@install -m 644 $(library) "$(into)/lib/libzimboralo.a"
 	@install -m 644 include/zimboralo.pc "$(into)/lib/pkgconfig"
 	@install -m 755 target/bin/showwatch target/bin/judgeplan "$(into)/bin"
-	@install -m 644 docs/FORMAT.md tests/host/office.c "$(into)/share/doc/zimboralo"
+	@install -m 644 docs/FORMAT.md tests/host/office.c tests/host/unit.c "$(into)/share/doc/zimboralo"
 	@echo "zimboralo is in $(into)"

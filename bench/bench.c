@@ -1,5 +1,5 @@
 /* bench FILE REPEAT: the sum of the answers and the nanoseconds of one round over the cases of FILE, the best of REPEAT.
- * The cases are those of tests/host/serve.c, T, J, R, S and M alone; R reads an image and writes nothing. */
+ * The cases are those of tests/host/serve.c, T, J, R, S, M and A alone; R reads an image and writes nothing. */
 #include <stdio.h>
 #include <stdlib.h>
 #include <time.h>
@@ -20,6 +20,18 @@ static struct zimboralo_tables tables;
 static uint8_t work[ZIMBORALO_WORK_BYTES];
 static struct zimboralo_rule merged;
 
+/* The answers of starting and of all steps, and the set's bytes at the end, in one sum. */
+static uint64_t watch(const struct slice *image, const struct slice *letters)
+{
+    struct zimboralo_set set;
+    uint64_t sum = zimboralo_field_start_set(image->at, image->length, &set);
+    for (size_t i = 0; i < letters->length; i++)
+        sum += zimboralo_field_step_set(image->at, image->length, &set, letters->at[i]);
+    for (size_t k = 0; k < sizeof set.bytes; k++)
+        sum += set.bytes[k];
+    return sum;
+}
+
 static uint64_t answer(const struct one *c)
 {
     const struct slice *s = c->slices;
@@ -29,6 +41,8 @@ static uint64_t answer(const struct one *c)
         return zimboralo_read_image(s[0].at, s[0].length, &tables);
     if (c->kind == 'M')
         return zimboralo_merge_rules(s[0].at, s[0].length, s[1].at, s[1].length, &merged);
+    if (c->kind == 'A')
+        return watch(&s[0], &s[1]);
     if (c->kind == 'S')
         return zimboralo_same_word(s[0].at, s[0].length, s[1].at, s[1].length, s[2].at, s[2].length, s[3].at,
                                    s[3].length);
@@ -36,7 +50,7 @@ static uint64_t answer(const struct one *c)
 }
 
 /* How many slices a case has. */
-static int slices_of(int kind) { return kind == 'S' ? 4 : kind == 'J' ? 3 : kind == 'M' ? 2 : 1; }
+static int slices_of(int kind) { return kind == 'S' ? 4 : kind == 'J' ? 3 : kind == 'M' || kind == 'A' ? 2 : 1; }
 
 static long long now(void)
 {

@@ -1,4 +1,5 @@
-"""The benchmark's inputs, a file of cases for each group, in the form that tests/host/serve.c reads (T, J, R, S and M)."""
+"""The benchmark's inputs, a file of cases for each group, in the form that tests/host/serve.c reads (T, J, R, S, M and
+A)."""
 import os
 import random
 import struct
@@ -57,6 +58,14 @@ def responses(n):
     return b.bytes()
 
 
+def followed(clauses):
+    """always (p implies the literal so many letters later), of several clauses: rules that the field unit takes."""
+    b = Builder()
+    parts = [b.add(OR, b.add(NEGATION, p), b.below([NEXT] * later, b.add(sign, q))) for p, later, sign, q in clauses]
+    b.add(RELEASE, b.add(FALSE), b.joined(AND, parts))
+    return b.bytes()
+
+
 def theta_written(n):
     """theta(n) as it is written: not, implies, always and eventually."""
     b = Builder()
@@ -98,6 +107,9 @@ MOST = second.max_slots()
 
 # how many images are loaded one after another
 LOADED = 200
+
+# how many steps the field unit takes one after another
+STEPS = 2000
 
 # rules that no letters keep or break: their runs never end, and none comes to rest
 UNDECIDED = [fairness(n) for n in (1, 2, 3, 4)] + [responses(n) for n in (1, 2, 3)]
@@ -244,6 +256,42 @@ def loading():
     for row in (1, 128):
         images = [full_image(row=row, seed=seed) for seed in range(LOADED)]
         yield f"{LOADED} images of 96 states with {96 * row:,} transitions", loads(images), loads(images, b"r")
+
+
+def live_letters(automaton, count):
+    """So many letters by which some run goes on: random ones, and back by one where none leads on."""
+    rng, dead, out = random.Random(9), set(), []
+    sets = [frozenset(automaton.initial)]
+    while len(out) < count:
+        letters = rng.sample(range(lassos.SKIPPED), lassos.SKIPPED)
+        ways = ((x, frozenset(second.step(automaton, sets[-1], x))) for x in letters)
+        way = next(((x, after) for x, after in ways if after and after not in dead), None)
+        if way:
+            out.append(way[0])
+            sets.append(way[1])
+        else:
+            dead.add(sets.pop())
+            out.pop()
+    return bytes(out)
+
+
+def stepping():
+    """Name of each group for the field unit, and its cases: letters to step with, as many that are skipped, and the
+    first ones again with the image checked once."""
+    images = [(3, followed([(0, 2, NEGATION, 2), (0, 1, PROPOSITION, 0)])), (41, fairness(4)),
+              (96, followed([(0, 3, PROPOSITION, 3), (2, 3, PROPOSITION, 0), (2, 4, PROPOSITION, 1)]))]
+    automata = [(states, second.translate(rule)) for states, rule in images] + [(96, second.read(full_image()))]
+    for states, automaton in automata:
+        assert len(automaton.states) == states
+        image, letters = second.write(automaton), live_letters(automaton, STEPS)
+        here, sizes = set(automaton.initial), []
+        for letter in letters:
+            sizes.append(len(here))
+            here = second.step(automaton, here, letter)
+        name = f"{states} states, {automaton.transitions():,} transitions, {sum(sizes) / STEPS:.1f} in the set"
+        skipped = bytes(letter | lassos.SKIPPED for letter in letters)
+        cases = ((b"A", image, letters), (b"A", image, skipped), (b"a", image, letters))
+        yield name, *(framed(*case) for case in cases)
 
 
 def by_letters():

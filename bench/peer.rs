@@ -228,8 +228,8 @@ fn state_terms(state: u32, terms: &[Vec<Term>], place: usize, conflicts: &mut u8
     Ok(ts)
 }
 
-/// The terms that no other dominates, each with a bit for every until that it fulfils. What dominates a term comes before
-/// it, and of those that do, one is kept.
+/// The terms that no other dominates, each with a bit for every until that it fulfils. What dominates a term comes
+/// before it, and of those that do, one is kept.
 fn undominated(ts: Vec<Term>, untils: &[usize], terms: &[Vec<Term>]) -> Vec<(Term, u8)> {
     let mut kept: Vec<(Term, u8)> = Vec::with_capacity(ts.len());
     for t in ts {
@@ -592,7 +592,8 @@ fn load(image: &[u8], pass: impl Fn(&[u8]) -> Answer<usize>, tables: &mut Tables
     Ok([states.len() / 4, transitions.len() / 4, initial.len() / 2])
 }
 
-/// Cases as `tests/host/serve.c` reads them, T, J and R alone; and r, which is R with two passes over state records.
+/// Cases as `tests/host/serve.c` reads them, T, J, R, S, M and A alone; and r, which is R with two passes over state
+/// records, and a, which is A with the image checked once and not at every step.
 fn cases(bytes: &[u8]) -> Vec<(u8, Vec<&[u8]>)> {
     let mut out = Vec::new();
     let mut at = 0;
@@ -600,7 +601,7 @@ fn cases(bytes: &[u8]) -> Vec<(u8, Vec<&[u8]>)> {
         let kind = bytes[at];
         at += 1;
         let mut slices = Vec::new();
-        for _ in 0..match kind { b'S' => 4, b'J' => 3, b'M' => 2, _ => 1 } {
+        for _ in 0..match kind { b'S' => 4, b'J' => 3, b'M' | b'A' | b'a' => 2, _ => 1 } {
             let n = u32::from_le_bytes(bytes[at..at + 4].try_into().unwrap()) as usize;
             slices.push(&bytes[at + 4..at + 4 + n]);
             at += 4 + n;
@@ -644,6 +645,38 @@ fn same_word(stem: &[u8], cycle: &[u8], other_stem: &[u8], other_cycle: &[u8]) -
     Ok(word.zip(other).take(n).all(|(a, b)| a == b))
 }
 
+/// The states to which a step at the letter leads, a bit each.
+fn step(states: &[u8], transitions: &[u8], set: u128, letter: u8) -> u128 {
+    let (mut next, mut at) = (0, 0);
+    for (q, record) in states.chunks_exact(4).enumerate() {
+        let end = at + 4 * number_at(record, 0);
+        if has(set, q) {
+            let read = transitions[at..end].chunks_exact(4).filter(|r| letter & r[0] == r[0] && letter & r[1] == 0);
+            next = read.fold(next, |bits, r| bits | 1 << number_at(r, 2));
+        }
+        at = end;
+    }
+    next
+}
+
+/// Starting the field unit and a step for each letter, with the image checked at every step if so asked: all answers
+/// and the bytes of the last set in one sum.
+fn watch(image: &[u8], letters: &[u8], each: bool) -> Answer<u64> {
+    let [mut states, mut transitions, initial] = check(image, in_one)?;
+    let mut set = initial.chunks_exact(2).fold(0u128, |bits, r| bits | 1 << number_at(r, 0));
+    let mut alarms = (set == 0) as u64;
+    for &letter in letters {
+        if each {
+            [states, transitions, _] = check(std::hint::black_box(image), in_one)?;
+        }
+        if letter & SKIPPED == 0 {
+            set = step(states, transitions, set, letter);
+        }
+        alarms += (set == 0) as u64;
+    }
+    Ok(256 * alarms + set.to_le_bytes().iter().map(|&byte| byte as u64).sum::<u64>())
+}
+
 /// What a case comes to, as one number, so that both sides can be held against each other.
 fn answer(kind: u8, slices: &[&[u8]], tables: &mut Tables) -> u64 {
     let refused = |r: Refusal| r.number as u64 + 256 * r.place as u64;
@@ -663,6 +696,8 @@ fn answer(kind: u8, slices: &[&[u8]], tables: &mut Tables) -> u64 {
             let length = merge(slices[0], slices[1], std::hint::black_box(&mut merged));
             length.map_or_else(refused, |n| 256 * n as u64)
         }
+        b'A' => watch(slices[0], slices[1], true).unwrap_or_else(refused),
+        b'a' => watch(slices[0], slices[1], false).unwrap_or_else(refused),
         b'S' => same_word(slices[0], slices[1], slices[2], slices[3]).map_or_else(refused, |same| 256 * same as u64),
         _ => {
             let lasso = |a| check_lasso(slices[1], slices[2], 0).map(|[stem, cycle]| (a, stem, cycle));

@@ -32,7 +32,7 @@ extern "C" {
 /* The longest rule in bytes, and the smallest buffer for a rule in negation normal form or for a merged one. */
 #define ZIMBORALO_RULE_BYTES (3 * ZIMBORALO_MAX_NODES)
 
-/* The smallest tables, image buffer and working space that a call takes; shorter ones are refused by 25. */
+/* The smallest tables, image buffer, working space and set that a call takes; shorter ones are refused by 25. */
 #define ZIMBORALO_STATES_BYTES (4 * ZIMBORALO_MAX_STATES)
 #define ZIMBORALO_TRANSITIONS_BYTES (4 * ZIMBORALO_MAX_TRANSITIONS)
 #define ZIMBORALO_INITIAL_BYTES (2 * ZIMBORALO_MAX_INITIAL)
@@ -40,6 +40,7 @@ extern "C" {
 #define ZIMBORALO_IMAGE_BYTES \
     (ZIMBORALO_CONTENTS_BYTES + ZIMBORALO_STATES_BYTES + ZIMBORALO_TRANSITIONS_BYTES + ZIMBORALO_INITIAL_BYTES)
 #define ZIMBORALO_WORK_BYTES (ZIMBORALO_MAX_STATES * ZIMBORALO_MAX_LETTERS)
+#define ZIMBORALO_SET_BYTES (ZIMBORALO_MAX_STATES / 8) /* the field unit's set, a bit for each state */
 
 /* Why a call refuses; the number is the lowest byte of its answer. The names are those of the constants in the proved
  * code; zimboralo_text.h says what each means, and what its place is. */
@@ -82,7 +83,10 @@ enum zimboralo_number {
     ZIMBORALO_MERGED_TOO_LARGE = 27,
 
     /* a lasso of whose cycle every letter is skipped; looked at after 9 */
-    ZIMBORALO_ALL_SKIPPED = 28
+    ZIMBORALO_ALL_SKIPPED = 28,
+
+    /* a rule that the field unit does not take, since it has an until in negation normal form; looked at after 7 */
+    ZIMBORALO_HAS_UNTIL = 29
 };
 
 /* ---- the calls */
@@ -96,15 +100,16 @@ uint64_t zimboralo_normalize(const uint8_t *rule, size_t rule_len, uint8_t *firs
  * behind them the second's, whose children are counted on from there, and last a root, the and of both roots. It is at
  * the buffer's start, with zeros behind it to the buffer's end. Its length, or the first refusal of 25, 1 to 6 of the
  * first rule, 1 to 6 of the second, 27 and 7 in this order, by which the buffer is as it was; 27 and 7 are about the
- * merged rule. A place is the node of the rule that is refused, and does not tell which of the two that is. A kind above
- * 8 is 3: a written rule goes through zimboralo_normalize first, which also tells what is wrong with it alone. The
- * buffer must not hold either rule. */
+ * merged rule. A place is the node of the rule that is refused, and does not tell which of the two that is. A kind
+ * above 8 is 3: a written rule goes through zimboralo_normalize first, which also tells what is wrong with it alone.
+ * The buffer must not hold either rule. */
 uint64_t zimboralo_merge(const uint8_t *first, size_t first_len, const uint8_t *second, size_t second_len,
                          uint8_t *merged, size_t merged_len);
 
 /* The automaton of a written rule, as records in three tables. Its counts, or the first refusal of 25, 1 to 6, 26, 7
  * and 20 to 24 in this order; 7 and 20 are about the rule in negation normal form. With the counts come the
- * propositions that were demanded both ways in one letter, see zimboralo_conflicts; no other call tells these. */
+ * propositions that were demanded both ways in one letter, see zimboralo_conflicts; of the other calls only
+ * zimboralo_field_translate tells these. */
 uint64_t zimboralo_translate(const uint8_t *rule, size_t rule_len, uint8_t *states, size_t states_len,
                              uint8_t *transitions, size_t transitions_len, uint8_t *initial, size_t initial_len);
 
@@ -138,21 +143,45 @@ uint64_t zimboralo_same_word(const uint8_t *stem, size_t stem_len, const uint8_t
                              const uint8_t *other_stem, size_t other_stem_len, const uint8_t *other_cycle,
                              size_t other_cycle_len);
 
+/* The automaton of a written rule for the field unit: as zimboralo_translate, with 29 between 7 and 20. The field unit
+ * takes no rule that has an until in negation normal form: such a rule may be broken with no letter at which that is
+ * sure, and then no alarm would come. */
+uint64_t zimboralo_field_translate(const uint8_t *rule, size_t rule_len, uint8_t *states, size_t states_len,
+                                   uint8_t *transitions, size_t transitions_len, uint8_t *initial, size_t initial_len);
+
+/* The field unit watches letters as they come. In a lent set, of ZIMBORALO_SET_BYTES bytes or more, it keeps the states
+ * in which some run over the letters so far may be: bit q % 8 of byte q / 8 is state q. Every other bit of the slice is
+ * 0 after start and after a step with a letter that remains; bits that are no state's are never looked at.
+ *
+ * zimboralo_field_start fills the set for the time before the first letter. zimboralo_field_step takes one letter: it
+ * goes on from the set as the call before it left it. A letter with bit 7 set is skipped and leaves every byte as it
+ * was.
+ *
+ * The answer says whether the alarm is raised, which it is where the set has no state. Once raised it stays raised. Or
+ * it is the first refusal of 25, for a slice that is too short, and 10 to 13 of the image, by which every byte is as it
+ * was. Every step looks at these again: a damaged image is refused, or taken for the automaton that it is then.
+ *
+ * With the image of a rule that zimboralo_field_translate took, and a lasso of whose cycle a letter remains, the alarm
+ * is raised, by start or by some step, exactly when the lasso breaks the rule; and then no later than with the letter
+ * with which as many have remained as do of the stem, plus as many as do of the cycle for each state. */
+uint64_t zimboralo_field_start(const uint8_t *image, size_t image_len, uint8_t *set, size_t set_len);
+uint64_t zimboralo_field_step(const uint8_t *image, size_t image_len, uint8_t *set, size_t set_len, uint8_t letter);
+
 /* ---- the parts of an answer */
 
 /* Of a refusal: its number and place. */
 static inline unsigned zimboralo_number(uint64_t answer) { return (unsigned)(answer & 0xff); }
 static inline uint32_t zimboralo_place(uint64_t answer) { return (uint32_t)(answer >> 8); }
 
-/* Of an accepted translate or read: the three counts. */
+/* Of an accepted translate, field_translate or read: the three counts. */
 static inline unsigned zimboralo_states(uint64_t answer) { return (unsigned)(answer >> 8 & 0xff); }
 static inline unsigned zimboralo_transitions(uint64_t answer) { return (unsigned)(answer >> 16 & 0xffff); }
 static inline unsigned zimboralo_initial(uint64_t answer) { return (unsigned)(answer >> 32 & 0xff); }
 
-/* Of an accepted translate: the propositions that were demanded both ways in one letter, bit p for proposition p. For
- * each of these two parts of the rule could not be joined, since one asks for it and the other forbids it; 0 says that
- * all could be joined. A rule with conflicts may still be kept. One that every lasso breaks may have none, if a false
- * is the reason; if it has some, these are the propositions to look at first. */
+/* Of an accepted translate or field_translate: the propositions that were demanded both ways in one letter, bit p for
+ * proposition p. For each of these two parts of the rule could not be joined, since one asks for it and the other
+ * forbids it; 0 says that all could be joined. A rule with conflicts may still be kept. One that every lasso breaks may
+ * have none, if a false is the reason; if it has some, these are the propositions to look at first. */
 static inline unsigned zimboralo_conflicts(uint64_t answer) { return (unsigned)(answer >> 40 & 0xff); }
 
 /* Of an accepted normalize, merge or write: the rule's or the image's length. */
@@ -166,6 +195,9 @@ static inline unsigned zimboralo_pairs(uint64_t answer) { return (unsigned)(answ
 
 /* Of an accepted same_word: whether the two lassos are one word. */
 static inline int zimboralo_same(uint64_t answer) { return (int)(answer >> 8 & 1); }
+
+/* Of an accepted field_start or field_step: whether the alarm is raised. */
+static inline int zimboralo_alarm(uint64_t answer) { return (int)(answer >> 8 & 1); }
 
 /* ---- the calls over structs of the right sizes */
 
@@ -187,6 +219,11 @@ struct zimboralo_tables {
 struct zimboralo_image {
     uint8_t bytes[ZIMBORALO_IMAGE_BYTES];
     size_t length;
+};
+
+/* The field unit's set of states. With its image it is all that a field unit keeps. */
+struct zimboralo_set {
+    uint8_t bytes[ZIMBORALO_SET_BYTES];
 };
 
 /* All that a decision fills, over 130 KB: better static or allocated than on a small stack. */
@@ -222,8 +259,8 @@ static inline int zimboralo_clears(unsigned number)
     return number >= ZIMBORALO_TOO_MANY_TERMS && number <= ZIMBORALO_TOO_MANY_PAIRS;
 }
 
-/* Counts that fit the tables after an answer of translate or read: its own, none where the tables are zero, and those
- * that were there where the tables are as they were. The answer again. */
+/* Counts that fit the tables after an answer of translate, field_translate or read: its own, none where the tables are
+ * zero, and those that were there where the tables are as they were. The answer again. */
 static inline uint64_t zimboralo_count(struct zimboralo_tables *tables, uint64_t answer)
 {
     unsigned number = zimboralo_number(answer);
@@ -245,6 +282,15 @@ static inline uint64_t zimboralo_translate_rule(const uint8_t *rule, size_t rule
                                                        tables->initial, sizeof tables->initial));
 }
 
+/* zimboralo_field_translate into a struct, with the counts. */
+static inline uint64_t zimboralo_field_translate_rule(const uint8_t *rule, size_t rule_len,
+                                                      struct zimboralo_tables *tables)
+{
+    return zimboralo_count(tables, zimboralo_field_translate(rule, rule_len, tables->states, sizeof tables->states,
+                                                             tables->transitions, sizeof tables->transitions,
+                                                             tables->initial, sizeof tables->initial));
+}
+
 /* zimboralo_read into a struct, with the counts. */
 static inline uint64_t zimboralo_read_image(const uint8_t *image, size_t image_len, struct zimboralo_tables *tables)
 {
@@ -262,6 +308,18 @@ static inline uint64_t zimboralo_write_image(const struct zimboralo_tables *tabl
     if (zimboralo_number(answer) == ZIMBORALO_ACCEPTED)
         image->length = zimboralo_length(answer);
     return answer;
+}
+
+/* zimboralo_field_start and zimboralo_field_step with a struct for the set. */
+static inline uint64_t zimboralo_field_start_set(const uint8_t *image, size_t image_len, struct zimboralo_set *set)
+{
+    return zimboralo_field_start(image, image_len, set->bytes, sizeof set->bytes);
+}
+
+static inline uint64_t zimboralo_field_step_set(const uint8_t *image, size_t image_len, struct zimboralo_set *set,
+                                                uint8_t letter)
+{
+    return zimboralo_field_step(image, image_len, set->bytes, sizeof set->bytes, letter);
 }
 
 /* zimboralo_judge by the image in the buffers: of a decision before, or written or copied there. */

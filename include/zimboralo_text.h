@@ -58,7 +58,7 @@ static inline const char *zimboralo_text(unsigned number)
         return "the rule is too large: the second walk has over " ZIMBORALO_DIGITS(ZIMBORALO_MAX_STATES)
                " pairs; the place is the pair being walked";
     case ZIMBORALO_TABLE_TOO_SHORT:
-        return "a lent table, buffer or working space is too short";
+        return "a lent table, buffer, working space or set is too short";
     case ZIMBORALO_TOO_MANY_NODES:
         return "the rule is too large: its first-edition form needs over " ZIMBORALO_DIGITS(ZIMBORALO_MAX_NODES)
                " nodes";
@@ -67,6 +67,9 @@ static inline const char *zimboralo_text(unsigned number)
                " nodes";
     case ZIMBORALO_ALL_SKIPPED:
         return "every slot of the plan's loop is skipped";
+    case ZIMBORALO_HAS_UNTIL:
+        return "the field unit takes no rule with an until in its first-edition form; the place is the lowest until "
+               "there";
     }
     return "unknown refusal";
 }

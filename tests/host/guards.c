@@ -1,8 +1,9 @@
 /* Every lent buffer at its exact smallest size between guard bytes that must stay as they were; and one byte shorter,
  * which is refused by 25 with every byte as it was. The functions over structs against the plain calls, the header's
  * limits against what the library takes, the bytes of rules in negation normal form and of merged ones, rules that
- * demand propositions both ways, refusal 11 at every state record, verdicts with a known number of pairs, and lassos
- * that are one word or are not. Prints one line and exits 1 where something is wrong. */
+ * demand propositions both ways, refusal 11 at every state record, verdicts with a known number of pairs, lassos that
+ * are one word or are not, and the field unit's rules and sets. Prints one line and exits 1 where something is
+ * wrong. */
 #include <stdio.h>
 #include <stdlib.h>
 #include <string.h>
@@ -1096,6 +1097,188 @@ static void words_refused(void)
     }
 }
 
+/* ---- the field unit */
+
+static uint64_t field_translate(const uint8_t *rule, size_t length, int shorter)
+{
+    return zimboralo_field_translate(rule, length, lent(STATES), size_of(STATES, shorter), lent(TRANSITIONS),
+                                     size_of(TRANSITIONS, shorter), lent(INITIAL), size_of(INITIAL, shorter));
+}
+
+/* A rule for the field unit: refused by `number` with every byte as it was, or where that is 0 exactly as translate, to
+ * the last byte; before that a short table is 25. Over structs likewise. */
+static void field_rule(const uint8_t *rule, size_t length, uint64_t number)
+{
+    static uint8_t after[BUFFERS][ZIMBORALO_IMAGE_BYTES + 2 * GUARD];
+    refill();
+    uint64_t want = number ? number : translate(rule, length, BUFFERS);
+    for (int b = 0; b < BUFFERS; b++)
+        memcpy(after[b], blocks[b], SIZES[b] + 2 * GUARD);
+    refill_both();
+    uint64_t answer = field_translate(rule, length, BUFFERS);
+    expect(answer == want, "field_translate", "another answer");
+    for (int b = 0; b < BUFFERS; b++)
+        expect(memcmp(after[b], blocks[b], SIZES[b] + 2 * GUARD) == 0, "field_translate left other bytes", NAMES[b]);
+    expect_same("field_translate_rule", answer, zimboralo_field_translate_rule(rule, length, tables), answer, NOT_SET);
+    for (int shorter = STATES; shorter <= INITIAL; shorter++) {
+        refill();
+        expect(field_translate(rule, length, shorter) == ZIMBORALO_TABLE_TOO_SHORT, "field_translate took a short",
+               NAMES[shorter]);
+        expect_untouched("field_translate touched a buffer");
+    }
+}
+
+/* 29 at a node of the negation normal form. */
+static uint64_t until_at(uint64_t place) { return ZIMBORALO_HAS_UNTIL | place << 8; }
+
+static void field_rules(void)
+{
+    /* eventually 0 in both editions; not always 0; 0 until (1 until 2) */
+    static const uint8_t eventually[] = {2, 0, 0, 12, 0, 0}, until[] = {1, 0, 0, 2, 0, 0, 7, 0, 1};
+    static const uint8_t not_always[] = {2, 0, 0, 11, 0, 0, 9, 1, 0};
+    static const uint8_t twice[] = {2, 0, 0, 2, 1, 0, 2, 2, 0, 7, 1, 2, 7, 0, 3};
+    static const uint8_t not_eventually[] = {2, 0, 0, 12, 0, 0, 9, 1, 0};
+    /* for each of 7 propositions, that one now or proposition 0 next: 128 terms */
+    uint8_t crowded[3 * 27];
+    for (uint8_t p = 0; p < 7; p++) {
+        const uint8_t leaf[] = {2, p, 0}, either[] = {6, 0, 0, 5, p, 7 + 2 * p};
+        memcpy(crowded + 3 * p, leaf, sizeof leaf);
+        memcpy(crowded + 3 * (7 + 2 * p), either, sizeof either);
+    }
+    for (uint8_t n = 0; n < 6; n++) {
+        const uint8_t both[] = {4, n ? 20 + n : 8, 10 + 2 * n};
+        memcpy(crowded + 3 * (21 + n), both, sizeof both);
+    }
+    const struct zimboralo_rule most = stacked(ALWAYS, ZIMBORALO_MAX_NODES - 2);
+    const struct zimboralo_rule many = stacked(EVENTUALLY, ZIMBORALO_MAX_UNTILS + 1);
+    const struct zimboralo_rule over = stacked(EVENTUALLY, ZIMBORALO_MAX_NODES - 1);
+    field_rule(if_then, sizeof if_then, 0);
+    field_rule(never, sizeof never, 0);
+    field_rule(not_eventually, sizeof not_eventually, 0);
+    field_rule(most.bytes, most.length, 0);
+    field_rule(crowded, sizeof crowded, 0); /* 20, by which the tables are zero */
+    refill();
+    expect(zimboralo_number(field_translate(crowded, sizeof crowded, BUFFERS)) == ZIMBORALO_TOO_MANY_TERMS
+               && zero(TRANSITIONS, SIZES[TRANSITIONS]),
+           "field_translate took", "too many terms");
+    field_rule(eventually, sizeof eventually, until_at(2));
+    field_rule(until, sizeof until, until_at(2));
+    field_rule(not_always, sizeof not_always, until_at(2));
+    field_rule(twice, sizeof twice, until_at(3));
+    field_rule(pairs, sizeof pairs, until_at(2)); /* before 24 */
+    field_rule(unknown, sizeof unknown, ZIMBORALO_UNKNOWN_KIND);
+    field_rule(many.bytes, many.length, ZIMBORALO_TOO_MANY_UNTILS);
+    field_rule(over.bytes, over.length, ZIMBORALO_TOO_MANY_NODES);
+}
+
+/* Starting, where the letter is START, or a step. */
+enum { START = -1 };
+
+static uint64_t watch(const struct zimboralo_image *by, uint8_t *set, size_t length, int letter)
+{
+    return letter == START ? zimboralo_field_start(by->bytes, by->length, set, length)
+                           : zimboralo_field_step(by->bytes, by->length, set, length, (uint8_t)letter);
+}
+
+/* On so many lent bytes between guards, which begin with `before`: this answer, and `after` at their start with zeros
+ * behind it, or if that is NULL every byte as it was. */
+static void watched_in(const struct zimboralo_image *by, size_t length, int letter, const struct zimboralo_set *before,
+                       uint64_t answer, const struct zimboralo_set *after)
+{
+    static uint8_t block[GUARD + LONGER + GUARD], was[sizeof block];
+    for (size_t i = 0; i < sizeof block; i++)
+        block[i] = pattern(i);
+    memcpy(block + GUARD, before->bytes, length < sizeof before->bytes ? length : sizeof before->bytes);
+    memcpy(was, block, sizeof block);
+    expect(watch(by, block + GUARD, length, letter) == answer, "a set", "another answer");
+    int ok = 1;
+    for (size_t i = 0; i < sizeof block; i++) {
+        int filled = after && i >= GUARD && i < GUARD + length;
+        uint8_t want = !filled ? was[i] : i - GUARD < sizeof after->bytes ? after->bytes[i - GUARD] : 0;
+        ok = ok && block[i] == want;
+    }
+    expect(ok, "a set", "another byte");
+}
+
+/* The same on the smallest set, longer ones and a struct; on shorter ones it is 25, with every byte as it was. */
+static void watched(const struct zimboralo_image *by, int letter, const struct zimboralo_set *before, uint64_t answer,
+                    const struct zimboralo_set *after)
+{
+    static const size_t lengths[] = {ZIMBORALO_SET_BYTES, ZIMBORALO_SET_BYTES + 1, LONGER};
+    struct zimboralo_set set = *before;
+    for (size_t i = 0; i < sizeof lengths / sizeof *lengths; i++)
+        watched_in(by, lengths[i], letter, before, answer, after);
+    watched_in(by, 0, letter, before, ZIMBORALO_TABLE_TOO_SHORT, NULL);
+    watched_in(by, ZIMBORALO_SET_BYTES - 1, letter, before, ZIMBORALO_TABLE_TOO_SHORT, NULL);
+    uint64_t over = letter == START ? zimboralo_field_start_set(by->bytes, by->length, &set)
+                                    : zimboralo_field_step_set(by->bytes, by->length, &set, (uint8_t)letter);
+    expect(over == answer && memcmp(set.bytes, after ? after->bytes : before->bytes, sizeof set.bytes) == 0,
+           "a set in a struct", "another answer or byte");
+}
+
+/* States from one on, so many. */
+static struct zimboralo_set set_of(unsigned from, unsigned count)
+{
+    struct zimboralo_set set = {{0}};
+    for (unsigned q = from; q < from + count; q++)
+        set.bytes[q / 8] |= (uint8_t)(1 << q % 8);
+    return set;
+}
+
+/* A ring of so many states: from each a transition with proposition 0 to the one behind it, from the last to the first,
+ * which is initial if so asked. */
+static struct zimboralo_image ring(unsigned count, unsigned initial)
+{
+    static struct zimboralo_tables made;
+    struct zimboralo_image of;
+    memset(&made, 0, sizeof made);
+    for (unsigned q = 0; q < count; q++) {
+        made.states[4 * q] = 1;
+        made.transitions[4 * q] = 1;
+        made.transitions[4 * q + 2] = (uint8_t)((q + 1) % count);
+    }
+    made.state_count = made.transition_count = count;
+    made.initial_count = initial;
+    expect(accepted(zimboralo_write_image(&made, &of)), "write refused", "a ring");
+    return of;
+}
+
+/* Rings of every size: starting, steps from no state, one, all and from bits of no state, and letters that no
+ * transition reads or that are skipped. First an image of no state at all. */
+static void sets(void)
+{
+    const uint64_t quiet = 0, alarm = 1 << 8;
+    const struct zimboralo_set none = set_of(0, 0), all = set_of(0, ZIMBORALO_MAX_STATES), first = set_of(0, 1);
+    struct zimboralo_image empty = ring(0, 0);
+    watched(&empty, START, &all, alarm, &none);
+    watched(&empty, 1, &all, alarm, &none);
+    watched(&empty, ZIMBORALO_SKIPPED, &all, alarm, NULL);
+    for (unsigned n = 1; n <= ZIMBORALO_MAX_STATES; n++) {
+        struct zimboralo_image by = ring(n, 1), idle = ring(n, 0);
+        const struct zimboralo_set states = set_of(0, n), last = set_of(n - 1, 1);
+        const struct zimboralo_set others = set_of(n, ZIMBORALO_MAX_STATES - n);
+        watched(&by, START, &all, quiet, &first);
+        watched(&by, START, &none, quiet, &first);
+        watched(&idle, START, &all, alarm, &none);
+        watched(&by, 1, &all, quiet, &states);
+        watched(&by, 1, &last, quiet, &first);
+        watched(&by, 1, &others, alarm, &none);
+        watched(&by, 1, &none, alarm, &none);
+        watched(&by, 0, &all, alarm, &none);
+        watched(&by, ZIMBORALO_SKIPPED | 1, &all, quiet, NULL);
+        watched(&by, ZIMBORALO_SKIPPED, &last, quiet, NULL);
+        watched(&by, ZIMBORALO_SKIPPED, &others, alarm, NULL);
+        watched(&by, 255, &none, alarm, NULL);
+        by.length--;
+        watched(&by, START, &all, ZIMBORALO_BAD_CONTENTS, NULL);
+        watched(&by, 1, &all, ZIMBORALO_BAD_CONTENTS, NULL);
+        watched(&by, 255, &all, ZIMBORALO_BAD_CONTENTS, NULL);
+        idle.bytes[ZIMBORALO_CONTENTS_BYTES + 4 * n + 2] = (uint8_t)n; /* the first transition leads to no state */
+        watched(&idle, START, &all, ZIMBORALO_BAD_TRANSITION, NULL);
+        watched(&idle, ZIMBORALO_SKIPPED, &first, ZIMBORALO_BAD_TRANSITION, NULL);
+    }
+}
+
 int main(void)
 {
     const struct zimboralo_rule over = stacked(ALWAYS, ZIMBORALO_MAX_NODES - 1);
@@ -1129,6 +1312,8 @@ int main(void)
     lassos();
     words();
     words_refused();
+    field_rules();
+    sets();
     printf("guards: %d looked at, %d wrong\n", looked, wrong);
     for (int b = 0; b < BUFFERS; b++)
         free(blocks[b]);

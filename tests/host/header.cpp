@@ -1,6 +1,6 @@
 // The headers from C++: a written rule in negation normal form, merged with another, and with a plan to the verdict; a
-// rule that demands a proposition both ways; a refusal in words; one plan written in two ways. Exits 0 where all are
-// right.
+// rule that demands a proposition both ways; a refusal in words; one plan written in two ways; the field unit to its
+// alarm. Exits 0 where all are right.
 #include <cstring>
 
 #include "zimboralo.h"
@@ -20,12 +20,22 @@ int main()
     const uint8_t both_ways[] = {2, 3, 0, 3, 3, 0, 4, 0, 1};
     uint64_t made = zimboralo_translate_rule(both_ways, sizeof both_ways, &buffers.tables);
     uint64_t same = zimboralo_same_word(letters, 1, letters + 1, 1, longer, 1, longer + 1, 2);
+    static zimboralo_set set;
+    const uint8_t always[] = {2, 0, 0, 11, 0, 0};
+    uint64_t taken = zimboralo_field_translate_rule(always, sizeof always, &buffers.tables);
+    uint64_t written = zimboralo_write_image(&buffers.tables, &buffers.image);
+    const zimboralo_image &image = buffers.image;
+    uint64_t quiet = zimboralo_field_start_set(image.bytes, image.length, &set);
+    uint64_t alarm = zimboralo_field_step_set(image.bytes, image.length, &set, 0);
     return zimboralo_number(normalized) == ZIMBORALO_ACCEPTED && normal.length == sizeof until
                    && std::memcmp(normal.bytes, until, sizeof until) == 0
                    && zimboralo_number(both) == ZIMBORALO_ACCEPTED && merged.length == sizeof until + sizeof never + 3
                    && zimboralo_number(kept) == ZIMBORALO_ACCEPTED && zimboralo_kept(kept) && zimboralo_pairs(kept) == 2
                    && zimboralo_number(made) == ZIMBORALO_ACCEPTED && zimboralo_conflicts(made) == 1 << 3
                    && zimboralo_number(same) == ZIMBORALO_ACCEPTED && zimboralo_same(same)
+                   && zimboralo_number(taken) == ZIMBORALO_ACCEPTED && zimboralo_number(written) == ZIMBORALO_ACCEPTED
+                   && quiet == ZIMBORALO_ACCEPTED && !zimboralo_alarm(quiet)
+                   && zimboralo_number(alarm) == ZIMBORALO_ACCEPTED && zimboralo_alarm(alarm)
                    && std::strcmp(zimboralo_text(zimboralo_number(refused)), "the plan's loop is empty") == 0
                ? 0
                : 1;

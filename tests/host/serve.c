@@ -5,6 +5,13 @@
  *                              behind it are not zero, or a refusal has touched one
  *     M rule rule              likewise of both rules merged
  *     T rule                   the conflicts, and the image's bytes, in hexadecimal, or the refusal
+ *     F rule                   likewise, as the field unit takes it
+ *     U image set              `quiet` or `alarm` of starting the field unit, and the set's bytes, or the refusal;
+ *                              `other` where that has touched one
+ *     V image set letter       likewise of a step
+ *     A image letters          starting and a step for each letter, with the set in a struct: `quiet`, or `alarm` and
+ *                              after how many letters it was raised, and the set's bytes, or the refusal; `other` where
+ *                              it was lowered again
  *     J image stem cycle       `kept` or `broken` and how many pairs were taken, or the refusal; `other` where a
  *                              verdict leaves a working byte that is not zero, or a refusal has touched one, or the
  *                              answer has anything else
@@ -131,16 +138,73 @@ static void merge(void)
     free(second);
 }
 
-static void translate(void)
+/* zimboralo_translate_rule, or zimboralo_field_translate_rule. */
+typedef uint64_t translation(const uint8_t *rule, size_t length, struct zimboralo_tables *tables);
+
+static void translate(translation *call)
 {
     size_t n;
     uint8_t *rule = slice(&n);
-    uint64_t made = zimboralo_translate_rule(rule, n, &buffers.tables);
+    uint64_t made = call(rule, n, &buffers.tables);
     if (!refused(made)) {
         printf("%02x ", zimboralo_conflicts(made));
         print_image(zimboralo_write_image(&buffers.tables, &buffers.image));
     }
     free(rule);
+}
+
+/* What starting or a step has answered and left of a set. */
+static void print_set(uint64_t answer, const uint8_t *set, const uint8_t *before, size_t length)
+{
+    if (zimboralo_number(answer) != ZIMBORALO_ACCEPTED && memcmp(set, before, length) == 0) {
+        refused(answer);
+    } else if (answer == (uint64_t)zimboralo_alarm(answer) << 8) {
+        printf("%s ", zimboralo_alarm(answer) ? "alarm" : "quiet");
+        print_bytes(set, length);
+    } else {
+        puts("other");
+    }
+}
+
+static void start_or_step(int step)
+{
+    size_t n, m, k;
+    uint8_t *bytes = slice(&n), *set = slice(&m), *letter = step ? slice(&k) : NULL, *before = malloc(m ? m : 1);
+    if (!before || (step && k != 1))
+        exit(1);
+    memcpy(before, set, m);
+    uint64_t answer = step ? zimboralo_field_step(bytes, n, set, m, *letter) : zimboralo_field_start(bytes, n, set, m);
+    print_set(answer, set, before, m);
+    free(bytes);
+    free(set);
+    free(letter);
+    free(before);
+}
+
+static void watch(void)
+{
+    struct zimboralo_set set;
+    size_t n, m, raised = 0;
+    uint8_t *bytes = slice(&n), *letters = slice(&m);
+    uint64_t answer = zimboralo_field_start_set(bytes, n, &set);
+    int lowered = 0, alarm = zimboralo_alarm(answer);
+    if (!refused(answer)) {
+        for (size_t i = 0; i < m; i++) {
+            answer = zimboralo_field_step_set(bytes, n, &set, letters[i]);
+            raised += !alarm;
+            lowered = lowered || zimboralo_number(answer) != ZIMBORALO_ACCEPTED || (alarm && !zimboralo_alarm(answer));
+            alarm = zimboralo_alarm(answer);
+        }
+        if (lowered)
+            printf("other ");
+        else if (alarm)
+            printf("alarm %zu ", raised);
+        else
+            printf("quiet ");
+        print_bytes(set.bytes, sizeof set.bytes);
+    }
+    free(bytes);
+    free(letters);
 }
 
 static void judge(void)
@@ -266,7 +330,13 @@ int main(void)
         else if (letter == 'M')
             merge();
         else if (letter == 'T')
-            translate();
+            translate(zimboralo_translate_rule);
+        else if (letter == 'F')
+            translate(zimboralo_field_translate_rule);
+        else if (letter == 'U' || letter == 'V')
+            start_or_step(letter == 'V');
+        else if (letter == 'A')
+            watch();
         else if (letter == 'J')
             judge();
         else if (letter == 'R')

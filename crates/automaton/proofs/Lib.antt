@@ -4,3 +4,4 @@ pub mod InRange
 pub mod WellFormed
 pub mod Records
 pub mod Room
+pub mod LetterTests

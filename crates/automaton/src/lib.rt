@@ -1,5 +1,9 @@
-// The limits and the counts of an automaton, and the sizes of the tables that hold its records.
+// The limits and the counts of an automaton, the sizes of the tables that hold its records, and whether a transition
+// reads a letter.
 ghost use mathlib.Core.Path.{_≡_};
+ghost use mathlib.Core.Bool.{_&&_};
+ghost use lib.Dec.{eqb};
+ghost use lib.Bits.{bitOr, bitAnd};
 ghost use Rattle.automaton.specs.Tables.{lengthsFit};
 
 // The limits of an automaton (specs/Limits.antt has where they come from): its states, the transitions of one state and
@@ -43,4 +47,12 @@ pub fn tables_fit(states: usize, transitions: usize, initial: usize) -> bool
         return false;
     }
     INITIAL_BYTES <= initial
+}
+
+// Whether a transition with these propositions reads the letter, by one test: those that must hold and do not, joined
+// with those that must not and do, are none.
+pub fn reads_letter(must: u8, must_not: u8, letter: u8) -> bool
+    ensures { λ r. ⌜ r ≡ (eqb (bitOr must letter) letter && eqb (bitAnd «must_not» letter) 0) ⌝ }
+{
+    ((must | letter) ^ letter) | (must_not & letter) == 0
 }

@@ -56,7 +56,7 @@ const INITIAL_ENTRY: usize = 2 * ENTRY_BYTES;
 pub const CONTENTS_BYTES: usize = 3 * ENTRY_BYTES;
 
 // Where the count of each entry stands.
-const STATE_COUNT_AT: usize = 2;
+pub const STATE_COUNT_AT: usize = 2;
 
 const TRANSITION_COUNT_AT: usize = TRANSITIONS_ENTRY + 2;
 

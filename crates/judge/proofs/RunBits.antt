@@ -9,12 +9,11 @@ use lib.ListN.{length, getD, set, replicate, drop, length-set, length-replicate,
 use lib.Seq.{getD-set-same, getD-set-other, getD-append-add, getD-drop}
 use lib.Bits.{bitAnd, bitOr, and-mask}
 use lib.Dec.{eqb}
-use lib.Pow.{pow-lt}
-use native.Mathlib.Nat.{one-mul, mod-eq-of-lt, add-zero, sub-zero}
+use native.Mathlib.Nat.{add-zero, sub-zero}
 use borrow.Author.Tests.{eqb-true, eqb-false}
 use Rattle.judge.specs.Memory.{Token, Lifted, Gains, Confined, Ored, Tells}
 use Rattle.sets.specs.Bits.{Has}
-use Rattle.rest.proofs.LetterTests.{or-none}
+use Rattle.automaton.proofs.LetterTests.{or-none}
 use Rattle.sets.proofs.Bits.{or-has, has-or-l, has-or-r, zero-has, pow-has, has-pow}
 use Rattle.judge.specs.Limits.{metBit, rowBits}
 use Rattle.judge.proofs.Gathers.{adds-as, none-set}
@@ -246,7 +245,3 @@ looked rows q k w =
       yes = λ e. record { within = w; bit = record { set = rw (and-mask bits 1) at (eqb-true (bitAnd bits 1) 1 e) } };
       no = λ e h. eqb-false (bitAnd bits 1) 1 e (and-mask bits 1 ∙ h .bit .set);
     }
-
--- 1 shifted by less than the word's width
-pub shifted-one : (n : ℕ) → n < 64 → 1 * 2 ^ n % 2 ^ 64 ≡ 2 ^ n
-shifted-one n lt = rw one-mul (mod-eq-of-lt (pow-lt lt))

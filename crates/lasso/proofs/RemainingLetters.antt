@@ -78,7 +78,7 @@ in-rounds (suc rounds) stem cycle some i lt =
 
 -- ---- there is one such place
 
-before-grows : (word : ℕ → ℕ) (m n : ℕ) → m ≤ n → remainingBefore word m ≤ remainingBefore word n
+pub before-grows : (word : ℕ → ℕ) (m n : ℕ) → m ≤ n → remainingBefore word m ≤ remainingBefore word n
 unfolding remainingBefore
 before-grows word m zero le =
     let e : m ≡ 0 = omega arith in

@@ -1,5 +1,5 @@
--- R-8: bits 40 to 47 are 0 in an answer that carries no conflicts: that of a refused translate, and those of read, judge
--- and decide. Assumes nothing.
+-- R-8: bits 40 to 47 are 0 in an answer that carries no conflicts: that of a refused translate or field translate, and
+-- those of read, judge and decide. Assumes nothing.
 use Prim.Native.Nat.{ℕ, _+_}
 use mathlib.Core.Path.{_≡_, refl, sym}
 use mathlib.Core.List.{List}
@@ -11,10 +11,12 @@ use Rattle.translation.specs.Translate.{translated}
 use Rattle.translation.specs.Conflicts.{translatedConflicts, translates}
 use Rattle.image.specs.Calls.{readInto}
 use Rattle.judge.specs.Judge.{Verdict, kept, broken, Finding, judged}
+use Rattle.profile.specs.Profile.{profileTranslated, profileConflicts, profileTranslates}
 use Rattle.demands.specs.Demand.{decided}
 use Rattle.office.specs.Packing.{packCounts, packConflicts, packTranslated, packFinding, packVerdict}
-use Rattle.office.proofs.Refusals.{Proper, translated-proper, reads-proper, judged-proper, decided-proper}
-use Rattle.office.proofs.Unpacking.{conflictsOf, Alike, both, neither, translated-alike}
+use Rattle.office.proofs.Refusals.{Proper, translated-proper, profile-translated-proper, reads-proper}
+use Rattle.office.proofs.Refusals.{judged-proper, decided-proper}
+use Rattle.office.proofs.Unpacking.{conflictsOf, Alike, both, neither, translated-alike, profile-alike}
 
 -- ---- the packings
 
@@ -46,6 +48,14 @@ pub refused-tells-none : (rule s t i : List ℕ) (number place : ℕ) → transl
 refused-tells-none rule s t i =
     refused-none (translated rule s t i .answer) (translatedConflicts rule s t i) (translated-alike rule s t i)
     (translated-proper rule s t i)
+
+-- zimboralo_field_translate, where it refuses
+pub field-refused-tells-none : (rule s t i : List ℕ) (number place : ℕ)
+    → profileTranslated rule s t i .answer ≡ refused number place
+    → conflictsOf (packTranslated (profileTranslates rule s t i) .answer) ≡ 0
+field-refused-tells-none rule s t i =
+    refused-none (profileTranslated rule s t i .answer) (profileConflicts rule s t i) (profile-alike rule s t i)
+    (profile-translated-proper rule s t i)
 
 -- zimboralo_read, _judge and _decide
 pub read-tells-none : (image s t i : List ℕ) → conflictsOf (packCounts (readInto image s t i .answer)) ≡ 0

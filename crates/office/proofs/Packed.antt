@@ -3,14 +3,17 @@
 use Prim.Native.Nat.{ℕ, _+_}
 use mathlib.Core.Path.{_≡_, ap, _∙_}
 use mathlib.Core.List.{List}
+use mathlib.Core.Bool.{Bool}
 use Rattle.answer.specs.Result.{Result}
 use Rattle.automaton.specs.Tables.{Counts, Outcome, outcome}
 use Rattle.translation.specs.Conflicts.{Carried, carried}
 use Rattle.answer.specs.Buffer.{Buffer, buffer}
+use Rattle.field.specs.Calls.{Watch, watch}
 use Rattle.judge.specs.Judge.{Finding, Judgement, judgement}
 use Rattle.demands.specs.Demand.{Decision, decision}
 use Rattle.office.specs.Packing.{packCounts, packLength, packVerdict, packedTables, packOutcome, packedSlice}
 use Rattle.office.specs.Packing.{packBuffer, packJudgement, packedDecision, packDecision, packConflicts, packTranslated}
+use Rattle.office.specs.Packing.{packBit, packWatch}
 
 -- of a call that fills three tables
 pub packed-tables : (a : Result Counts) (s t i : List ℕ) (o : Outcome) (r : ℕ) → r ≡ packCounts a → outcome a s t i ≡ o
@@ -31,6 +34,11 @@ packed-buffer a image b r packs says = ap (λ (n : ℕ). packedSlice n image) pa
 pub packed-judgement : (a : Result Finding) (work : List ℕ) (j : Judgement) (r : ℕ) → r ≡ packVerdict a
     → judgement a work ≡ j → packedSlice r work ≡ packJudgement j
 packed-judgement a work j r packs says = ap (λ (n : ℕ). packedSlice n work) packs ∙ ap packJudgement says
+
+-- of start and step
+pub packed-watch : (a : Result Bool) (set : List ℕ) (w : Watch) (r : ℕ) → r ≡ packBit a → watch a set ≡ w
+    → packedSlice r set ≡ packWatch w
+packed-watch a set w r packs says = ap (λ (n : ℕ). packedSlice n set) packs ∙ ap packWatch says
 
 -- of decide
 pub packed-decision : (a : Result Finding) (s t i image work : List ℕ) (d : Decision) (r : ℕ) → r ≡ packVerdict a

@@ -12,10 +12,12 @@ use Rattle.answer.specs.Result.{Result, accepted, refused, andThen, Check, fine
 use Rattle.formula.specs.Rule.{nodeCount, releaseKind, lengthCheck, nodeCheck, placeCheck, syntaxCheck, untilCheck}
 use Rattle.formula.specs.Limits.{ruleBytes}
 use Rattle.formula.specs.Rule
+use Rattle.formula.proofs.Accepted.{formed-fine}
 use Rattle.answer.proofs.Lowest.{fine-first}
 use Rattle.answer.proofs.Results.{never-both, require-fine, required}
 use Rattle.normalform.specs.Written.{writtenCheck}
 use Rattle.normalform.specs.NormalForm.{normalForm, writtenChecked}
+use Rattle.normalform.proofs.Passes.{normal-form-passes}
 use Rattle.normalform.specs.Normalize.{ruleRoom, ruleStored, normalizes}
 use Rattle.merge.specs.Merge.{conjoined, mergeCheck, merges}
 use Rattle.term.specs.Size.{sizeCheck, sizesChecked}
@@ -37,6 +39,8 @@ use Rattle.image.proofs.OnePass.{one-pass}
 use Rattle.lasso.specs.Lasso.{lassoCheck}
 use Rattle.sameword.specs.Words.{ofSecond, lassosCheck, compared}
 use Rattle.judge.specs.Judge.{judgeable, judgedBy, judged}
+use Rattle.field.specs.Calls.{watchable, unlessRefused, begins, advances, started, stepped}
+use Rattle.profile.specs.Profile.{noUntils, profileChecked, profileTranslated}
 use Rattle.demands.specs.Demand.{roomCheck, inputCheck, concluded, decidedBy, decided}
 
 -- a number that a byte holds, and not 0, ZIMBORALO_ACCEPTED; a place at most the number of an automaton's transitions
@@ -251,15 +255,44 @@ tables-proper : (s t i : List ℕ) → Proper (tableCheck s t i)
 unfolding tableCheck
 tables-proper s t i = search proper
 
--- 25, 1 to 7, 26 and 20 to 24
-pub translated-proper : (rule s t i : List ℕ) → Proper (translated rule s t i .answer)
-unfolding translated stored
-translated-proper rule s t i =
+-- 20 to 24 of a written rule behind a check
+stored-proper : (rule s t i : List ℕ) (check : Check) → Proper check
+    → Proper (unless check (stored (writtenTranslation rule) s t i) s t i .answer)
+unfolding stored
+stored-proper rule s t i check first =
     let rest = cases-proper (λ r. stored r s t i .answer) (writtenTranslation rule) (writtenTranslation-proper rule)
     (λ a. accepts) (λ number place. refl) in
-    cases-proper (λ check. unless check (stored (writtenTranslation rule) s t i) s t i .answer)
-    (andThen (tableCheck s t i) (λ _. writtenChecked rule)) (search (proper, tables-proper, written-proper))
+    cases-proper (λ c. unless c (stored (writtenTranslation rule) s t i) s t i .answer) check first
     (λ u. rest) (λ number place. refl)
+
+-- 25, 1 to 7, 26 and 20 to 24
+pub translated-proper : (rule s t i : List ℕ) → Proper (translated rule s t i .answer)
+unfolding translated
+translated-proper rule s t i =
+    stored-proper rule s t i (andThen (tableCheck s t i) (λ _. writtenChecked rule))
+    (search (proper, tables-proper, written-proper))
+
+-- 29 of a normal form
+none-proper : (form : List ℕ) → nodeCount form ≤ maxTransitions → Proper (noUntils form)
+unfolding noUntils
+none-proper form few = search proper
+
+-- 1 to 6 of a written rule, 26, 7 and 29
+profile-proper : (rule : List ℕ) → Proper (profileChecked rule)
+unfolding profileChecked
+profile-proper rule =
+    then-proper (normalForm rule) _ (form-proper rule)
+    (λ form e. then-proper (untilCheck form) _ (untils-proper form) (λ _ _. none-proper form (few form e)))
+  where
+    few : (form : List ℕ) → normalForm rule ≡ accepted form → nodeCount form ≤ maxTransitions
+    few form e = omega (arith, formed-fine releaseKind form (normal-form-passes rule form e) .most)
+
+-- 25, 1 to 7, 26, 29 and 20 to 24
+pub profile-translated-proper : (rule s t i : List ℕ) → Proper (profileTranslated rule s t i .answer)
+unfolding profileTranslated
+profile-translated-proper rule s t i =
+    stored-proper rule s t i (andThen (tableCheck s t i) (λ _. profileChecked rule))
+    (search (proper, tables-proper, profile-proper))
 
 -- 11
 state-proper : (s : List ℕ) (k : ℕ) → k ≤ maxTransitions → Proper (stateCheck s k)
@@ -310,6 +343,23 @@ unfolding readInto
 reads-proper image s t i =
     cases-proper (λ r. loaded r s t i .answer) (andThen (tableCheck s t i) (λ _. readImage image))
     (search (proper, tables-proper, image-proper)) (λ a. accepts) (λ number place. refl)
+
+-- 25 and 10 to 13, of the field unit
+watchable-proper : (image set : List ℕ) → Proper (watchable image set)
+unfolding watchable
+watchable-proper image set = search (proper, image-proper)
+
+pub started-proper : (image set : List ℕ) → Proper (started image set .answer)
+unfolding started
+started-proper image set =
+    cases-proper (λ r. unlessRefused r (λ a. begins a set) set .answer) (watchable image set)
+    (watchable-proper image set) (λ a. accepts) (λ number place. refl)
+
+pub stepped-proper : (image set : List ℕ) (x : ℕ) → Proper (stepped image set x .answer)
+unfolding stepped
+stepped-proper image set x =
+    cases-proper (λ r. unlessRefused r (λ a. advances a set x) set .answer) (watchable image set)
+    (watchable-proper image set) (λ a. accepts) (λ number place. refl)
 
 -- 10 of counts alone, and 11 to 13
 counted-proper : (c : Counts) (s t i : List ℕ) → Proper (readCounted c s t i)

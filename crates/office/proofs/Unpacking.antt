@@ -40,15 +40,18 @@ use Rattle.sameword.specs.Words.{compared}
 use Rattle.judge.specs.Judge.{workBytes, Verdict, kept, broken, Finding, finding, found, judged}
 use Rattle.judge.proofs.VerdictIff.{image-in-range}
 use Rattle.judge.proofs.Pairs.{found-few, judged-few}
+use Rattle.field.specs.Calls.{started, stepped}
+use Rattle.profile.specs.Profile.{profileChecked, profileTranslated, profileConflicts, profileTranslates}
 use Rattle.demands.specs.Demand.{roomCheck, inputCheck, concluded, decidedBy, decided}
 use Rattle.automaton.proofs.WellFormed.{few-together}
 use Rattle.correctness.proofs.WellFormed.{written-well-formed}
 use Rattle.correctness.proofs.BothSigns.{conflicts-byte}
 use Rattle.office.proofs.Refusals.{Refusal, Proper, normalizes-proper, merges-proper, translated-proper}
 use Rattle.office.proofs.Refusals.{reads-proper, writes-proper}
+use Rattle.office.proofs.Refusals.{profile-translated-proper, started-proper, stepped-proper}
 use Rattle.office.proofs.Refusals.{judged-proper, decided-proper, compared-proper}
 use Rattle.office.specs.Packing.{packRefusal, packThree, packCounts, packLength, packFinding, packVerdict}
-use Rattle.office.specs.Packing.{packSame, packConflicts, packTranslated}
+use Rattle.office.specs.Packing.{packBit, packConflicts, packTranslated}
 
 -- ---- the parts of an answer, as the header reads them
 
@@ -88,9 +91,9 @@ keptOf answer = answer / 256 % 2
 abbrev pub pairsOf : ℕ → ℕ
 pairsOf answer = answer / 65536 % 65536
 
--- zimboralo_same: answer >> 8 & 1
-abbrev pub sameOf : ℕ → ℕ
-sameOf answer = answer / 256 % 2
+-- zimboralo_same, zimboralo_alarm: answer >> 8 & 1
+abbrev pub bitOf : ℕ → ℕ
+bitOf answer = answer / 256 % 2
 
 -- ---- values that fit
 
@@ -126,11 +129,11 @@ translated-walk rule a e =
     let (states, walked, _) = then-accepted (generalized rule) _ after-sizes in
     (states, walked)
 
--- its counts
-pub translated-small : (rule s t i : List ℕ) (c : Counts) → translated rule s t i .answer ≡ accepted c → Small c
-unfolding translated stored
-translated-small rule s t i c e =
-    first (andThen (tableCheck s t i) (λ _. writtenChecked rule)) e
+-- its counts, whatever is checked before
+stored-small : (rule s t i : List ℕ) (check : Check) (c : Counts)
+    → unless check (stored (writtenTranslation rule) s t i) s t i .answer ≡ accepted c → Small c
+unfolding stored
+stored-small rule s t i check c e = first check e
   where
     second : (r : Result Automaton) → writtenTranslation rule ≡ r → stored r s t i .answer ≡ accepted c → Small c
     second (accepted a) known e =
@@ -145,11 +148,25 @@ translated-small rule s t i c e =
     first (accepted u) e = second (writtenTranslation rule) refl e
     first (refused number place) e = never-both e
 
+pub translated-small : (rule s t i : List ℕ) (c : Counts) → translated rule s t i .answer ≡ accepted c → Small c
+unfolding translated
+translated-small rule s t i = stored-small rule s t i (andThen (tableCheck s t i) (λ _. writtenChecked rule))
+
+pub profile-small : (rule s t i : List ℕ) (c : Counts) → profileTranslated rule s t i .answer ≡ accepted c → Small c
+unfolding profileTranslated
+profile-small rule s t i = stored-small rule s t i (andThen (tableCheck s t i) (λ _. profileChecked rule))
+
 -- its conflicts
 pub translated-byte : (rule s t i : List ℕ) (set : ℕ) → translatedConflicts rule s t i ≡ accepted set → set < 256
 unfolding translatedConflicts
 translated-byte rule s t i set e =
     let (_, _, carried) = then-accepted (andThen (tableCheck s t i) (λ _. writtenChecked rule)) _ e in
+    conflicts-byte rule set carried
+
+pub profile-byte : (rule s t i : List ℕ) (set : ℕ) → profileConflicts rule s t i ≡ accepted set → set < 256
+unfolding profileConflicts
+profile-byte rule s t i set e =
+    let (_, _, carried) = then-accepted (andThen (tableCheck s t i) (λ _. profileChecked rule)) _ e in
     conflicts-byte rule set carried
 
 -- two answers that are both accepted, or refused alike
@@ -158,9 +175,9 @@ pub data Alike {A B : Type 0} : Result A → Result B → Type 0 where
   neither : (number place : ℕ) → Alike (refused number place) (refused number place)
 
 -- an accepted translation carries conflicts, and a refused one has none but its refusal
-pub translated-alike : (rule s t i : List ℕ) → Alike (translated rule s t i .answer) (translatedConflicts rule s t i)
-unfolding translated translatedConflicts
-translated-alike rule s t i = first (andThen (tableCheck s t i) (λ _. writtenChecked rule))
+stored-alike : (rule s t i : List ℕ) (check : Check)
+    → Alike (unless check (stored (writtenTranslation rule) s t i) s t i .answer) (andThen check (λ _. writtenConflicts rule))
+stored-alike rule s t i check = first check
   where
     of-rule : (form : List ℕ) (made : Result Automaton) → translation form ≡ made
         → Alike (stored made s t i .answer) (ruleConflicts form)
@@ -181,6 +198,14 @@ translated-alike rule s t i = first (andThen (tableCheck s t i) (λ _. writtenCh
         → Alike (unless check (stored (writtenTranslation rule) s t i) s t i .answer) (andThen check (λ _. writtenConflicts rule))
     first (accepted u) = written-alike
     first (refused number place) = neither number place
+
+pub translated-alike : (rule s t i : List ℕ) → Alike (translated rule s t i .answer) (translatedConflicts rule s t i)
+unfolding translated translatedConflicts
+translated-alike rule s t i = stored-alike rule s t i (andThen (tableCheck s t i) (λ _. writtenChecked rule))
+
+pub profile-alike : (rule s t i : List ℕ) → Alike (profileTranslated rule s t i .answer) (profileConflicts rule s t i)
+unfolding profileTranslated profileConflicts
+profile-alike rule s t i = stored-alike rule s t i (andThen (tableCheck s t i) (λ _. profileChecked rule))
 
 -- of an accepted read
 pub reads-small : (image s t i : List ℕ) (c : Counts) → readInto image s t i .answer ≡ accepted c → Small c
@@ -275,9 +300,9 @@ pub record VerdictRead (packed : ℕ) (f : Finding) : Type 0 where
   pub verdict : keptOf packed ≡ elim (f .verdict) [ kept ↦ 1 | broken ↦ 0 ]
   pub pairs : pairsOf packed ≡ f .pairs
 
--- whether two lassos are one word, 1 for yes and 0 for no
-abbrev pub SameRead : (packed : ℕ) → Bool → Type 0
-SameRead packed b = sameOf packed ≡ elim b [ true ↦ 1 | false ↦ 0 ]
+-- whether two lassos are one word, or the alarm is raised: 1 for yes and 0 for no
+abbrev pub BitRead : (packed : ℕ) → Bool → Type 0
+BitRead packed b = bitOf packed ≡ elim b [ true ↦ 1 | false ↦ 0 ]
 
 -- ---- the packings
 
@@ -377,11 +402,11 @@ unfolding packVerdict
 verdict-unpacks (accepted f) p fits = finding-unpacks (f .verdict) (f .pairs) (fits f refl)
 verdict-unpacks (refused number place) p fits = unpacks-refused number place (p .refusal number place refl)
 
-same-unpacks : (r : Result Bool) → Proper r → Unpacks SameRead (packSame r) r
-unfolding packSame
-same-unpacks (accepted true) p = unpacks-accepted _ true (omega arith) (omega arith)
-same-unpacks (accepted false) p = unpacks-accepted _ false (omega arith) (omega arith)
-same-unpacks (refused number place) p = unpacks-refused number place (p .refusal number place refl)
+bit-unpacks : (r : Result Bool) → Proper r → Unpacks BitRead (packBit r) r
+unfolding packBit
+bit-unpacks (accepted true) p = unpacks-accepted _ true (omega arith) (omega arith)
+bit-unpacks (accepted false) p = unpacks-accepted _ false (omega arith) (omega arith)
+bit-unpacks (refused number place) p = unpacks-refused number place (p .refusal number place refl)
 
 -- ---- the calls
 
@@ -438,6 +463,27 @@ decide-unpacks rule stem cycle s t i image work =
 
 -- zimboralo_same_word
 pub same-word-unpacks : (stem cycle otherStem otherCycle : List ℕ)
-    → Unpacks SameRead (packSame (compared stem cycle otherStem otherCycle)) (compared stem cycle otherStem otherCycle)
+    → Unpacks BitRead (packBit (compared stem cycle otherStem otherCycle)) (compared stem cycle otherStem otherCycle)
 same-word-unpacks stem cycle otherStem otherCycle =
-    same-unpacks (compared stem cycle otherStem otherCycle) (compared-proper stem cycle otherStem otherCycle)
+    bit-unpacks (compared stem cycle otherStem otherCycle) (compared-proper stem cycle otherStem otherCycle)
+
+-- zimboralo_field_translate: the counts, and the conflicts
+abbrev packedProfile : (rule s t i : List ℕ) → ℕ
+packedProfile rule s t i = packTranslated (profileTranslates rule s t i) .answer
+
+pub field-translate-unpacks : (rule s t i : List ℕ)
+    → Unpacks CountsRead (packedProfile rule s t i) (profileTranslated rule s t i .answer)
+    × Unpacks ConflictsRead (packedProfile rule s t i) (profileConflicts rule s t i)
+field-translate-unpacks rule s t i =
+    translation-unpacks (profileTranslated rule s t i .answer) (profileConflicts rule s t i) (profile-alike rule s t i)
+    (profile-translated-proper rule s t i) (profile-small rule s t i) (profile-byte rule s t i)
+
+-- zimboralo_field_start
+pub field-start-unpacks : (image set : List ℕ)
+    → Unpacks BitRead (packBit (started image set .answer)) (started image set .answer)
+field-start-unpacks image set = bit-unpacks (started image set .answer) (started-proper image set)
+
+-- zimboralo_field_step
+pub field-step-unpacks : (image set : List ℕ) (x : ℕ)
+    → Unpacks BitRead (packBit (stepped image set x .answer)) (stepped image set x .answer)
+field-step-unpacks image set x = bit-unpacks (stepped image set x .answer) (stepped-proper image set x)

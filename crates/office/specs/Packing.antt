@@ -1,6 +1,6 @@
 -- An answer as one number of 64 bits. The lowest byte is the refusal's number, 0 where there is none. Above it stands
 -- the refusal's place, or the values: the three counts, with the conflicts where a rule was translated, the length of
--- what is stored, 1 for kept and 0 for broken with the number of pairs taken, or 1 for one word and 0 for two.
+-- what is stored, 1 for kept and 0 for broken with the number of pairs taken, or 1 for yes and 0 for no.
 use Prim.Native.Nat.{ℕ, _+_, _*_, _%_, _^_}
 use mathlib.Core.List.{List}
 use mathlib.Core.Bool.{Bool, true, false}
@@ -8,6 +8,7 @@ use Rattle.answer.specs.Result.{Result, accepted, refused}
 use Rattle.automaton.specs.Tables.{Counts, Outcome}
 use Rattle.translation.specs.Conflicts.{Carried}
 use Rattle.answer.specs.Buffer.{Buffer}
+use Rattle.field.specs.Calls.{Watch}
 use Rattle.judge.specs.Judge.{Verdict, kept, broken, Finding, Judgement}
 use Rattle.demands.specs.Demand.{Decision}
 
@@ -49,11 +50,11 @@ unfoldable pub packVerdict : Result Finding → ℕ
 packVerdict (accepted f) = packFinding (f .verdict) (f .pairs)
 packVerdict (refused number place) = packRefusal number place
 
--- whether two lassos are one word, in bit 8
-unfoldable pub packSame : Result Bool → ℕ
-packSame (accepted true) = 256
-packSame (accepted false) = 0
-packSame (refused number place) = packRefusal number place
+-- yes or no in bit 8: whether two lassos are one word (R-6), whether the alarm is raised (R-10)
+unfoldable pub packBit : Result Bool → ℕ
+packBit (accepted true) = 256
+packBit (accepted false) = 0
+packBit (refused number place) = packRefusal number place
 
 -- a packed answer with the three tables afterwards
 pub record PackedTables : Type 0 where
@@ -77,7 +78,8 @@ packTranslated x =
 abbrev pub countsOf : (states transitions initial : ℕ) → Counts
 countsOf states transitions initial = record { states = states; transitions = transitions; initial = initial }
 
--- a packed answer with one lent slice afterwards: the buffer of normalize, merge or write, judge's working bytes
+-- a packed answer with one lent slice afterwards: the buffer of normalize, merge or write, judge's working bytes,
+-- the field unit's set
 pub record PackedSlice : Type 0 where
   pub answer : ℕ
   pub slice : List ℕ
@@ -90,6 +92,9 @@ packBuffer b = packedSlice (packLength (b .answer)) (b .bytes)
 
 abbrev pub packJudgement : Judgement → PackedSlice
 packJudgement j = packedSlice (packVerdict (j .answer)) (j .work)
+
+abbrev pub packWatch : Watch → PackedSlice
+packWatch w = packedSlice (packBit (w .answer)) (w .set)
 
 -- a packed answer with decide's five buffers afterwards
 pub record PackedDecision : Type 0 where

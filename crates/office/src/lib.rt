@@ -3,6 +3,9 @@ use answer::Stored;
 use automaton::Counted;
 use automaton::Counts;
 use demands::decide;
+use field::Watched;
+use field::start;
+use field::step;
 use image::read;
 use image::write;
 use judge::Judged;
@@ -22,11 +25,14 @@ ghost use Rattle.image.specs.Calls.{readInto, writes};
 ghost use Rattle.answer.specs.Buffer.{storedAnswer};
 ghost use Rattle.automaton.specs.Tables.{told};
 ghost use Rattle.judge.specs.Judge.{judgeAnswer, judged};
+ghost use Rattle.field.specs.Calls.{watchAnswer, started, stepped};
+ghost use Rattle.profile.specs.Profile.{profileTranslates};
 ghost use Rattle.demands.specs.Demand.{decided};
 ghost use Rattle.sameword.specs.Words.{compared, comparison};
 ghost use Rattle.office.specs.Packing.{packRefusal, packThree, packSize, packPairs, packCounts, packLength};
 ghost use Rattle.office.specs.Packing.{packVerdict, packedTables, packOutcome, packedSlice, packBuffer, packJudgement};
-ghost use Rattle.office.specs.Packing.{packedDecision, packDecision, countsOf, packSame, packConflicts, packTranslated};
+ghost use Rattle.office.specs.Packing.{packedDecision, packDecision, countsOf, packConflicts, packTranslated};
+ghost use Rattle.office.specs.Packing.{packBit, packWatch};
 
 // A refusal's number and place.
 fn pack_refusal(number: u8, place: usize) -> u64
@@ -102,12 +108,23 @@ fn pack_judged(judged: Judged) -> u64
 
 // The answer of compare: 1 above the lowest byte for one word, 0 for two; or the refusal.
 fn pack_compared(compared: Compared) -> u64
-    ensures { λ r. ⌜ r ≡ packSame (comparison compared) ⌝ }
+    ensures { λ r. ⌜ r ≡ packBit (comparison compared) ⌝ }
 {
     match compared {
         Compared::Same => 256,
         Compared::Different => 0,
         Compared::Refused(number, place) => pack_refusal(number, place),
+    }
+}
+
+// The answer of start and step: 1 above the lowest byte where the alarm is raised, else 0; or the refusal.
+fn pack_watched(watched: Watched) -> u64
+    ensures { λ r. ⌜ r ≡ packBit (watchAnswer watched) ⌝ }
+{
+    match watched {
+        Watched::Quiet => 0,
+        Watched::Alarm => 256,
+        Watched::Refused(number, place) => pack_refusal(number, place),
     }
 }
 
@@ -222,8 +239,40 @@ pub extern "C" fn zimboralo_same_word(
     other_stem: &[u8],
     other_cycle: &[u8],
 ) -> u64
-    ensures { λ r. ⌜ r ≡ packSame (compared (now (stem .entry)) (now (cycle .entry))
+    ensures { λ r. ⌜ r ≡ packBit (compared (now (stem .entry)) (now (cycle .entry))
         (now («other_stem» .entry)) (now («other_cycle» .entry))) ⌝ }
 {
     pack_compared(compare(stem, cycle, other_stem, other_cycle))
+}
+
+// The automaton of a written rule that the field unit takes, as of zimboralo_translate; or a refusal, 29 for an until.
+#[no_mangle]
+pub extern "C" fn zimboralo_field_translate(
+    rule: &[u8],
+    states: &mut [u8],
+    transitions: &mut [u8],
+    initial: &mut [u8],
+) -> u64
+    ensures { λ r. ⌜ packedTables r (now (states .exit)) (now (transitions .exit)) (now (initial .exit))
+        ≡ packTranslated (profileTranslates (now (rule .entry))
+        (now (states .entry)) (now (transitions .entry)) (now (initial .entry))) ⌝ }
+{
+    pack_translated(profile::translate(rule, states, transitions, initial))
+}
+
+// The field unit's set before the first letter. Whether the alarm is raised, or a refusal.
+#[no_mangle]
+pub extern "C" fn zimboralo_field_start(image: &[u8], set: &mut [u8]) -> u64
+    ensures { λ r. ⌜ packedSlice r (now (set .exit)) ≡ packWatch (started (now (image .entry)) (now (set .entry))) ⌝ }
+{
+    pack_watched(start(image, set))
+}
+
+// The field unit's set after one letter more. Whether the alarm is raised, or a refusal.
+#[no_mangle]
+pub extern "C" fn zimboralo_field_step(image: &[u8], set: &mut [u8], letter: u8) -> u64
+    ensures { λ r. ⌜ packedSlice r (now (set .exit))
+        ≡ packWatch (stepped (now (image .entry)) (now (set .entry)) letter) ⌝ }
+{
+    pack_watched(step(image, set, letter))
 }

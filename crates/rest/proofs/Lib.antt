@@ -2,7 +2,6 @@
 pub mod Queue
 pub mod Points
 pub mod Reached
-pub mod LetterTests
 pub mod Places
 pub mod Marking
 pub mod Filling

@@ -3,15 +3,14 @@ use answer::number_at;
 use answer::wide;
 use answer::zero;
 use automaton::MAX_STATES;
+use automaton::reads_letter;
 use image::CONTENTS_BYTES;
 use image::INITIAL_COUNT_AT;
 ghost use mathlib.Core.Path.{_≡_};
-ghost use mathlib.Core.Bool.{true, false, _&&_};
+ghost use mathlib.Core.Bool.{true, false};
 ghost use mathlib.Core.List.{List, _∷_, []};
 ghost use Prim.Native.Nat.{ℕ, _+_, _*_, _<_, _≤_};
 ghost use lib.ListN.{length, getD, replicate};
-ghost use lib.Dec.{eqb};
-ghost use lib.Bits.{bitOr, bitAnd};
 ghost use Rattle.answer.specs.Bytes.{numberAt};
 ghost use Rattle.lasso.specs.Lasso.{letter};
 ghost use Rattle.automaton.specs.Automaton.{noState};
@@ -43,14 +42,6 @@ struct LevelEnd {
     rests: bool,
     pairs: usize,
     next: usize,
-}
-
-// Whether a transition with these propositions reads the letter, by one test: those that must hold and do not, joined
-// with those that must not and do, are none.
-pub fn reads_letter(must: u8, must_not: u8, letter: u8) -> bool
-    ensures { λ r. ⌜ r ≡ (eqb (bitOr must letter) letter && eqb (bitAnd «must_not» letter) 0) ⌝ }
-{
-    ((must | letter) ^ letter) | (must_not & letter) == 0
 }
 
 // A state that was not met at the position is marked and joins the list; how many the list has then.

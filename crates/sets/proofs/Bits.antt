@@ -1,11 +1,11 @@
 -- The bits of a number: the laws of bitOr, bitAnd and 2 ^ n over them, and the tests that the definitions make of them.
 -- Assumes nothing.
-use Prim.Native.Nat.{ℕ, suc, _+_, _-_, _/_, _%_, _^_, _<_, min, max}
+use Prim.Native.Nat.{ℕ, suc, _+_, _-_, _*_, _/_, _%_, _^_, _<_, min, max}
 use mathlib.Core.Path.{_≡_, refl, sym, _∙_, ap, subst}
 use mathlib.Core.Logic.{_⊎_, inl, inr}
 use mathlib.Core.Bool.{true, false}
 use native.Mathlib.Omega.{arith}
-use native.Mathlib.Nat.{mod-lt, div-eq-of-lt, div-self, mul-mod-left, mul-div-cancel, pow-suc, pow-succ'}
+use native.Mathlib.Nat.{one-mul, mod-eq-of-lt, mod-lt, div-eq-of-lt, div-self, mul-mod-left, mul-div-cancel, pow-suc, pow-succ'}
 use native.Mathlib.Nat.{div-div-eq-div-mul, div-one, div-lt-iff-lt-mul}
 use native.Mathlib.Decide.{ℕ-discrete, decLt}
 use lib.Arith.{bin-ind}
@@ -104,6 +104,10 @@ has-pow n m h = go (decLt n m) (decLt m n)
     go (yes l) d = absurd (below l)
     go (no l) (yes k) = absurd (above (n - suc m) (omega arith))
     go (no l) (no k) = omega arith
+
+-- 1 shifted by less than a word's width
+pub shifted-one : (width n : ℕ) → n < width → 1 * 2 ^ n % 2 ^ width ≡ 2 ^ n
+shifted-one width n lt = rw one-mul (mod-eq-of-lt (pow-lt {j = width} lt))
 
 -- the lowest bit, and the others
 odd-has : (x : ℕ) → x % 2 ≡ 1 → Has x 0

@@ -5,8 +5,9 @@ use mathlib.Core.Logic.{_⊎_, inl, inr, _↔_}
 use mathlib.Core.List.{List, [], _∷_, _++_, map}
 use mathlib.Core.Bool.{Bool, true, false, _||_, false≢true}
 use native.Mathlib.Omega.{arith}
+use native.Mathlib.Decide.{ℕ-discrete}
 use lib.ListN.{getD, length}
-use Rattle.sets.specs.Sets.{any, In}
+use Rattle.sets.specs.Sets.{any, anyBelow, In}
 
 -- P holds of each
 abbrev pub All : {A : Type 0} → (A → Type 0) → List A → Type 0
@@ -84,3 +85,36 @@ pub any-map : {A B : Type 0} (g : A → B) (p : B → Bool) (q : A → Bool) (xs
 unfolding any
 any-map g p q [] same = refl
 any-map g p q (x ∷ xs) same = rw (same x (inl refl), any-map g p q xs (λ y m. same y (inr m)))
+
+-- a test holds of one of the elements of two lists
+pub any-append : {A : Type 0} (test : A → Bool) (xs ys : List A) → any test (xs ++ ys) ≡ (any test xs || any test ys)
+unfolding any
+any-append test [] ys = refl
+any-append test (x ∷ xs) ys = go (test x) (any-append test xs ys)
+  where
+    go : (b : Bool) → any test (xs ++ ys) ≡ (any test xs || any test ys)
+        → (b || any test (xs ++ ys)) ≡ ((b || any test xs) || any test ys)
+    go true ih = refl
+    go false ih = ih
+
+-- a test holds of a number below n
+pub below-iff : (test : ℕ → Bool) (n : ℕ) → anyBelow test n ≡ true ↔ ((i : ℕ) × (i < n) × (test i ≡ true))
+unfolding anyBelow
+below-iff test zero = (λ e. absurd (false≢true e), λ (i, l, e). absurd (omega arith))
+below-iff test (suc n) = (there (below-iff test n), back (below-iff test n))
+  where
+    Some : ℕ → Type 0
+    Some k = (i : ℕ) × (i < k) × (test i ≡ true)
+
+    there : anyBelow test n ≡ true ↔ Some n → (anyBelow test n || test n) ≡ true → Some (suc n)
+    there ih e = elim (or-iff (anyBelow test n) (test n) .0 e) [
+      | inl p ↦ (let (i, l, q) = ih .0 p in (i, omega arith, q))
+      | inr p ↦ (n, omega arith, p)
+    ]
+
+    back : anyBelow test n ≡ true ↔ Some n → Some (suc n) → (anyBelow test n || test n) ≡ true
+    back ih (i, l, q) = or-iff (anyBelow test n) (test n) .1 (pick (ℕ-discrete i n))
+      where
+        pick : Dec (i ≡ n) → (anyBelow test n ≡ true) ⊎ (test n ≡ true)
+        pick (yes e) = inr (subst (λ (k : ℕ). test k ≡ true) e q)
+        pick (no e) = inl (ih .1 (i, omega arith, q))

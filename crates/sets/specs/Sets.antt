@@ -60,6 +60,11 @@ unfoldable pub any : {A : Type 0} → (A → Bool) → List A → Bool
 any test [] = false
 any test (x ∷ xs) = test x || any test xs
 
+-- whether a test holds of a number below n
+unfoldable pub anyBelow : (ℕ → Bool) → (n : ℕ) → Bool
+anyBelow test zero = false
+anyBelow test (suc n) = anyBelow test n || test n
+
 -- the bits that a number's two lowest bytes share
 abbrev pub conflictN : ℕ → ℕ
 conflictN t = bitAnd (t / 256) (t % 256)

@@ -12,12 +12,12 @@ use Rattle.translation.specs.Degeneralized.{translation}
 unfoldable pub writtenTranslation : List ℕ → Result Automaton
 writtenTranslation rule = andThen (normalForm rule) translation
 
--- the outcome for a rule that 25, 1 to 7 and 26 let pass
+-- the outcome for a rule that the checks before 20 let pass
 unfoldable pub stored : Result Automaton → (states transitions initial : List ℕ) → Outcome
 stored (accepted a) s t i = tabled a s t i
 stored (refused number place) s t i = outcome (refused number place) (zeros s) (zeros t) (zeros i)
 
--- 25, 1 to 7 and 26 leave the tables as they were
+-- the checks before 20 leave the tables as they were: 25, 1 to 7 and 26, and for the field unit 29
 abbrev pub unless : Check → Outcome → (states transitions initial : List ℕ) → Outcome
 unless (accepted u) rest s t i = rest
 unless (refused number place) rest s t i = outcome (refused number place) s t i

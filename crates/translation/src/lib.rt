@@ -535,8 +535,9 @@ fn build(
     }
 }
 
-// The same with a table of our own for the terms, a smaller one for a rule of few nodes: less to set to zero.
-fn build_tabled(
+// The same with a table of our own for the terms, a smaller one for a rule of few nodes: less to set to zero. This is
+// `translate` for a first-edition rule that has been checked, and tables that fit.
+pub fn build_tabled(
     rule: &[u8],
     states: &mut [u8],
     transitions: &mut [u8],

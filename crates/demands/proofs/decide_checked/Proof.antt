@@ -4,7 +4,8 @@ use mathlib.Core.Path.{_≡_, sym, ap}
 use lib.Seq.{length-take-le}
 use Rattle.translation.specs.Conflicts.{toldCounts, Carried}
 use Rattle.answer.specs.Buffer.{storedAnswer}
-use Rattle.demands.proofs.Deciding.{rule-refused, write-refused, image-inside, lasso-judged}
+use Rattle.demands.proofs.TwoCalls.{write-refused, image-inside}
+use Rattle.demands.proofs.Deciding.{passed, rule-refused, lasso-judged}
 use borrow.Author.Needs.{needs}
 use Rattle.demands.proofs.decide_checked.Statement.{statement}
 use Rattle.demands.proofs.decide_checked.Tie as tie
@@ -21,8 +22,9 @@ slice-reshare-prefix-judge c =
     let start =
     called .before .before .before .before .before .before .before .before .before .before .before .before in
     let a = start .args in
-    image-inside (a .rule .now) (a .stem .now) (a .cycle .now) (a .states .now) (a .transitions .now) (a .initial .now)
-    (a .image .now) (a .work .now) (start .pre) _ _ _ (tables (called .translate .ensures)) _
+    let fits = passed _ _ _ _ _ _ _ _ (start .pre) in
+    image-inside (a .rule .now) (a .states .now) (a .transitions .now) (a .initial .now) (a .image .now)
+    (fits .room .tables) (fits .room .buffer) (fits .bytes) _ _ _ (tables (called .translate .ensures)) _
     (ap toldCounts (matched .counts .given .1)) _ (stored .write .ensures) _
     (ap storedAnswer (c .before .length .given .1))
 
@@ -44,7 +46,8 @@ returns-2 c =
     let called = matched .before .before .before .before .before .before .before .before in
     let start =
     called .before .before .before .before .before .before .before .before .before .before .before .before in
-    write-refused _ _ _ _ _ _ _ _ (start .pre) _ _ _ (tables (called .translate .ensures)) _
+    let fits = passed _ _ _ _ _ _ _ _ (start .pre) in
+    write-refused _ _ _ _ _ (fits .room .tables) (fits .room .buffer) (fits .bytes) _ _ _ (tables (called .translate .ensures)) _
     (ap toldCounts (matched .counts .given .1)) _ (stored .write .ensures)
     (ap storedAnswer (c .before .number2 .given .1))
 

@@ -1,9 +1,9 @@
--- `rest::reads_letter` meets its contract: the two tests of `reads` in one (`tests-joined`).
+-- `automaton::reads_letter` meets its contract: the two tests of `reads` in one (`tests-joined`).
 -- Assumes nothing.
 use lib.Bits.{bitAnd, bitOr}
-use Rattle.rest.proofs.LetterTests.{tests-joined}
-use Rattle.rest.proofs.reads_letter.Statement.{statement}
-use Rattle.rest.proofs.reads_letter.Tie as tie
+use Rattle.automaton.proofs.LetterTests.{tests-joined}
+use Rattle.automaton.proofs.reads_letter.Statement.{statement}
+use Rattle.automaton.proofs.reads_letter.Tie as tie
 
 returns : tie.Need-returns
 returns c =
