@@ -17,7 +17,7 @@ use Rattle.formula.specs.Formula.{trees, tree, formula}
 use Rattle.normalform.specs.Written.{writtenCheck, writtenTree}
 use Rattle.normalform.specs.NormalForm.{code, below, member, rank, emit, size, result, normalForm}
 use Rattle.normalform.specs.NormalForm
-use Rattle.lasso.specs.Lasso.{remaining, letter, lassoCheck}
+use Rattle.lasso.specs.Lasso.{remaining, letter, after, lassoCheck}
 use Rattle.term.specs.Term.{cover, terms, conflicts}
 use Rattle.term.specs.Size.{sizeCheck, sizesChecked}
 use Rattle.generalized.specs.Explore.{find, meet, meetAll, explore}
@@ -340,7 +340,7 @@ findings :
     ≡ map (λ row. map (λ c. c .finds) (row .cases)) table
 unfolding on state transition writtenAs table p1 p2 p3 p4 p5 p6 p7 p8 p9 p4Written p5Written p9Written ifOpenPadded
     bothWays bothWaysNext
-    remaining letter any atRest Search.visit Search.visitAll Search.readTargets Search.after Search.onward Search.reach
+    remaining letter any atRest Search.visit Search.visitAll Search.readTargets after Search.onward Search.reach
     Search.reachedFrom Search.starts upTo taken restTaken pairsTaken hasAcceptingPass verdict
 findings = refl
 

@@ -12,13 +12,13 @@ use lib.ListN.{getD, length}
 use lib.Dec.{eqb, ltb}
 use lib.Bits.{bitAnd, bitOr, and-zero-l, or-zero-l}
 use borrow.Author.Tests.{eqb-true, eq-eqb, lt-ltb, le-ltb}
-use Rattle.lasso.specs.Lasso.{letter}
+use Rattle.lasso.specs.Lasso.{letter, after}
 use Rattle.sets.specs.Sets.{In}
 use Rattle.sets.proofs.Members.{any-iff}
 use Rattle.automaton.specs.Automaton.{Transition, Automaton, noState, reads, freeTo, atRest, Step, Accepts}
 use Rattle.automaton.specs.Automaton.{AcceptingPass}
 use Rattle.automaton.proofs.InRange.{InRange}
-use Rattle.rest.specs.Search.{Point, after, reachedFrom, starts}
+use Rattle.rest.specs.Search.{Point, reachedFrom, starts}
 use Rattle.rest.specs.Rest.{upTo, resting, taken, restTaken}
 use Rattle.rest.proofs.Points.{onto, letter-onto, onward-step}
 use Rattle.judge.specs.Search.{hasAcceptingPass}

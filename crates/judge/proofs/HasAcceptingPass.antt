@@ -9,13 +9,13 @@ use native.Mathlib.Omega.{arith}
 use native.Mathlib.Nat.{mul-le-mul-right, suc-mul}
 use native.Mathlib.Decide.{decLt, le-ind}
 use lib.ListN.{length}
-use Rattle.lasso.specs.Lasso.{letter}
+use Rattle.lasso.specs.Lasso.{letter, after}
 use Rattle.automaton.specs.Automaton.{Automaton, Accepts, AcceptingPass}
 use Rattle.sets.specs.Sets.{In}
 use Rattle.sets.proofs.Members.{All, map-in, in-map, any-iff}
 use Rattle.automaton.proofs.Passes.{AutomatonOver, Endless, Pass, numbered, pass-iff, endless-pass, pass-endless}
 use Rattle.judge.proofs.Runs.{Leads, same-letter, leads-none, leads-one, leads-on, on-early, on-late, leads-snoc}
-use Rattle.rest.specs.Search.{Point, point, member, after, onward, reachedFrom, starts}
+use Rattle.rest.specs.Search.{Point, point, member, onward, reachedFrom, starts}
 use Rattle.judge.specs.Search.{accepting, hasAcceptingPass}
 use Rattle.rest.proofs.Queue.{Within, few-points, member-iff}
 use Rattle.rest.proofs.Reached.{Reached, search-reaches}

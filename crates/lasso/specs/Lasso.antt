@@ -31,6 +31,10 @@ unfoldable pub letter : (stem cycle : List ℕ) → ℕ → ℕ
 letter stem cycle i =
     cond (ltb i (length stem)) (getD stem i 0) (getD cycle ((i - length stem) % length cycle) 0)
 
+-- positions run over stem and cycle; after the last comes the cycle's first
+unfoldable pub after : (stem cycle : List ℕ) (position : ℕ) → ℕ
+after stem cycle p = cond (ltb (suc p) (length stem + length cycle)) (suc p) (length stem)
+
 -- the most letters that a lasso may have, stem and cycle together: one for each half hour of a week (01, Numbers that
 -- come from the input, 9, with the figure of 02, R-2)
 abbrev pub maxLetters : ℕ

@@ -1,14 +1,14 @@
-// Lassos: refusals 8, 9 and 28, and the letters that remain.
+// Lassos: refusals 8, 9 and 28, the letters that remain, and the letters at positions.
 use answer::Checked;
 ghost use mathlib.Core.Path.{_≡_};
 ghost use mathlib.Core.Bool.{true};
 ghost use mathlib.Core.Logic.{_↔_};
 ghost use mathlib.Core.List.{[], _∷_};
-ghost use Prim.Native.Nat.{_+_, _≤_};
+ghost use Prim.Native.Nat.{_+_, _<_, _≤_};
 ghost use lib.ListN.{length, take};
 ghost use lib.Dec.{leb, ltb};
 ghost use Rattle.answer.specs.Result.{answer};
-ghost use Rattle.lasso.specs.Lasso.{remaining, maxLetters, lassoCheck};
+ghost use Rattle.lasso.specs.Lasso.{remaining, letter, after, maxLetters, lassoCheck};
 
 // The numbers of document 01 by which a lasso is refused.
 pub const EMPTY_CYCLE: u8 = 8;
@@ -110,4 +110,29 @@ pub fn check_lasso(stem: &[u8], cycle: &[u8]) -> Checked
         return Checked::Refused(ALL_SKIPPED, 0);
     }
     Checked::Accepted
+}
+
+// The position after one.
+pub fn position_after(stem: &[u8], cycle: &[u8], position: usize) -> usize
+    requires { ⌜ (position < length (now stem) + length (now cycle)) × (0 < length (now cycle)) ⌝ }
+    ensures { λ r. ⌜ r ≡ after (now (stem .entry)) (now (cycle .entry)) position ⌝ }
+{
+    if position < stem.len() {
+        return position + 1;
+    }
+    if position - stem.len() + 1 < cycle.len() {
+        return position + 1;
+    }
+    stem.len()
+}
+
+// The letter at a position.
+pub fn letter_at(stem: &[u8], cycle: &[u8], position: usize) -> u8
+    requires { ⌜ position < length (now stem) + length (now cycle) ⌝ }
+    ensures { λ r. ⌜ r ≡ letter (now (stem .entry)) (now (cycle .entry)) position ⌝ }
+{
+    if position < stem.len() {
+        return stem[position];
+    }
+    cycle[position - stem.len()]
 }

@@ -10,7 +10,8 @@ use native.Mathlib.Nat.{mul-le-mul-right}
 use native.Mathlib.Numerals.{add-one}
 use lib.ListN.{getD, length, replicate, take, length-append, length-map, List·getD-append}
 use lib.Seq.{getD-take, getD-append-add}
-use Rattle.lasso.specs.Lasso.{letter}
+use Rattle.lasso.specs.Lasso.{letter, after}
+use Rattle.lasso.proofs.Letters.{after-small}
 use Rattle.sets.proofs.Members.{map-at}
 use Rattle.automaton.specs.Automaton.{Automaton, noState, atRest}
 use Rattle.automaton.specs.Limits.{maxStates}
@@ -19,12 +20,11 @@ use Rattle.image.specs.Reader.{countsAt}
 use Rattle.image.specs.Image.{restAt}
 use Rattle.image.specs.Lookup.{imageAutomaton, Readable}
 use Rattle.answer.proofs.Zeros.{zeros-at}
-use Rattle.rest.specs.Search.{Point, point, visitAll, readTargets, after, onward, starts}
+use Rattle.rest.specs.Search.{Point, point, visitAll, readTargets, onward, starts}
 use Rattle.rest.specs.Rest.{resting, restTaken, pairsTaken}
 use Rattle.rest.specs.Memory.{Marked, Marks, Buffers, buffers, Shows, Ready, Fills}
 use Rattle.rest.specs.Memory.{Searching, ReachedMarked, Before, Ended}
 use Rattle.rest.proofs.Queue.{at}
-use Rattle.rest.proofs.Points.{after-small}
 use Rattle.rest.proofs.Marking.{shows-long}
 use Rattle.rest.proofs.Searching.{searching-begins, searching-few, searching-goes, rest-taken, rest-pairs}
 use Rattle.rest.proofs.Searching.{searched-all, searched-calm, searched-pairs}

@@ -1,43 +1,17 @@
--- Where things are: the letter at a position and the position after it, and where the records of each state begin.
--- Assumes nothing.
-use Prim.Native.Nat.{ℕ, suc, _+_, _-_, _*_, _<_, _≤_}
+-- Where the records of each state begin. Assumes nothing.
+use Prim.Native.Nat.{ℕ, _+_, _*_, _<_, _≤_}
 use mathlib.Core.Path.{_≡_, sym, _∙_, ap}
 use mathlib.Core.List.{List}
 use native.Mathlib.Omega.{arith}
-use native.Mathlib.Nat.{mod-eq-of-lt}
-use native.Mathlib.Numerals.{add-one}
 use native.Mathlib.Decide.{ℕ-discrete}
 use lib.ListN.{getD, length, set, length-set}
 use lib.Seq.{getD-set-same, getD-set-other}
-use borrow.Author.Tests.{lt-ltb, le-ltb}
-use Rattle.lasso.specs.Lasso.{letter}
 use Rattle.automaton.specs.Limits.{maxStates}
 use Rattle.image.specs.Image.{contentsBytes}
 use Rattle.image.specs.Reader.{countsAt}
 use Rattle.image.specs.Lookup.{recordsAt, transitionCountOf, Readable}
 use Rattle.image.proofs.Lookup.{records-begin, records-next}
-use Rattle.rest.specs.Search.{after}
 use Rattle.rest.specs.Memory.{Placed}
-
-module _ (stem cycle : List ℕ) (p : ℕ) where
-  pub letter-stem : p < length stem → getD stem p 0 ≡ letter stem cycle p
-  unfolding letter
-  letter-stem l = sym (rw (lt-ltb p (length stem) l))
-
-  pub letter-cycle : length stem ≤ p → p < length stem + length cycle
-      → getD cycle (p - length stem) 0 ≡ letter stem cycle p
-  unfolding letter
-  letter-cycle l m =
-      let lt : p - length stem < length cycle = omega arith in
-      sym (rw (le-ltb p (length stem) l) (ap (λ (i : ℕ). getD cycle i 0) (mod-eq-of-lt lt)))
-
-  pub after-next : p + 1 < length stem + length cycle → p + 1 ≡ after stem cycle p
-  unfolding after
-  after-next l = add-one p ∙ sym (rw (lt-ltb (suc p) (length stem + length cycle) (omega arith)))
-
-  pub after-last : length stem + length cycle ≤ p + 1 → length stem ≡ after stem cycle p
-  unfolding after
-  after-last l = sym (rw (le-ltb (suc p) (length stem + length cycle) (omega arith)))
 
 -- the loop over the states that stands at q, with the records of state q at byte `at`
 pub record Placing (image places : List ℕ) (at q : ℕ) : Type 0 where

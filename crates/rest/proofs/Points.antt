@@ -1,6 +1,6 @@
 -- The positions that a run goes through, letter after letter, and the points on its way: the points that follow from a
 -- point are those that a step leads to. Assumes nothing, but where it is said that the cycle has a letter.
-use Prim.Native.Nat.{ℕ, zero, suc, _+_, _-_, _*_, _<_, _≤_}
+use Prim.Native.Nat.{ℕ, zero, suc, _+_, _-_, _*_, _<_}
 use mathlib.Core.Path.{_≡_, refl, sym, _∙_, ap, subst}
 use mathlib.Core.Logic.{inl, inr}
 use mathlib.Core.List.{List, [], _∷_}
@@ -9,14 +9,13 @@ use native.Mathlib.Omega.{arith}
 use native.Mathlib.Nat.{suc-mul}
 use native.Mathlib.Decide.{decLt}
 use lib.ListN.{getD, length}
-use borrow.Author.Tests.{lt-ltb, le-ltb}
-use Rattle.lasso.specs.Lasso.{letter}
+use Rattle.lasso.specs.Lasso.{letter, after}
 use Rattle.automaton.specs.Automaton.{Transition, Automaton, noState, reads, Step}
 use Rattle.sets.specs.Sets.{In}
-use Rattle.lasso.proofs.Letters.{letter-round}
+use Rattle.lasso.proofs.Letters.{letter-round, after-inside, after-last, after-small}
 use Rattle.sets.proofs.Members.{All}
 use Rattle.automaton.proofs.InRange.{InRange}
-use Rattle.rest.specs.Search.{Point, point, readTargets, after, onward}
+use Rattle.rest.specs.Search.{Point, point, readTargets, onward}
 use Rattle.rest.proofs.Queue.{Within}
 
 module _ (stem cycle : List ℕ) where
@@ -26,21 +25,6 @@ module _ (stem cycle : List ℕ) where
   abbrev n : ℕ
   n = length cycle
 
-  after-inside : (p : ℕ) → suc p < s + n → after stem cycle p ≡ suc p
-  unfolding after
-  after-inside p l = rw (lt-ltb (suc p) (s + n) l)
-
-  after-last : (p : ℕ) → s + n ≤ suc p → after stem cycle p ≡ s
-  unfolding after
-  after-last p l = rw (le-ltb (suc p) (s + n) l)
-
-  pub after-small : 0 < n → (p : ℕ) → after stem cycle p < s + n
-  after-small pos p = go (decLt (suc p) (s + n))
-    where
-      go : Dec (suc p < s + n) → after stem cycle p < s + n
-      go (yes l) = omega (arith, after-inside p l)
-      go (no l) = omega (arith, after-last p (omega arith))
-
   -- the position after i letters
   unfoldable pub onto : ℕ → ℕ
   onto zero = 0
@@ -49,7 +33,7 @@ module _ (stem cycle : List ℕ) where
   onto-early : (i : ℕ) → i < s + n → onto i ≡ i
   unfolding onto
   onto-early zero l = refl
-  onto-early (suc i) l = ap (after stem cycle) (onto-early i (omega arith)) ∙ after-inside i l
+  onto-early (suc i) l = ap (after stem cycle) (onto-early i (omega arith)) ∙ after-inside stem cycle i l
 
   -- the position n letters on is the same
   module _ (pos : 0 < n) where
@@ -59,7 +43,7 @@ module _ (stem cycle : List ℕ) where
         let z : s + 0 + n ≡ suc (s + (n - 1)) = omega arith in
         let y : s + 0 ≡ s = omega arith in
         ap onto z ∙ ap (after stem cycle) (onto-early (s + (n - 1)) (omega arith))
-        ∙ after-last (s + (n - 1)) (omega arith) ∙ sym (ap onto y ∙ onto-early s (omega arith))
+        ∙ after-last stem cycle (s + (n - 1)) (omega arith) ∙ sym (ap onto y ∙ onto-early s (omega arith))
     onto-round (suc d) =
         let z : s + suc d + n ≡ suc (s + d + n) = omega arith in
         let y : s + suc d ≡ suc (s + d) = omega arith in

@@ -12,7 +12,8 @@ use Rattle.automaton.specs.Automaton.{Automaton}
 use Rattle.automaton.specs.Limits.{maxStates}
 use Rattle.image.specs.Reader.{countsAt}
 use Rattle.image.specs.Lookup.{recordsAt}
-use Rattle.rest.specs.Search.{Point, point, visitAll, after, reach, reachedFrom, starts}
+use Rattle.lasso.specs.Lasso.{after}
+use Rattle.rest.specs.Search.{Point, point, visitAll, reach, reachedFrom, starts}
 use Rattle.rest.specs.Rest.{resting, restTaken, pairsTaken}
 
 -- ---- the image

@@ -2,11 +2,11 @@
 -- reached from given ones, in the order in which they are met and taken.
 use Prim.Native.Nat.{ℕ, zero, suc, _+_, _*_}
 use mathlib.Core.List.{List, [], _∷_, _++_, map}
-use mathlib.Core.Bool.{Bool, true, false, cond, _&&_}
+use mathlib.Core.Bool.{Bool, true, false, _&&_}
 use lib.ListN.{getD, length}
 use lib.Dec.{eqb, ltb}
 use Rattle.sets.specs.Sets.{any}
-use Rattle.lasso.specs.Lasso.{letter}
+use Rattle.lasso.specs.Lasso.{letter, after}
 use Rattle.automaton.specs.Automaton.{Transition, Automaton, noState, reads}
 
 pub record Point : Type 0 where
@@ -37,10 +37,6 @@ readTargets x next (t ∷ ts) = elim (reads t x) [
   | true ↦ point next (t .target) ∷ readTargets x next ts
   | false ↦ readTargets x next ts
 ]
-
--- positions run over stem and cycle; after the last comes the cycle's first
-unfoldable pub after : (stem cycle : List ℕ) (position : ℕ) → ℕ
-after stem cycle p = cond (ltb (suc p) (length stem + length cycle)) (suc p) (length stem)
 
 module _ (a : Automaton) (stem cycle : List ℕ) where
   -- the points that a step leads to

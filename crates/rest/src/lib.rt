@@ -6,18 +6,19 @@ use automaton::MAX_STATES;
 use automaton::reads_letter;
 use image::CONTENTS_BYTES;
 use image::INITIAL_COUNT_AT;
+use lasso::letter_at;
+use lasso::position_after;
 ghost use mathlib.Core.Path.{_≡_};
 ghost use mathlib.Core.Bool.{true, false};
 ghost use mathlib.Core.List.{List, _∷_, []};
 ghost use Prim.Native.Nat.{ℕ, _+_, _*_, _<_, _≤_};
 ghost use lib.ListN.{length, getD, replicate};
 ghost use Rattle.answer.specs.Bytes.{numberAt};
-ghost use Rattle.lasso.specs.Lasso.{letter};
 ghost use Rattle.automaton.specs.Automaton.{noState};
 ghost use Rattle.automaton.specs.Limits.{maxStates};
 ghost use Rattle.image.specs.Reader.{countsAt};
 ghost use Rattle.image.specs.Lookup.{imageAutomaton, recordAt, Readable};
-ghost use Rattle.rest.specs.Search.{point, readTargets, after, starts};
+ghost use Rattle.rest.specs.Search.{point, readTargets, starts};
 ghost use Rattle.rest.specs.Rest.{restTaken, pairsTaken};
 ghost use Rattle.rest.specs.Memory.{Placed, buffers, Ready, Fills, Before, Ended, ReachedMarked};
 
@@ -129,31 +130,6 @@ fn find_places(image: &[u8], n: usize) -> Places
         q += 1;
     }
     places
-}
-
-// The position after one.
-pub fn position_after(stem: &[u8], cycle: &[u8], position: usize) -> usize
-    requires { ⌜ (position < length (now stem) + length (now cycle)) × (0 < length (now cycle)) ⌝ }
-    ensures { λ r. ⌜ r ≡ after (now (stem .entry)) (now (cycle .entry)) position ⌝ }
-{
-    if position < stem.len() {
-        return position + 1;
-    }
-    if position - stem.len() + 1 < cycle.len() {
-        return position + 1;
-    }
-    stem.len()
-}
-
-// The letter at a position.
-pub fn letter_at(stem: &[u8], cycle: &[u8], position: usize) -> u8
-    requires { ⌜ position < length (now stem) + length (now cycle) ⌝ }
-    ensures { λ r. ⌜ r ≡ letter (now (stem .entry)) (now (cycle .entry)) position ⌝ }
-{
-    if position < stem.len() {
-        return stem[position];
-    }
-    cycle[position - stem.len()]
 }
 
 // The states of a level are taken in order, of which there are `count`, at the position, until one is at rest; `taken`

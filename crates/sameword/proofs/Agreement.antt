@@ -10,9 +10,9 @@ use native.Mathlib.Decide.{ℕ-discrete}
 use lib.ListN.{length}
 use lib.Dec.{eqb}
 use borrow.Author.Tests.{eqb-true, eq-eqb}
-use Rattle.lasso.specs.Lasso.{letter}
-use Rattle.rest.specs.Search.{after}
-use Rattle.rest.proofs.Points.{onto, letter-onto, after-small}
+use Rattle.lasso.specs.Lasso.{letter, after}
+use Rattle.lasso.proofs.Letters.{after-small}
+use Rattle.rest.proofs.Points.{onto, letter-onto}
 use Rattle.sameword.specs.Words.{agree}
 
 module _ (word other : ℕ → ℕ) where
