@@ -1,5 +1,5 @@
 /* bench FILE REPEAT: the sum of the answers and the nanoseconds of one round over the cases of FILE, the best of REPEAT.
- * The cases are those of tests/host/serve.c, T, J, R, S, M and A alone; R reads an image and writes nothing. */
+ * The cases are those of tests/host/serve.c, T, J, R, S, M, A, E and K alone; R reads an image and writes nothing. */
 #include <stdio.h>
 #include <stdlib.h>
 #include <time.h>
@@ -43,6 +43,10 @@ static uint64_t answer(const struct one *c)
         return zimboralo_merge_rules(s[0].at, s[0].length, s[1].at, s[1].length, &merged);
     if (c->kind == 'A')
         return watch(&s[0], &s[1]);
+    if (c->kind == 'E')
+        return zimboralo_explain(s[0].at, s[0].length, s[1].at, s[1].length, s[2].at, s[2].length);
+    if (c->kind == 'K')
+        return zimboralo_satisfies(s[0].at, s[0].length, s[1].at, s[1].length, s[2].at, s[2].length);
     if (c->kind == 'S')
         return zimboralo_same_word(s[0].at, s[0].length, s[1].at, s[1].length, s[2].at, s[2].length, s[3].at,
                                    s[3].length);
@@ -50,7 +54,10 @@ static uint64_t answer(const struct one *c)
 }
 
 /* How many slices a case has. */
-static int slices_of(int kind) { return kind == 'S' ? 4 : kind == 'J' ? 3 : kind == 'M' || kind == 'A' ? 2 : 1; }
+static int slices_of(int kind)
+{
+    return kind == 'S' ? 4 : kind == 'J' || kind == 'E' || kind == 'K' ? 3 : kind == 'M' || kind == 'A' ? 2 : 1;
+}
 
 static long long now(void)
 {

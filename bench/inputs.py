@@ -1,5 +1,5 @@
-"""The benchmark's inputs, a file of cases for each group, in the form that tests/host/serve.c reads (T, J, R, S, M and
-A)."""
+"""The benchmark's inputs, a file of cases for each group, in the form that tests/host/serve.c reads (T, J, R, S, M, A, E
+and K)."""
 import os
 import random
 import struct
@@ -11,8 +11,8 @@ import merged  # noqa: E402
 import rules  # noqa: E402
 import words  # noqa: E402
 import written  # noqa: E402
-from nodes import (ALWAYS, AND, EVENTUALLY, FALSE, IMPLIES, NEGATION, NEXT, NOT, OR, PROPOSITION,  # noqa: E402
-                   PROPOSITIONS, RELEASE, TRUE, UNTIL, Builder, second)
+from nodes import (ALWAYS, AND, EVENTUALLY, FALSE, IMPLIES, MAX_NODES, NEGATION, NEXT, NOT, OR,  # noqa: E402
+                   PROPOSITION, PROPOSITIONS, RELEASE, TRUE, UNTIL, Builder, second)
 
 
 def theta(n):
@@ -171,6 +171,11 @@ def plans(cases):
     return b"".join(framed(b"J", *case) for case in cases)
 
 
+def by_meaning(kind, cases):
+    """To explain, or to tell whether they are satisfied: rules with plans."""
+    return b"".join(framed(kind, *case) for case in cases)
+
+
 def loads(images, kind=b"R"):
     return b"".join(framed(kind, image) for image in images)
 
@@ -213,9 +218,34 @@ def accepted_rules(draw, seed, count):
     return out
 
 
+def full_rules(count):
+    """Rules of as many nodes as there may be, with eight untils at most."""
+    rng, out = random.Random(10), []
+    while len(out) < count:
+        rule = merged.of_size(rng, MAX_NODES)
+        if sum(kind == UNTIL for kind in rule[::3]) <= merged.MAX_UNTILS:
+            out.append(rule)
+    return out
+
+
+def with_plans(cases, letters, count, draw=lassos.unskipped):
+    """Each rule with a plan of so many letters, half of them in the stem."""
+    return [(rule, draw(letters, count // 2), draw(letters, count - count // 2)) for rule in cases]
+
+
+def meanings(random_rules):
+    """Name, rules with plans of each group to explain and to tell whether they are satisfied."""
+    letters = random.Random(11)
+    return [("200 random rules, 12 slots", with_plans(random_rules, letters, 12)),
+            (f"200 random rules, {MOST} slots", with_plans(random_rules, letters, MOST)),
+            (f"200 random rules, {MOST} slots of which some are skipped",
+             with_plans(random_rules, letters, MOST, some_skipped)),
+            (f"50 rules of {MAX_NODES} nodes, {MOST} slots", with_plans(full_rules(50), letters, MOST))]
+
+
 def groups():
     """Name and cases of each group: first those to translate, all of kinds 0 to 8, then those to judge, then those to
-    compare, then those to merge."""
+    compare, then those to merge, then those to explain and to tell whether they are satisfied."""
     random_rules = accepted_rules(rules.first_edition, 7, 200)
     letters = random.Random(3)
     images = [second.write(second.translate(rule)) for rule in random_rules]
@@ -241,7 +271,8 @@ def groups():
         (f"judge: a full image, {MOST} slots", plans([(full, b"", word)])),
         ("compare: 200 plans, each in two ways", b"".join(plans_twice(200))),
         ("merge: 200 pairs of rules", b"".join(rule_pairs(200))),
-    ]
+    ] + [(f"{call}: {name}", by_meaning(kind, cases)) for call, kind in (("explain", b"E"), ("satisfies", b"K"))
+         for name, cases in meanings(random_rules)]
 
 
 def editions():

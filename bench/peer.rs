@@ -1,5 +1,5 @@
-//! The peer of the benchmark: the same translation, loading, judging, comparing and merging in idiomatic Rust, with the
-//! standard library alone. `bench/run` holds its answers against the library's while both are timed.
+//! The peer of the benchmark: the same translation, loading, judging, comparing, merging and explaining in idiomatic
+//! Rust, with the standard library alone. `bench/run` holds its answers against the library's while both are timed.
 use std::borrow::Cow;
 
 #[derive(Clone, Copy, PartialEq, Eq)]
@@ -592,7 +592,7 @@ fn load(image: &[u8], pass: impl Fn(&[u8]) -> Answer<usize>, tables: &mut Tables
     Ok([states.len() / 4, transitions.len() / 4, initial.len() / 2])
 }
 
-/// Cases as `tests/host/serve.c` reads them, T, J, R, S, M and A alone; and r, which is R with two passes over state
+/// Cases as `tests/host/serve.c` reads them, T, J, R, S, M, A, E and K alone; and r, which is R with two passes over state
 /// records, and a, which is A with the image checked once and not at every step.
 fn cases(bytes: &[u8]) -> Vec<(u8, Vec<&[u8]>)> {
     let mut out = Vec::new();
@@ -601,7 +601,7 @@ fn cases(bytes: &[u8]) -> Vec<(u8, Vec<&[u8]>)> {
         let kind = bytes[at];
         at += 1;
         let mut slices = Vec::new();
-        for _ in 0..match kind { b'S' => 4, b'J' => 3, b'M' | b'A' | b'a' => 2, _ => 1 } {
+        for _ in 0..match kind { b'S' => 4, b'J' | b'E' | b'K' => 3, b'M' | b'A' | b'a' => 2, _ => 1 } {
             let n = u32::from_le_bytes(bytes[at..at + 4].try_into().unwrap()) as usize;
             slices.push(&bytes[at + 4..at + 4 + n]);
             at += 4 + n;
@@ -677,6 +677,78 @@ fn watch(image: &[u8], letters: &[u8], each: bool) -> Answer<u64> {
     Ok(256 * alarms + set.to_le_bytes().iter().map(|&byte| byte as u64).sum::<u64>())
 }
 
+/// For each node, whether it holds at each letter of the lasso: an until or a release by two rounds backwards.
+fn truth(nodes: &[Node], stem: &[u8], cycle: &[u8]) -> Vec<Vec<bool>> {
+    let word = [stem, cycle].concat();
+    let (s, total) = (stem.len(), word.len());
+    let mut rows: Vec<Vec<bool>> = Vec::with_capacity(nodes.len());
+    for node in nodes {
+        let both = || rows[node.left].iter().zip(&rows[node.right]);
+        let row = match node.kind {
+            0 | 1 => vec![node.kind == 1; total],
+            2 | 3 => word.iter().map(|letter| (letter >> node.left & 1 == 1) == (node.kind == 2)).collect(),
+            4 => both().map(|(a, b)| a & b).collect(),
+            5 => both().map(|(a, b)| a | b).collect(),
+            6 => (1..total).chain([s]).map(|i| rows[node.left][i]).collect(),
+            _ => {
+                let (a, b, until) = (&rows[node.left], &rows[node.right], node.kind == 7);
+                let here = |next, i: usize| if until { b[i] | (a[i] & next) } else { b[i] & (a[i] | next) };
+                let mut next = (s..total).rev().fold(!until, here);
+                let mut row = vec![false; total];
+                for (i, flag) in row.iter_mut().enumerate().rev() {
+                    next = here(next, i);
+                    *flag = next;
+                }
+                row
+            }
+        };
+        rows.push(row);
+    }
+    rows
+}
+
+/// The clauses of a node that do not hold at the first letter, left before right.
+fn broken<'a>(nodes: &'a [Node], rows: &'a [Vec<bool>], n: usize) -> Box<dyn Iterator<Item = usize> + 'a> {
+    match nodes[n] {
+        Node { kind: 4, left, right } => Box::new(broken(nodes, rows, left).chain(broken(nodes, rows, right))),
+        _ => Box::new((!rows[n][0]).then_some(n).into_iter()),
+    }
+}
+
+/// At which index of the letters as lent the i-th that remains stands.
+fn place(letters: &[u8], i: usize) -> usize {
+    letters.iter().enumerate().filter(|(_, letter)| *letter & SKIPPED == 0).nth(i).unwrap().0
+}
+
+/// The broken clause and 1 more, in which slice it is shown, and from which index on, in one number; 0 for a lasso that
+/// satisfies the rule.
+fn explain(rule: &[u8], stem: &[u8], cycle: &[u8]) -> Answer<u64> {
+    let nodes = parse(rule)?;
+    let [first, second] = check_lasso(stem, cycle, 0)?;
+    let rows = truth(&nodes, &first, &second);
+    let Some(clause) = broken(&nodes, &rows, nodes.len() - 1).next() else {
+        return Ok(0);
+    };
+    let node = nodes[clause];
+    let shown = match node.kind {
+        7 => rows[node.left].iter().zip(&rows[node.right]).position(|(a, b)| !a & !b),
+        8 => rows[node.right].iter().position(|b| !b),
+        _ => Some(0),
+    };
+    let part = shown.map_or(0, |i| match i.checked_sub(first.len()) {
+        None => (1 << 16) + ((place(stem, i) as u64) << 24),
+        Some(i) => (2 << 16) + ((place(cycle, i) as u64) << 24),
+    });
+    Ok(256 * (clause as u64 + 1) + part)
+}
+
+/// Whether a lasso satisfies a rule, which is of the first edition here.
+fn satisfies(rule: &[u8], stem: &[u8], cycle: &[u8]) -> Answer<bool> {
+    let nodes = parse(rule)?;
+    let [stem, cycle] = check_lasso(stem, cycle, 0)?;
+    Ok(truth(&nodes, &stem, &cycle)[nodes.len() - 1][0])
+}
+
 /// What a case comes to, as one number, so that both sides can be held against each other.
 fn answer(kind: u8, slices: &[&[u8]], tables: &mut Tables) -> u64 {
     let refused = |r: Refusal| r.number as u64 + 256 * r.place as u64;
@@ -698,6 +770,8 @@ fn answer(kind: u8, slices: &[&[u8]], tables: &mut Tables) -> u64 {
         }
         b'A' => watch(slices[0], slices[1], true).unwrap_or_else(refused),
         b'a' => watch(slices[0], slices[1], false).unwrap_or_else(refused),
+        b'E' => explain(slices[0], slices[1], slices[2]).unwrap_or_else(refused),
+        b'K' => satisfies(slices[0], slices[1], slices[2]).map_or_else(refused, |kept| 256 * kept as u64),
         b'S' => same_word(slices[0], slices[1], slices[2], slices[3]).map_or_else(refused, |same| 256 * same as u64),
         _ => {
             let lasso = |a| check_lasso(slices[1], slices[2], 0).map(|[stem, cycle]| (a, stem, cycle));

@@ -167,6 +167,28 @@ uint64_t zimboralo_field_translate(const uint8_t *rule, size_t rule_len, uint8_t
 uint64_t zimboralo_field_start(const uint8_t *image, size_t image_len, uint8_t *set, size_t set_len);
 uint64_t zimboralo_field_step(const uint8_t *image, size_t image_len, uint8_t *set, size_t set_len, uint8_t letter);
 
+/* Which clause of a rule a lasso breaks, and from which letter on that shows; no buffer is lent. The rule is one in
+ * negation normal form, and a kind above 8 is 3: a written rule goes through zimboralo_normalize first. An and has the
+ * clauses of its left side and then those of its right side, any other node is a clause itself, and the rule's are its
+ * root's. Of these the first one is named, by its node number, that the lasso does not satisfy; none where it satisfies
+ * the rule. It is shown
+ *
+ *     a release    from the first letter on where its right side is false and its left side held at no letter before
+ *     an until     from the first letter on where both sides are false; if there is none, its right side never comes,
+ *                  and no letter shows it
+ *     any other    from the first letter on
+ *
+ * and only letters that remain are looked at. The clause and the place of that letter, see zimboralo_clause, _part and
+ * _index; or the first refusal of 1 to 7, 8, 9 and 28 in this order. */
+uint64_t zimboralo_explain(const uint8_t *rule, size_t rule_len, const uint8_t *stem, size_t stem_len,
+                           const uint8_t *cycle, size_t cycle_len);
+
+/* Whether a lasso satisfies a written rule, by the meaning of the rule alone: no automaton is made and no buffer lent,
+ * so a rule that is refused by 20 to 24 elsewhere gets its answer here. Where zimboralo_decide has a verdict this is
+ * the same. Kept or not, see zimboralo_satisfied; or the first refusal of 1 to 6, 26, 7, 8, 9 and 28 in this order. */
+uint64_t zimboralo_satisfies(const uint8_t *rule, size_t rule_len, const uint8_t *stem, size_t stem_len,
+                             const uint8_t *cycle, size_t cycle_len);
+
 /* ---- the parts of an answer */
 
 /* Of a refusal: its number and place. */
@@ -198,6 +220,33 @@ static inline int zimboralo_same(uint64_t answer) { return (int)(answer >> 8 & 1
 
 /* Of an accepted field_start or field_step: whether the alarm is raised. */
 static inline int zimboralo_alarm(uint64_t answer) { return (int)(answer >> 8 & 1); }
+
+/* Of an accepted satisfies: whether the lasso keeps the rule. */
+static inline int zimboralo_satisfied(uint64_t answer) { return (int)(answer >> 8 & 1); }
+
+/* Of an accepted explain: the number of the node that is the broken clause, or -1 where there is none. */
+static inline int zimboralo_clause(uint64_t answer) { return (int)(answer >> 8 & 0xff) - 1; }
+
+/* Where the letters from which a clause is shown begin: in the stem, in the cycle, or in neither, since the lasso keeps
+ * the rule or since an until's right side never comes. */
+enum zimboralo_part { ZIMBORALO_NO_PART = 0, ZIMBORALO_IN_STEM = 1, ZIMBORALO_IN_CYCLE = 2 };
+
+/* Of an accepted explain: one of these, and at which index of that slice as it was lent, skipped letters counted. */
+static inline unsigned zimboralo_part(uint64_t answer) { return (unsigned)(answer >> 16 & 3); }
+static inline size_t zimboralo_index(uint64_t answer) { return (size_t)(answer >> 24 & 0xffff); }
+
+/* Of any answer of explain, with the lasso that it is about: the letters from there to the end of that slice, and how
+ * many they are; NULL and 0 where there are none. The first of them remains, further ones may be skipped. */
+static inline const uint8_t *zimboralo_broken_part(uint64_t answer, const uint8_t *stem, size_t stem_len,
+                                                   const uint8_t *cycle, size_t cycle_len, size_t *part_len)
+{
+    *part_len = 0;
+    if (zimboralo_number(answer) != ZIMBORALO_ACCEPTED || zimboralo_part(answer) == ZIMBORALO_NO_PART)
+        return NULL;
+    int of_stem = zimboralo_part(answer) == ZIMBORALO_IN_STEM;
+    *part_len = (of_stem ? stem_len : cycle_len) - zimboralo_index(answer);
+    return (of_stem ? stem : cycle) + zimboralo_index(answer);
+}
 
 /* ---- the calls over structs of the right sizes */
 

@@ -2,8 +2,8 @@
  * which is refused by 25 with every byte as it was. The functions over structs against the plain calls, the header's
  * limits against what the library takes, the bytes of rules in negation normal form and of merged ones, rules that
  * demand propositions both ways, refusal 11 at every state record, verdicts with a known number of pairs, lassos that
- * are one word or are not, and the field unit's rules and sets. Prints one line and exits 1 where something is
- * wrong. */
+ * are one word or are not, the field unit's rules and sets, and clauses that lassos break. Prints one line and exits 1
+ * where something is wrong. */
 #include <stdio.h>
 #include <stdlib.h>
 #include <string.h>
@@ -1061,37 +1061,41 @@ static void words(void)
     expect_words(&longest, &shorter, 0, "words that agree for long");
 }
 
+/* How many letters stem and cycle have, and the last of them; the number by which that is refused. */
+static const struct {
+    size_t stem, cycle;
+    uint8_t last;
+    uint64_t number;
+} LETTERS[] = {
+    {0, 1, 0, ZIMBORALO_ACCEPTED},
+    {ZIMBORALO_MAX_LETTERS - 1, 1, 0, ZIMBORALO_ACCEPTED},
+    {0, ZIMBORALO_MAX_LETTERS, 0, ZIMBORALO_ACCEPTED},
+    {0, ZIMBORALO_MAX_LETTERS, 255, ZIMBORALO_ACCEPTED},
+    {0, 0, 0, ZIMBORALO_EMPTY_CYCLE},
+    {ZIMBORALO_MAX_LETTERS + 1, 0, 128, ZIMBORALO_EMPTY_CYCLE},
+    {0, ZIMBORALO_MAX_LETTERS + 1, 0, ZIMBORALO_TOO_MANY_LETTERS},
+    {ZIMBORALO_MAX_LETTERS, 1, 0, ZIMBORALO_TOO_MANY_LETTERS},
+    {ZIMBORALO_MAX_LETTERS, 1, 128, ZIMBORALO_TOO_MANY_LETTERS},
+    {ZIMBORALO_MAX_LETTERS - 1, 1, 128, ZIMBORALO_ALL_SKIPPED},
+    {0, 1, 255, ZIMBORALO_ALL_SKIPPED},
+};
+enum { LETTERS_COUNT = sizeof LETTERS / sizeof *LETTERS };
+
+/* Row i of that list, its other letters 0. */
+static struct word word_of(size_t i)
+{
+    struct word w = {LETTERS[i].stem, LETTERS[i].cycle, {0}};
+    if (w.stem + w.cycle)
+        w.letters[w.stem + w.cycle - 1] = LETTERS[i].last;
+    return w;
+}
+
 /* 8 before 9 before 28, and the first of two lassos, at place 0, before the second, at place 1. */
 static void words_refused(void)
 {
-    enum { MOST = ZIMBORALO_MAX_LETTERS };
-    /* how many letters stem and cycle have, and the last of them; the number by which that is refused */
-    static const struct {
-        size_t stem, cycle;
-        uint8_t last;
-        uint64_t number;
-    } sizes[] = {
-        {0, 1, 0, ZIMBORALO_ACCEPTED},
-        {MOST - 1, 1, 0, ZIMBORALO_ACCEPTED},
-        {0, MOST, 0, ZIMBORALO_ACCEPTED},
-        {0, MOST, 255, ZIMBORALO_ACCEPTED},
-        {0, 0, 0, ZIMBORALO_EMPTY_CYCLE},
-        {MOST + 1, 0, 128, ZIMBORALO_EMPTY_CYCLE},
-        {0, MOST + 1, 0, ZIMBORALO_TOO_MANY_LETTERS},
-        {MOST, 1, 0, ZIMBORALO_TOO_MANY_LETTERS},
-        {MOST, 1, 128, ZIMBORALO_TOO_MANY_LETTERS},
-        {MOST - 1, 1, 128, ZIMBORALO_ALL_SKIPPED},
-        {0, 1, 255, ZIMBORALO_ALL_SKIPPED},
-    };
-    const size_t count = sizeof sizes / sizeof *sizes;
-    for (size_t i = 0; i < count * count; i++) {
-        struct word a = {sizes[i / count].stem, sizes[i / count].cycle, {0}};
-        struct word b = {sizes[i % count].stem, sizes[i % count].cycle, {0}};
-        if (a.stem + a.cycle)
-            a.letters[a.stem + a.cycle - 1] = sizes[i / count].last;
-        if (b.stem + b.cycle)
-            b.letters[b.stem + b.cycle - 1] = sizes[i % count].last;
-        uint64_t first = sizes[i / count].number, second = sizes[i % count].number;
+    for (size_t i = 0; i < LETTERS_COUNT * LETTERS_COUNT; i++) {
+        struct word a = word_of(i / LETTERS_COUNT), b = word_of(i % LETTERS_COUNT);
+        uint64_t first = LETTERS[i / LETTERS_COUNT].number, second = LETTERS[i % LETTERS_COUNT].number;
         uint64_t want = first ? first : second ? second | 1 << 8 : 1 << 8;
         expect(same_word(&a, &b) == want, "two words of so many letters", "another answer");
     }
@@ -1279,6 +1283,134 @@ static void sets(void)
     }
 }
 
+/* ---- explaining */
+
+static uint64_t explain(const uint8_t *rule, size_t length, const struct word *w)
+{
+    return zimboralo_explain(rule, length, w->letters, w->stem, w->letters + w->stem, w->cycle);
+}
+
+static uint64_t satisfies(const uint8_t *rule, size_t length, const struct word *w)
+{
+    return zimboralo_satisfies(rule, length, w->letters, w->stem, w->letters + w->stem, w->cycle);
+}
+
+/* Explaining a rule in negation normal form on a word: a clause, or -1, and in which slice its part begins, and where.
+ * The word keeps the rule exactly where there is no clause, and the part goes from there to the end of its slice. */
+static void explained(const uint8_t *rule, size_t length, const struct word *w, int clause, unsigned part, size_t index)
+{
+    const uint8_t *stem = w->letters, *cycle = w->letters + w->stem;
+    uint64_t answer = explain(rule, length, w);
+    expect(answer == ((uint64_t)(clause + 1) << 8 | (uint64_t)part << 16 | (uint64_t)index << 24), "explain",
+           "another answer");
+    expect(zimboralo_clause(answer) == clause && zimboralo_part(answer) == part && zimboralo_index(answer) == index,
+           "explain", "its parts");
+    expect(satisfies(rule, length, w) == (clause < 0 ? 1 << 8 : 0), "satisfies", "another answer");
+    size_t letters;
+    const uint8_t *at = zimboralo_broken_part(answer, stem, w->stem, cycle, w->cycle, &letters);
+    const uint8_t *want = part == ZIMBORALO_NO_PART ? NULL : (part == ZIMBORALO_IN_STEM ? stem : cycle) + index;
+    size_t rest = part == ZIMBORALO_NO_PART ? 0 : (part == ZIMBORALO_IN_STEM ? w->stem : w->cycle) - index;
+    expect(at == want && letters == rest, "explain", "the letters of its part");
+}
+
+/* Rules: always 0, eventually 0, 0 until 1, 0 release 1, 0, 0 and again 0, 0 and next 1; then (0 and next 0) and (always
+ * 1 and eventually 2), whose clauses are nodes 0, 1, 5 and 8. */
+static const uint8_t always_0[] = {0, 0, 0, 2, 0, 0, 8, 0, 1}, eventually_0[] = {1, 0, 0, 2, 0, 0, 7, 0, 1};
+static const uint8_t until_rule[] = {2, 0, 0, 2, 1, 0, 7, 0, 1}, release_rule[] = {2, 0, 0, 2, 1, 0, 8, 0, 1};
+static const uint8_t leaf[] = {2, 0, 0}, twice[] = {2, 0, 0, 4, 0, 0}, now_and_next[] = {2, 0, 0, 2, 1, 0, 6, 1, 0, 4, 0, 2};
+static const uint8_t four[] = {2, 0, 0, 6, 0, 0, 4, 0, 1, 0, 0, 0, 2, 1, 0, 8, 3, 4,
+                               1, 0, 0, 2, 2, 0, 7, 6, 7, 4, 5, 8, 4, 2, 9};
+
+/* Clauses that are broken, told by hand. */
+static const struct {
+    const uint8_t *rule;
+    size_t length;
+    struct word word;
+    int clause;
+    unsigned part;
+    size_t index;
+} BROKEN[] = {
+#define RULE(rule) rule, sizeof rule
+    /* a release, in the stem and in the cycle; its left side ends it behind a letter, and not at that letter */
+    {RULE(always_0), {0, 1, {1}}, -1, 0, 0},
+    {RULE(always_0), {3, 1, {1, 0, 1, 0}}, 2, 1, 1},
+    {RULE(always_0), {1, 2, {1, 1, 0}}, 2, 2, 1},
+    {RULE(release_rule), {1, 1, {3, 0}}, -1, 0, 0},
+    {RULE(release_rule), {0, 1, {1}}, 2, 2, 0},
+    {RULE(release_rule), {2, 2, {2, 2, 2, 1}}, 2, 2, 1},
+    {RULE(release_rule), {3, 1, {2, 0, 3, 0}}, 2, 1, 1},
+    /* an until: the first letter with neither side, also where the right side comes later; or none */
+    {RULE(until_rule), {2, 1, {1, 1, 2}}, -1, 0, 0},
+    {RULE(until_rule), {2, 1, {1, 1, 0}}, 2, 2, 0},
+    {RULE(until_rule), {3, 1, {1, 0, 2, 2}}, 2, 1, 1},
+    {RULE(until_rule), {1, 1, {1, 1}}, 2, 0, 0},
+    {RULE(eventually_0), {1, 1, {1, 0}}, -1, 0, 0},
+    {RULE(eventually_0), {1, 1, {0, 0}}, 2, 0, 0},
+    /* any other: the first letter that remains */
+    {RULE(leaf), {1, 1, {0, 1}}, 0, 1, 0},
+    {RULE(leaf), {0, 1, {0}}, 0, 2, 0},
+    {RULE(leaf), {3, 1, {128, 255, 0, 1}}, 0, 1, 2},
+    {RULE(leaf), {2, 3, {129, 255, 128, 0, 1}}, 0, 2, 1},
+    {RULE(twice), {0, 1, {0}}, 0, 2, 0},
+    /* letters that are skipped count for the index and for nothing else; the last two are examples of docs/FORMAT.md */
+    {RULE(always_0), {3, 2, {128, 1, 128, 129, 0}}, 2, 2, 1},
+    {RULE(release_rule), {3, 1, {129, 2, 0, 0}}, 2, 1, 2},
+    {RULE(until_rule), {2, 2, {130, 1, 131, 0}}, 2, 2, 1},
+    {RULE(release_rule), {2, 3, {129, 2, 131, 1, 2}}, 2, 2, 1},
+    {RULE(now_and_next), {1, 2, {128, 129, 1}}, 2, 2, 1},
+    /* the first of several, left before right */
+    {RULE(four), {0, 1, {7}}, -1, 0, 0},
+    {RULE(four), {0, 1, {0}}, 0, 2, 0},
+    {RULE(four), {1, 1, {1, 0}}, 1, 1, 0},
+    {RULE(four), {0, 2, {3, 1}}, 5, 2, 1},
+    {RULE(four), {0, 1, {3}}, 8, 0, 0},
+};
+
+/* The list above; always 0 on as many letters as there may be, of which the last has none, also where all before it in
+ * the slice are skipped; then the refusals in their order, those of the rule before those of the lasso. */
+static void explanations(void)
+{
+    enum { MOST = ZIMBORALO_MAX_LETTERS };
+    for (size_t i = 0; i < sizeof BROKEN / sizeof *BROKEN; i++)
+        explained(BROKEN[i].rule, BROKEN[i].length, &BROKEN[i].word, BROKEN[i].clause, BROKEN[i].part, BROKEN[i].index);
+    for (size_t stem = 0; stem < MOST; stem++) {
+        struct word w = {stem, MOST - stem, {0}};
+        memset(w.letters, 1, MOST - 1);
+        explained(RULE(always_0), &w, 2, ZIMBORALO_IN_CYCLE, MOST - stem - 1);
+        memset(w.letters + stem, 0x81, MOST - stem - 1);
+        explained(RULE(always_0), &w, 2, ZIMBORALO_IN_CYCLE, MOST - stem - 1);
+        w.letters[MOST - 1] = 1;
+        explained(RULE(always_0), &w, -1, ZIMBORALO_NO_PART, 0);
+        if (stem) {
+            w.letters[stem - 1] = 0;
+            explained(RULE(always_0), &w, 2, ZIMBORALO_IN_STEM, stem - 1);
+        }
+    }
+    const struct zimboralo_rule nine = stacked_normal(EVENTUALLY, ZIMBORALO_MAX_UNTILS + 1);
+    const struct zimboralo_rule nine_written = stacked(EVENTUALLY, ZIMBORALO_MAX_UNTILS + 1);
+    const struct zimboralo_rule over = stacked(ALWAYS, ZIMBORALO_MAX_NODES - 1);
+    const uint64_t at_2 = ZIMBORALO_UNKNOWN_KIND | 2 << 8;
+    for (size_t i = 0; i < LETTERS_COUNT; i++) {
+        struct word w = word_of(i);
+        uint64_t number = LETTERS[i].number;
+        expect(explain(unknown, sizeof unknown, &w) == ZIMBORALO_UNKNOWN_KIND, "explain", "an unknown kind");
+        expect(explain(RULE(if_then), &w) == at_2, "explain", "a written rule");
+        expect(explain(nine.bytes, nine.length, &w) == ZIMBORALO_TOO_MANY_UNTILS, "explain", "nine untils");
+        expect(refusal(explain(RULE(four), &w)) == number, "explain", "a refused lasso");
+        expect(satisfies(unknown, sizeof unknown, &w) == ZIMBORALO_UNKNOWN_KIND, "satisfies", "an unknown kind");
+        expect(satisfies(over.bytes, over.length, &w) == ZIMBORALO_TOO_MANY_NODES, "satisfies", "33 nodes");
+        expect(satisfies(nine_written.bytes, nine_written.length, &w) == ZIMBORALO_TOO_MANY_UNTILS, "satisfies",
+               "nine untils");
+        /* always (0 implies 1) on letters without 0, but for the last, which is skipped where it has it */
+        expect(satisfies(RULE(if_then), &w) == (number ? number : 1 << 8), "satisfies", "a refused lasso");
+        /* translating refuses this one by 24 */
+        expect(satisfies(RULE(pairs), &w) == number, "satisfies", "a pair too many");
+    }
+#undef RULE
+    const struct word kept = {0, 1, {63}};
+    expect(satisfies(pairs, sizeof pairs, &kept) == 1 << 8, "satisfies", "a rule without an automaton, kept");
+}
+
 int main(void)
 {
     const struct zimboralo_rule over = stacked(ALWAYS, ZIMBORALO_MAX_NODES - 1);
@@ -1314,6 +1446,7 @@ int main(void)
     words_refused();
     field_rules();
     sets();
+    explanations();
     printf("guards: %d looked at, %d wrong\n", looked, wrong);
     for (int b = 0; b < BUFFERS; b++)
         free(blocks[b]);

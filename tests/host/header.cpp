@@ -1,6 +1,7 @@
 // The headers from C++: a written rule in negation normal form, merged with another, and with a plan to the verdict; a
 // rule that demands a proposition both ways; a refusal in words; one plan written in two ways; the field unit to its
-// alarm. Exits 0 where all are right.
+// alarm; a broken clause and the letters that show it. Exits 0 where all are right.
+#include <cstddef>
 #include <cstring>
 
 #include "zimboralo.h"
@@ -27,6 +28,11 @@ int main()
     const zimboralo_image &image = buffers.image;
     uint64_t quiet = zimboralo_field_start_set(image.bytes, image.length, &set);
     uint64_t alarm = zimboralo_field_step_set(image.bytes, image.length, &set, 0);
+    const uint8_t release[] = {0, 0, 0, 2, 0, 0, 8, 0, 1};
+    std::size_t shown_letters;
+    uint64_t broken = zimboralo_explain(release, sizeof release, letters, 1, letters + 1, 1);
+    const uint8_t *shown = zimboralo_broken_part(broken, letters, 1, letters + 1, 1, &shown_letters);
+    uint64_t satisfied = zimboralo_satisfies(always, sizeof always, letters, 1, letters, 1);
     return zimboralo_number(normalized) == ZIMBORALO_ACCEPTED && normal.length == sizeof until
                    && std::memcmp(normal.bytes, until, sizeof until) == 0
                    && zimboralo_number(both) == ZIMBORALO_ACCEPTED && merged.length == sizeof until + sizeof never + 3
@@ -36,6 +42,10 @@ int main()
                    && zimboralo_number(taken) == ZIMBORALO_ACCEPTED && zimboralo_number(written) == ZIMBORALO_ACCEPTED
                    && quiet == ZIMBORALO_ACCEPTED && !zimboralo_alarm(quiet)
                    && zimboralo_number(alarm) == ZIMBORALO_ACCEPTED && zimboralo_alarm(alarm)
+                   && zimboralo_number(broken) == ZIMBORALO_ACCEPTED && zimboralo_clause(broken) == 2
+                   && zimboralo_part(broken) == ZIMBORALO_IN_CYCLE && zimboralo_index(broken) == 0
+                   && shown == letters + 1 && shown_letters == 1
+                   && zimboralo_number(satisfied) == ZIMBORALO_ACCEPTED && zimboralo_satisfied(satisfied)
                    && std::strcmp(zimboralo_text(zimboralo_number(refused)), "the plan's loop is empty") == 0
                ? 0
                : 1;

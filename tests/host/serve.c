@@ -21,6 +21,10 @@
  *     D rule stem cycle        as J, of deciding in one call; `other` where a buffer is not as the calls leave it
  *     B rule rule stem cycle   as D, of both rules merged, or merge's refusal
  *     S stem cycle stem cycle  `one word` or `two words`, or the refusal
+ *     E rule stem cycle        `kept`, or the clause and the part that shows where it is broken, with its first index in
+ *                              the stem or in the cycle and its bytes, or that it never comes, or the refusal; `other`
+ *                              where a part does not go to the end of its slice, or the answer has anything else
+ *     K rule stem cycle        `kept` or `broken` by the meaning of the rule alone, or the refusal; likewise
  *
  * One line each; `other` also for a refusal that has more than its number and place. It ends where the input does. */
 #include <stdio.h>
@@ -322,6 +326,60 @@ static void same_word(void)
     free(other_cycle);
 }
 
+/* The part of an answer of explain, which must be one of the two slices from its index to its end. */
+static void print_part(uint64_t answer, const uint8_t *stem, size_t s, const uint8_t *cycle, size_t c)
+{
+    size_t length;
+    const uint8_t *part = zimboralo_broken_part(answer, stem, s, cycle, c, &length);
+    int of_stem = zimboralo_part(answer) == ZIMBORALO_IN_STEM;
+    size_t index = zimboralo_index(answer);
+    if (zimboralo_part(answer) == ZIMBORALO_NO_PART) {
+        puts(!part && !length && !index ? "never comes" : "other");
+    } else if (!part || !length || part != (of_stem ? stem : cycle) + index || index + length != (of_stem ? s : c)) {
+        puts("other");
+    } else {
+        printf("from %zu of the %s ", index, of_stem ? "stem" : "cycle");
+        print_bytes(part, length);
+    }
+}
+
+static void explain(void)
+{
+    size_t n, s, c, length;
+    uint8_t *rule = slice(&n), *stem = slice(&s), *cycle = slice(&c);
+    uint64_t answer = zimboralo_explain(rule, n, stem, s, cycle, c);
+    int clause = zimboralo_clause(answer);
+    if (zimboralo_number(answer) != ZIMBORALO_ACCEPTED && zimboralo_broken_part(answer, stem, s, cycle, c, &length)) {
+        puts("other");
+    } else if (!refused(answer)) {
+        uint64_t parts = (uint64_t)(clause + 1) << 8 | (uint64_t)zimboralo_part(answer) << 16
+                         | (uint64_t)zimboralo_index(answer) << 24;
+        if (answer != parts || (clause < 0 && answer)) {
+            puts("other");
+        } else if (clause < 0) {
+            puts("kept");
+        } else {
+            printf("clause %d ", clause);
+            print_part(answer, stem, s, cycle, c);
+        }
+    }
+    free(rule);
+    free(stem);
+    free(cycle);
+}
+
+static void satisfy(void)
+{
+    size_t n, s, c;
+    uint8_t *rule = slice(&n), *stem = slice(&s), *cycle = slice(&c);
+    uint64_t answer = zimboralo_satisfies(rule, n, stem, s, cycle, c);
+    if (!refused(answer))
+        puts(answer & ~(uint64_t)0x100 ? "other" : zimboralo_satisfied(answer) ? "kept" : "broken");
+    free(rule);
+    free(stem);
+    free(cycle);
+}
+
 int main(void)
 {
     for (int letter; (letter = getchar()) != EOF;) {
@@ -349,6 +407,10 @@ int main(void)
             decide_both();
         else if (letter == 'S')
             same_word();
+        else if (letter == 'E')
+            explain();
+        else if (letter == 'K')
+            satisfy();
         else
             return 1;
     }

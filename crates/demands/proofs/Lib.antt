@@ -10,3 +10,4 @@ pub mod ThreeCalls
 pub mod MergedVerdict
 pub mod FieldUnit
 pub mod FieldRows
+pub mod OneVerdict

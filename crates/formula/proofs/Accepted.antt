@@ -8,7 +8,7 @@ use lib.Dec.{leb, ltb}
 use lib.ListN.{length}
 use borrow.Author.Tests.{leb-true, le-leb, ltb-true, eqb-true}
 use Rattle.answer.specs.Result.{fine, lowest}
-use Rattle.formula.specs.Limits.{ruleBytes, maxUntils, propositions}
+use Rattle.formula.specs.Limits.{maxNodes, ruleBytes, maxUntils, propositions}
 use Rattle.formula.specs.Rule.{nodeCount, kindAt, leftAt, rightAt, oneChild, releaseKind, lengthCheck}
 use Rattle.formula.specs.Rule.{nodeCheck, placeCheck, syntaxCheck, untilCheck, checked, untils as untilsOf}
 use Rattle.answer.proofs.Lowest.{fine-first, fine-second, lowest-each, lowest-all}
@@ -123,3 +123,13 @@ accepted-fine rule e =
       places = formed .places;
       untils = leb-true (length (untilsOf rule (nodeCount rule))) maxUntils (require-fine _ 7 0 (fine-second (syntaxCheck releaseKind rule) _ e));
     }
+
+-- and its kinds are those of the first edition
+pub accepted-kind : (rule : List ℕ) → checked rule ≡ fine → (n : ℕ) → n < nodeCount rule → kindAt rule n ≤ releaseKind
+unfolding checked
+accepted-kind rule e n lt =
+    kind-known releaseKind rule n (formed-fine releaseKind rule (fine-first (syntaxCheck releaseKind rule) _ e) .each n lt)
+
+-- and its nodes' numbers are below the limit
+pub accepted-few : (rule : List ℕ) → checked rule ≡ fine → (n : ℕ) → n < nodeCount rule → n < maxNodes
+accepted-few rule e n lt = let m = accepted-fine rule e .most in omega arith

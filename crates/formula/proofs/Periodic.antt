@@ -47,14 +47,14 @@ near-dec P Q dp dq (suc d) i = go (dq i) (dp i) (near-dec P Q dp dq d (suc i))
         late k l m h f (no e) = r (k, omega arith, omega arith, h, λ j a b. f j (omega arith) b)
 
 module _ (s n : ℕ) (pos : 0 < n) where
-  abbrev Repeats : (ℕ → Type 0) → Type 0
+  abbrev pub Repeats : (ℕ → Type 0) → Type 0
   Repeats P = (i : ℕ) → s ≤ i → (P i → P (i + n)) × (P (i + n) → P i)
 
   -- the two halves, at positions that are given
   on : (P : ℕ → Type 0) → Repeats P → (i k : ℕ) → s ≤ i → k ≡ i + n → P i → P k
   on P r i k l e h = subst P (sym e) (r i l .0 h)
 
-  off : (P : ℕ → Type 0) → Repeats P → (i k : ℕ) → s ≤ i → k ≡ i + n → P k → P i
+  pub off : (P : ℕ → Type 0) → Repeats P → (i k : ℕ) → s ≤ i → k ≡ i + n → P k → P i
   off P r i k l e h = r i l .1 (subst P e h)
 
   pub until-near : (P Q : ℕ → Type 0) → Repeats Q → (i : ℕ) → Until P Q i → Near P Q (s + n) i
@@ -75,7 +75,7 @@ module _ (s n : ℕ) (pos : 0 < n) where
       go (yes (k, l, m, h, f)) = yes (k, l, h, f)
       go (no x) = no (λ u. x (until-near P Q rq i u))
 
-  until-repeats : (P Q : ℕ → Type 0) → Repeats P → Repeats Q → Repeats (Until P Q)
+  pub until-repeats : (P Q : ℕ → Type 0) → Repeats P → Repeats Q → Repeats (Until P Q)
   until-repeats P Q rp rq i l = (
     λ (k, a, h, f). (
       k + n,

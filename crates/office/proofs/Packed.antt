@@ -1,9 +1,11 @@
 -- A packed answer beside what was lent: the call's own equation, carried through the packing.
 -- Assumes nothing.
-use Prim.Native.Nat.{ℕ, _+_}
+use Prim.Native.Nat.{ℕ, _+_, _-_, _*_, _%_, _^_, _<_}
 use mathlib.Core.Path.{_≡_, ap, _∙_}
 use mathlib.Core.List.{List}
-use mathlib.Core.Bool.{Bool}
+use mathlib.Core.Bool.{Bool, true, false, cond}
+use native.Mathlib.Omega.{arith}
+use lib.Dec.{ltb}
 use Rattle.answer.specs.Result.{Result}
 use Rattle.automaton.specs.Tables.{Counts, Outcome, outcome}
 use Rattle.translation.specs.Conflicts.{Carried, carried}
@@ -13,7 +15,7 @@ use Rattle.judge.specs.Judge.{Finding, Judgement, judgement}
 use Rattle.demands.specs.Demand.{Decision, decision}
 use Rattle.office.specs.Packing.{packCounts, packLength, packVerdict, packedTables, packOutcome, packedSlice}
 use Rattle.office.specs.Packing.{packBuffer, packJudgement, packedDecision, packDecision, packConflicts, packTranslated}
-use Rattle.office.specs.Packing.{packBit, packWatch}
+use Rattle.office.specs.Packing.{packBit, packWatch, packPart}
 
 -- of a call that fills three tables
 pub packed-tables : (a : Result Counts) (s t i : List ℕ) (o : Outcome) (r : ℕ) → r ≡ packCounts a → outcome a s t i ≡ o
@@ -45,3 +47,12 @@ pub packed-decision : (a : Result Finding) (s t i image work : List ℕ) (d : De
     → decision a s t i image work ≡ d → packedDecision r s t i image work ≡ packDecision d
 packed-decision a s t i image work d r packs says =
     ap (λ (n : ℕ). packedDecision n s t i image work) packs ∙ ap packDecision says
+
+-- a part that shows where a clause is broken fits 40 bits
+pub part-fits : (stem from : ℕ) → packPart stem from < 2 ^ 40
+part-fits stem from = go (ltb from stem)
+  where
+    go : (b : Bool)
+        → cond b (65536 + 2 ^ 24 * (from % 65536)) (131072 + 2 ^ 24 * ((from - stem) % 65536)) < 2 ^ 40
+    go true = omega arith
+    go false = omega arith

@@ -39,6 +39,8 @@ use Rattle.image.proofs.OnePass.{one-pass}
 use Rattle.lasso.specs.Lasso.{lassoCheck}
 use Rattle.sameword.specs.Words.{ofSecond, lassosCheck, compared}
 use Rattle.judge.specs.Judge.{judgeable, judgedBy, judged}
+use Rattle.explain.specs.Call.{explainCheck, explained}
+use Rattle.explain.specs.Satisfied.{satisfied}
 use Rattle.field.specs.Calls.{watchable, unlessRefused, begins, advances, started, stepped}
 use Rattle.profile.specs.Profile.{noUntils, profileChecked, profileTranslated}
 use Rattle.demands.specs.Demand.{roomCheck, inputCheck, concluded, decidedBy, decided}
@@ -390,6 +392,18 @@ second-proper (refused number place) p =
 pub compared-proper : (stem cycle otherStem otherCycle : List ℕ) → Proper (compared stem cycle otherStem otherCycle)
 unfolding compared lassosCheck
 compared-proper stem cycle otherStem otherCycle = search (proper, lasso-proper, second-proper) depth 7
+
+-- 1 to 7, 8, 9 and 28
+pub explained-proper : (rule stem cycle : List ℕ) → Proper (explained rule stem cycle)
+unfolding explained explainCheck
+explained-proper rule stem cycle = search (proper, rule-proper, lasso-proper) depth 7
+
+-- of a written rule: 1 to 7, 26, 8, 9 and 28
+pub satisfied-proper : (rule stem cycle : List ℕ) → Proper (satisfied rule stem cycle)
+unfolding satisfied
+satisfied-proper rule stem cycle =
+    then-proper (normalForm rule) _ (form-proper rule)
+    (λ form _. then-proper (explained form stem cycle) _ (explained-proper form stem cycle) (λ _ _. accepts))
 
 -- 25, 10 to 13, 8, 9 and 28
 pub judged-proper : (image stem cycle work : List ℕ) → Proper (judged image stem cycle work .answer)

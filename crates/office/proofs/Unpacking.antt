@@ -1,11 +1,14 @@
 -- What C reads off a packed answer by include/zimboralo.h is the answer: the lowest byte is 0 exactly where nothing was
 -- refused, and no count, set of propositions, length or place is cut off. Assumes nothing.
-use Prim.Native.Nat.{ℕ, _+_, _*_, _/_, _%_, _^_, _≤_, _<_}
+use Prim.Native.Nat.{ℕ, _+_, _-_, _*_, _/_, _%_, _^_, _≤_, _<_}
 use mathlib.Core.Path.{_≡_, refl, sym, _∙_, ap, subst, subst₂}
-use mathlib.Core.List.{List}
-use mathlib.Core.Bool.{Bool, true, false}
+use mathlib.Core.List.{List, []}
+use mathlib.Core.Bool.{Bool, true, false, cond}
 use native.Mathlib.Omega.{arith}
-use lib.ListN.{length}
+use native.Mathlib.Decide.{decLt}
+use borrow.Author.Tests.{lt-ltb, le-ltb, eq-eqb, ne-eqb}
+use lib.ListN.{length, drop}
+use lib.Dec.{eqb}
 use Rattle.answer.specs.Result.{Result, accepted, refused, andThen, Check, fine, require}
 use Rattle.formula.specs.Limits.{ruleBytes}
 use Rattle.formula.specs.Rule.{releaseKind}
@@ -40,6 +43,11 @@ use Rattle.sameword.specs.Words.{compared}
 use Rattle.judge.specs.Judge.{workBytes, Verdict, kept, broken, Finding, finding, found, judged}
 use Rattle.judge.proofs.VerdictIff.{image-in-range}
 use Rattle.judge.proofs.Pairs.{found-few, judged-few}
+use Rattle.explain.specs.Explain.{partFrom, Explanation, kept as holds, broken as breaks, neverComes}
+use Rattle.explain.specs.Call.{explained, brokenPart}
+use Rattle.explain.specs.Satisfied.{satisfied}
+use Rattle.explain.proofs.Answered.{told-small, never-small}
+use Rattle.explain.proofs.Parts.{part-stem, part-cycle}
 use Rattle.field.specs.Calls.{started, stepped}
 use Rattle.profile.specs.Profile.{profileChecked, profileTranslated, profileConflicts, profileTranslates}
 use Rattle.demands.specs.Demand.{roomCheck, inputCheck, concluded, decidedBy, decided}
@@ -49,9 +57,10 @@ use Rattle.correctness.proofs.BothSigns.{conflicts-byte}
 use Rattle.office.proofs.Refusals.{Refusal, Proper, normalizes-proper, merges-proper, translated-proper}
 use Rattle.office.proofs.Refusals.{reads-proper, writes-proper}
 use Rattle.office.proofs.Refusals.{profile-translated-proper, started-proper, stepped-proper}
+use Rattle.office.proofs.Refusals.{explained-proper, satisfied-proper}
 use Rattle.office.proofs.Refusals.{judged-proper, decided-proper, compared-proper}
 use Rattle.office.specs.Packing.{packRefusal, packThree, packCounts, packLength, packFinding, packVerdict}
-use Rattle.office.specs.Packing.{packBit, packConflicts, packTranslated}
+use Rattle.office.specs.Packing.{packBit, packConflicts, packTranslated, packClause, packPart, packExplained}
 
 -- ---- the parts of an answer, as the header reads them
 
@@ -91,9 +100,21 @@ keptOf answer = answer / 256 % 2
 abbrev pub pairsOf : ℕ → ℕ
 pairsOf answer = answer / 65536 % 65536
 
--- zimboralo_same, zimboralo_alarm: answer >> 8 & 1
+-- zimboralo_same, zimboralo_alarm, zimboralo_satisfied: answer >> 8 & 1
 abbrev pub bitOf : ℕ → ℕ
 bitOf answer = answer / 256 % 2
+
+-- zimboralo_clause, of which it gives one less: answer >> 8 & 0xff
+abbrev pub clauseOf : ℕ → ℕ
+clauseOf answer = answer / 256 % 256
+
+-- zimboralo_part: answer >> 16 & 3
+abbrev pub sliceOf : ℕ → ℕ
+sliceOf answer = answer / 65536 % 4
+
+-- zimboralo_index: answer >> 24 & 0xffff
+abbrev pub partIndex : ℕ → ℕ
+partIndex answer = answer / 2 ^ 24 % 65536
 
 -- ---- values that fit
 
@@ -300,9 +321,20 @@ pub record VerdictRead (packed : ℕ) (f : Finding) : Type 0 where
   pub verdict : keptOf packed ≡ elim (f .verdict) [ kept ↦ 1 | broken ↦ 0 ]
   pub pairs : pairsOf packed ≡ f .pairs
 
--- whether two lassos are one word, or the alarm is raised: 1 for yes and 0 for no
+-- whether two lassos are one word, the alarm is raised, or a rule is satisfied: 1 for yes and 0 for no
 abbrev pub BitRead : (packed : ℕ) → Bool → Type 0
 BitRead packed b = bitOf packed ≡ elim b [ true ↦ 1 | false ↦ 0 ]
+
+-- a part that begins at an index of stem and cycle: in which of the two, and at which index of it
+pub data PartRead (stem packed from : ℕ) : Type 0 where
+  of-stem : sliceOf packed ≡ 1 → partIndex packed ≡ from → from < stem → PartRead stem packed from
+  of-cycle : sliceOf packed ≡ 2 → stem + partIndex packed ≡ from → PartRead stem packed from
+
+-- what is told, for a stem with so many letters: the clause, one higher, and the part
+abbrev pub ExplanationRead : (stem packed : ℕ) → Explanation → Type 0
+ExplanationRead stem packed holds = (clauseOf packed ≡ 0) × (sliceOf packed ≡ 0)
+ExplanationRead stem packed (breaks clause from) = (clauseOf packed ≡ clause + 1) × PartRead stem packed from
+ExplanationRead stem packed (neverComes clause) = (clauseOf packed ≡ clause + 1) × (sliceOf packed ≡ 0)
 
 -- ---- the packings
 
@@ -408,6 +440,51 @@ bit-unpacks (accepted true) p = unpacks-accepted _ true (omega arith) (omega ari
 bit-unpacks (accepted false) p = unpacks-accepted _ false (omega arith) (omega arith)
 bit-unpacks (refused number place) p = unpacks-refused number place (p .refusal number place refl)
 
+-- a clause with its part
+module _ (stem clause from : ℕ) (few : clause < 255) (near : from < 65536) where
+  part-packed : clauseOf (packClause clause + packPart stem from) ≡ clause + 1
+  part-packed = go (decLt from stem)
+    where
+      c : clause % 255 ≡ clause
+      c = omega arith
+
+      go : Dec (from < stem) → clauseOf (packClause clause + packPart stem from) ≡ clause + 1
+      go (yes l) = rw (lt-ltb from stem l, c) (omega arith)
+      go (no l) = rw (le-ltb from stem (omega arith), c) (omega arith)
+
+  part-read : PartRead stem (packClause clause + packPart stem from) from
+  part-read = go (decLt from stem)
+    where
+      c : clause % 255 ≡ clause
+      c = omega arith
+
+      go : Dec (from < stem) → PartRead stem (packClause clause + packPart stem from) from
+      go (yes l) = rw (lt-ltb from stem l, c) (of-stem (omega arith) (omega arith) l)
+      go (no l) = rw (le-ltb from stem (omega arith), c) (of-cycle (omega arith) (omega arith))
+
+  part-zero : numberOf (packClause clause + packPart stem from) ≡ 0
+  part-zero = go (decLt from stem)
+    where
+      go : Dec (from < stem) → numberOf (packClause clause + packPart stem from) ≡ 0
+      go (yes l) = rw (lt-ltb from stem l) (omega arith)
+      go (no l) = rw (le-ltb from stem (omega arith)) (omega arith)
+
+explained-unpacks : (stem : ℕ) (r : Result Explanation) → Proper r
+    → ((c from : ℕ) → r ≡ accepted (breaks c from) → (c < 255) × (from < 65536))
+    → ((c : ℕ) → r ≡ accepted (neverComes c) → c < 255)
+    → Unpacks (ExplanationRead stem) (packExplained stem r) r
+unfolding packExplained
+explained-unpacks stem (accepted holds) p fits never = unpacks-accepted _ holds (omega arith) (omega arith, omega arith)
+explained-unpacks stem (accepted (breaks c from)) p fits never =
+    let (few, near) = fits c from refl in
+    unpacks-accepted _ (breaks c from) (part-zero stem c from few near)
+    (part-packed stem c from few near, part-read stem c from few near)
+explained-unpacks stem (accepted (neverComes c)) p fits never =
+    let few = never c refl in
+    unpacks-accepted _ (neverComes c) (omega arith) (omega arith, omega arith)
+explained-unpacks stem (refused number place) p fits never =
+    unpacks-refused number place (p .refusal number place refl)
+
 -- ---- the calls
 
 -- zimboralo_normalize
@@ -487,3 +564,46 @@ field-start-unpacks image set = bit-unpacks (started image set .answer) (started
 pub field-step-unpacks : (image set : List ℕ) (x : ℕ)
     → Unpacks BitRead (packBit (stepped image set x .answer)) (stepped image set x .answer)
 field-step-unpacks image set x = bit-unpacks (stepped image set x .answer) (stepped-proper image set x)
+
+-- zimboralo_explain
+pub explain-unpacks : (rule stem cycle : List ℕ)
+    → Unpacks (ExplanationRead (length stem)) (packExplained (length stem) (explained rule stem cycle))
+    (explained rule stem cycle)
+explain-unpacks rule stem cycle =
+    explained-unpacks (length stem) (explained rule stem cycle) (explained-proper rule stem cycle)
+    (λ c from e. let (few, near) = told-small rule stem cycle c from e in (omega arith, omega arith))
+    (λ c e. omega (arith, never-small rule stem cycle c e))
+
+-- zimboralo_broken_part: the letters that C cuts out by what it reads
+abbrev pub cutOut : (stem cycle : List ℕ) (packed : ℕ) → List ℕ
+cutOut stem cycle packed =
+    cond (eqb (sliceOf packed) 1) (drop (partIndex packed) stem)
+    (cond (eqb (sliceOf packed) 2) (drop (partIndex packed) cycle) [])
+
+cut-shown : (stem cycle : List ℕ) (packed from : ℕ) → PartRead (length stem) packed from
+    → cutOut stem cycle packed ≡ partFrom stem cycle from
+cut-shown stem cycle packed from (of-stem of-it at l) =
+    rw (eq-eqb (sliceOf packed) 1 of-it) (ap (λ (i : ℕ). drop i stem) at ∙ sym (part-stem stem cycle from l))
+cut-shown stem cycle packed from (of-cycle of-it at) =
+    let off : partIndex packed ≡ from - length stem = omega arith in
+    rw (ne-eqb (sliceOf packed) 1 (λ e. omega arith), eq-eqb (sliceOf packed) 2 of-it)
+    (ap (λ (i : ℕ). drop i cycle) off ∙ sym (part-cycle stem cycle from (omega arith)))
+
+cut-nothing : (stem cycle : List ℕ) (packed : ℕ) → sliceOf packed ≡ 0 → cutOut stem cycle packed ≡ []
+cut-nothing stem cycle packed e =
+    rw (ne-eqb (sliceOf packed) 1 (λ f. omega arith), ne-eqb (sliceOf packed) 2 (λ f. omega arith)) refl
+
+-- are the part that shows where the clause is broken
+pub cut-is-part : (rule stem cycle : List ℕ) (x : Explanation) → explained rule stem cycle ≡ accepted x
+    → cutOut stem cycle (packExplained (length stem) (explained rule stem cycle)) ≡ brokenPart rule stem cycle
+unfolding brokenPart packExplained
+cut-is-part rule stem cycle holds e = rw e (cut-nothing stem cycle 0 refl)
+cut-is-part rule stem cycle (breaks c from) e =
+    let (few, near) = told-small rule stem cycle c from e in
+    rw e (cut-shown stem cycle _ from (part-read (length stem) c from (omega arith) (omega arith)))
+cut-is-part rule stem cycle (neverComes c) e = rw e (cut-nothing stem cycle (packClause c) (omega arith))
+
+-- zimboralo_satisfies
+pub satisfies-unpacks : (rule stem cycle : List ℕ)
+    → Unpacks BitRead (packBit (satisfied rule stem cycle)) (satisfied rule stem cycle)
+satisfies-unpacks rule stem cycle = bit-unpacks (satisfied rule stem cycle) (satisfied-proper rule stem cycle)

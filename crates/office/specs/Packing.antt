@@ -1,15 +1,18 @@
 -- An answer as one number of 64 bits. The lowest byte is the refusal's number, 0 where there is none. Above it stands
 -- the refusal's place, or the values: the three counts, with the conflicts where a rule was translated, the length of
--- what is stored, 1 for kept and 0 for broken with the number of pairs taken, or 1 for yes and 0 for no.
-use Prim.Native.Nat.{ℕ, _+_, _*_, _%_, _^_}
+-- what is stored, 1 for kept and 0 for broken with the number of pairs taken, 1 for yes and 0 for no, or a
+-- clause with the part that shows where it is broken.
+use Prim.Native.Nat.{ℕ, _+_, _-_, _*_, _%_, _^_}
 use mathlib.Core.List.{List}
-use mathlib.Core.Bool.{Bool, true, false}
+use mathlib.Core.Bool.{Bool, true, false, cond}
+use lib.Dec.{ltb}
 use Rattle.answer.specs.Result.{Result, accepted, refused}
 use Rattle.automaton.specs.Tables.{Counts, Outcome}
 use Rattle.translation.specs.Conflicts.{Carried}
 use Rattle.answer.specs.Buffer.{Buffer}
 use Rattle.field.specs.Calls.{Watch}
 use Rattle.judge.specs.Judge.{Verdict, kept, broken, Finding, Judgement}
+use Rattle.explain.specs.Explain.{Explanation, kept as holds, broken as breaks, neverComes}
 use Rattle.demands.specs.Demand.{Decision}
 
 -- number in bits 0 to 7, place in bits 8 to 39
@@ -50,11 +53,29 @@ unfoldable pub packVerdict : Result Finding → ℕ
 packVerdict (accepted f) = packFinding (f .verdict) (f .pairs)
 packVerdict (refused number place) = packRefusal number place
 
--- yes or no in bit 8: whether two lassos are one word (R-6), whether the alarm is raised (R-10)
+-- yes or no in bit 8: whether two lassos are one word (R-6), whether the alarm is raised (R-10), whether
+-- a rule is satisfied
 unfoldable pub packBit : Result Bool → ℕ
 packBit (accepted true) = 256
 packBit (accepted false) = 0
 packBit (refused number place) = packRefusal number place
+
+-- a clause, one higher, in bits 8 to 15 (R-11)
+abbrev pub packClause : ℕ → ℕ
+packClause clause = 256 * (clause % 255 + 1)
+
+-- the part that shows where it is broken: 1 for one of the stem, whose length is given, or 2 for one of the cycle in
+-- bits 16 and 17, and the index at which it begins there in bits 24 to 39
+abbrev pub packPart : (stem from : ℕ) → ℕ
+packPart stem from =
+    cond (ltb from stem) (65536 + 2 ^ 24 * (from % 65536)) (131072 + 2 ^ 24 * ((from - stem) % 65536))
+
+-- 0 where the rule is kept; a clause alone where its right side never comes
+unfoldable pub packExplained : (stem : ℕ) → Result Explanation → ℕ
+packExplained stem (accepted holds) = 0
+packExplained stem (accepted (breaks clause from)) = packClause clause + packPart stem from
+packExplained stem (accepted (neverComes clause)) = packClause clause
+packExplained stem (refused number place) = packRefusal number place
 
 -- a packed answer with the three tables afterwards
 pub record PackedTables : Type 0 where

@@ -3,6 +3,10 @@ use answer::Stored;
 use automaton::Counted;
 use automaton::Counts;
 use demands::decide;
+use explain::Explained;
+use explain::Satisfied;
+use explain::explain;
+use explain::satisfies;
 use field::Watched;
 use field::start;
 use field::step;
@@ -18,6 +22,7 @@ use translation::Translated;
 use translation::translate;
 ghost use mathlib.Core.Path.{_≡_};
 ghost use Prim.Native.Nat.{_+_};
+ghost use lib.ListN.{length};
 ghost use Rattle.normalform.specs.Normalize.{normalizes};
 ghost use Rattle.merge.specs.Merge.{merges};
 ghost use Rattle.translation.specs.Conflicts.{toldCounts, toldConflicts, translates};
@@ -26,13 +31,15 @@ ghost use Rattle.answer.specs.Buffer.{storedAnswer};
 ghost use Rattle.automaton.specs.Tables.{told};
 ghost use Rattle.judge.specs.Judge.{judgeAnswer, judged};
 ghost use Rattle.field.specs.Calls.{watchAnswer, started, stepped};
+ghost use Rattle.explain.specs.Call.{explainAnswer, explained};
+ghost use Rattle.explain.specs.Satisfied.{satisfiedAnswer, satisfied};
 ghost use Rattle.profile.specs.Profile.{profileTranslates};
 ghost use Rattle.demands.specs.Demand.{decided};
 ghost use Rattle.sameword.specs.Words.{compared, comparison};
 ghost use Rattle.office.specs.Packing.{packRefusal, packThree, packSize, packPairs, packCounts, packLength};
 ghost use Rattle.office.specs.Packing.{packVerdict, packedTables, packOutcome, packedSlice, packBuffer, packJudgement};
 ghost use Rattle.office.specs.Packing.{packedDecision, packDecision, countsOf, packConflicts, packTranslated};
-ghost use Rattle.office.specs.Packing.{packBit, packWatch};
+ghost use Rattle.office.specs.Packing.{packBit, packWatch, packClause, packPart, packExplained};
 
 // A refusal's number and place.
 fn pack_refusal(number: u8, place: usize) -> u64
@@ -125,6 +132,47 @@ fn pack_watched(watched: Watched) -> u64
         Watched::Quiet => 0,
         Watched::Alarm => 256,
         Watched::Refused(number, place) => pack_refusal(number, place),
+    }
+}
+
+// The number of a clause.
+fn pack_clause(clause: usize) -> u64
+    ensures { λ r. ⌜ r ≡ packClause clause ⌝ }
+{
+    256 * ((clause % 255) as u64 + 1)
+}
+
+// Where a part begins, of a lasso with so many letters in its stem.
+fn pack_part(stem: usize, from: usize) -> u64
+    ensures { λ r. ⌜ r ≡ packPart stem from ⌝ }
+{
+    if from < stem {
+        return 65536 + 16777216 * ((from % 65536) as u64);
+    }
+    131072 + 16777216 * (((from - stem) % 65536) as u64)
+}
+
+// The answer of explain, for a lasso with so many letters in its stem: 0 for kept, the clause that is broken and the part
+// that shows where, or the clause alone; or the refusal.
+fn pack_explained(explained: Explained, stem: usize) -> u64
+    ensures { λ r. ⌜ r ≡ packExplained stem (explainAnswer explained) ⌝ }
+{
+    match explained {
+        Explained::Kept => 0,
+        Explained::Broken(clause, from) => pack_clause(clause) + pack_part(stem, from),
+        Explained::NeverComes(clause) => pack_clause(clause),
+        Explained::Refused(number, place) => pack_refusal(number, place),
+    }
+}
+
+// The answer of satisfies: 1 above the lowest byte for kept, 0 for broken; or the refusal.
+fn pack_satisfied(satisfied: Satisfied) -> u64
+    ensures { λ r. ⌜ r ≡ packBit (satisfiedAnswer satisfied) ⌝ }
+{
+    match satisfied {
+        Satisfied::Kept => 256,
+        Satisfied::Broken => 0,
+        Satisfied::Refused(number, place) => pack_refusal(number, place),
     }
 }
 
@@ -275,4 +323,21 @@ pub extern "C" fn zimboralo_field_step(image: &[u8], set: &mut [u8], letter: u8)
         ≡ packWatch (stepped (now (image .entry)) (now (set .entry)) letter) ⌝ }
 {
     pack_watched(step(image, set, letter))
+}
+
+// The first clause of a rule that a lasso breaks, and the part of the lasso that shows where; or a refusal.
+#[no_mangle]
+pub extern "C" fn zimboralo_explain(rule: &[u8], stem: &[u8], cycle: &[u8]) -> u64
+    ensures { λ r. ⌜ r ≡ packExplained (length (now (stem .entry)))
+        (explained (now (rule .entry)) (now (stem .entry)) (now (cycle .entry))) ⌝ }
+{
+    pack_explained(explain(rule, stem, cycle), stem.len())
+}
+
+// Whether a lasso satisfies a written rule, by the meaning of rules and with no automaton; or a refusal.
+#[no_mangle]
+pub extern "C" fn zimboralo_satisfies(rule: &[u8], stem: &[u8], cycle: &[u8]) -> u64
+    ensures { λ r. ⌜ r ≡ packBit (satisfied (now (rule .entry)) (now (stem .entry)) (now (cycle .entry))) ⌝ }
+{
+    pack_satisfied(satisfies(rule, stem, cycle))
 }
