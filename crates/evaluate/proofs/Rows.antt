@@ -49,14 +49,15 @@ module _ (stem cycle : List ℕ) (pos : 0 < length cycle) where
   abbrev w : ℕ → ℕ
   w = letter stem cycle
 
-  repeats : (f : Formula) → Repeats s n pos (Holds w f)
+  -- what a formula says repeats with the cycle, and is decided at each letter
+  pub repeats : (f : Formula) → Repeats (length stem) (length cycle) pos (Holds (letter stem cycle) f)
   repeats f = holds-repeats s n pos w (letter-round stem cycle) f
 
   -- what a formula and its denial are at a position
   abbrev Never : (ℕ → Type 0) → ℕ → Type 0
   Never P i = P i → ⊥
 
-  decided : (f : Formula) (i : ℕ) → Dec (Holds w f i)
+  pub decided : (f : Formula) (i : ℕ) → Dec (Holds (letter stem cycle) f i)
   decided f = holds-dec s n pos w (letter-round stem cycle) f
 
   -- a release holds where its denial does not

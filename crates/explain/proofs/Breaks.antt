@@ -14,14 +14,13 @@ use Rattle.formula.specs.Rule.{leftAt, rightAt}
 use Rattle.formula.specs.Formula.{Formula, until, release, tree}
 use Rattle.formula.specs.Satisfaction.{Holds}
 use Rattle.lasso.specs.Lasso.{letter}
-use Rattle.formula.proofs.Periodic.{Until, Repeats, not-repeats, holds-repeats, holds-dec}
-use Rattle.lasso.proofs.Letters.{letter-round}
+use Rattle.formula.proofs.Periodic.{Until, Repeats, not-repeats}
 use Rattle.evaluate.specs.Truth.{trueAt}
 use Rattle.sets.specs.Sets.{anyBelow}
 use Rattle.explain.specs.Explain.{firstFrom, left, right, releaseBreak, untilBreak}
 use Rattle.explain.specs.Meaning.{Exposed, BothFail, FirstAt}
 use Rattle.evaluate.proofs.Untils.{early}
-use Rattle.evaluate.proofs.Rows.{true-iff-holds, release-iff}
+use Rattle.evaluate.proofs.Rows.{true-iff-holds, release-iff, repeats, decided}
 use Rattle.explain.proofs.Searches.{Found, from-some, from-none, below-false, false-below}
 
 -- a search that finds nothing, or something
@@ -61,12 +60,6 @@ module _ (rule stem cycle : List ℕ) (pos : 0 < length cycle) where
 
   abbrev w : ℕ → ℕ
   w = letter stem cycle
-
-  decided : (f : Formula) (i : ℕ) → Dec (Holds w f i)
-  decided f = holds-dec s n pos w (letter-round stem cycle) f
-
-  repeats : (f : Formula) → Repeats s n pos (Holds w f)
-  repeats f = holds-repeats s n pos w (letter-round stem cycle) f
 
   -- a flag that is not set
   pub false-iff : (k i : ℕ) → i < s + n → trueAt rule stem cycle k i ≡ false ↔ (Holds w (tree rule k) i → ⊥)
@@ -130,7 +123,8 @@ module _ (rule stem cycle : List ℕ) (pos : 0 < length cycle) where
     unfolding releaseBreak
     release-none e i (x, y) =
         let (k, l, m, q, h) =
-        early s n pos (λ j. Holds w f j → ⊥) (λ j. Holds w g j → ⊥) (not-repeats s n pos (Holds w g) (repeats g)) 0
+        early s n pos (λ j. Holds w f j → ⊥) (λ j. Holds w g j → ⊥)
+        (not-repeats s n pos (Holds w g) (repeats stem cycle pos g)) 0
         (omega arith) (i, omega arith, x, λ j a b. y j b) in
         true≢false
         (sym (exposed-iff k m .1 (q, λ j b. h j (omega arith) b)) ∙ from-none _ 0 (s + n) e k (omega arith)
@@ -144,7 +138,8 @@ module _ (rule stem cycle : List ℕ) (pos : 0 < length cycle) where
           (search (λ i. not (right rule stem cycle c i) && not (anyBelow (left rule stem cycle c) i)) 0 (s + n)) [
             | inl e ↦ absurd
                 (broken
-                (release-iff stem cycle pos c f g 0 .1 (λ (k, l, q, h). release-none e k (q, λ j b. h j (omega arith) b))))
+                (release-iff stem cycle pos c f g 0 .1
+                (λ (k, l, q, h). release-none e k (q, λ j b. h j (omega arith) b))))
             | inr r ↦ r
           ],
       λ (i, e) h.
@@ -166,8 +161,8 @@ module _ (rule stem cycle : List ℕ) (pos : 0 < length cycle) where
 
     both-repeats : Repeats s n pos (BothFail w f g)
     both-repeats i l =
-        let x = not-repeats s n pos (Holds w f) (repeats f) i l in
-        let y = not-repeats s n pos (Holds w g) (repeats g) i l in
+        let x = not-repeats s n pos (Holds w f) (repeats stem cycle pos f) i l in
+        let y = not-repeats s n pos (Holds w g) (repeats stem cycle pos g) i l in
         (λ (a, b). (x .0 a, y .0 b), λ (a, b). (x .1 a, y .1 b))
 
     -- what is found is the first position where both sides fail
@@ -200,11 +195,12 @@ module _ (rule stem cycle : List ℕ) (pos : 0 < length cycle) where
       never-yet k h q =
           let e : k ≡ 0 + k = omega arith in
           broken
-          (come (Holds w f) (Holds w g) (decided f) (decided g) k 0 (subst (Holds w g) e q)
+          (come (Holds w f) (Holds w g) (decided stem cycle pos f) (decided stem cycle pos g) k 0
+          (subst (Holds w g) e q)
           (λ j l. h j (omega arith)))
 
       holds-left : (k : ℕ) → (Holds w g k → ⊥) → (BothFail w f g k → ⊥) → Holds w f k
-      holds-left k d b = go (decided f k)
+      holds-left k d b = go (decided stem cycle pos f k)
         where
           go : Dec (Holds w f k) → Holds w f k
           go (yes x) = x
