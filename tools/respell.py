@@ -1,6 +1,6 @@
 #!/usr/bin/env python3
 """Brings the names of the project's own definitions and lemmas to the spelling of today's library: snake case for what
-is no type, an underscore for a word that is added, a dash only between two names (as in length-drop) or at a type.
+is no type, a dash only at a type (as in All-append).
 
 usage: tools/respell.py [--list]     at the top of the repository, once, right after the kit's port.py
 
@@ -13,13 +13,11 @@ import re
 import sys
 
 DECLARED = re.compile(r"^(\s*)(?:(?:abbrev|unfoldable|pub|opaque)\s+)*([a-z][\w\-'\u2080-\u2089]*)\s+:\s")
-DEFINED = re.compile(r"^\s*(?:(?:abbrev|unfoldable)\s+)(?:pub\s+)?([a-z][\w\-']*)\s+:\s")
 NAME = re.compile(r"(?<![\w\-'.])[A-Za-z][\w\-'\u2080-\u2089]*")
 FIELD = re.compile(r"(?<=\.)[A-Za-z][\w\-'\u2080-\u2089]*")
 RECORD = re.compile(r"^(\s*)(?:pub\s+)?record\s")
 # lemmas that port.py had named as a definition is named now: the lemma gives way
 GAVE_WAY = {"normalform/proofs/Numbering.antt": {"own_code": "own_code_lem", "pair_code": "pair_code_lem"}}
-LIBRARY = {"length", "take", "drop", "append", "map", "set", "sets", "get_or", "replicate", "reverse"}
 
 
 def files(*patterns):
@@ -31,18 +29,17 @@ def snake(word):
     return re.sub(r"(?<=[a-z0-9])([A-Z])", r"_\1", word).lower()
 
 
-def respelled(name, definitions):
+def respelled(name):
     parts = [p if p[:1].isupper() else snake(p) for p in name.split("-")]
     out = parts[0]
     for left, right in zip(parts, parts[1:]):
-        names = left[:1].isupper() or right[:1].isupper() or (left in definitions and right in definitions)
-        out += ("-" if names else "_") + right
+        out += ("-" if left[:1].isupper() or right[:1].isupper() else "_") + right
     return out
 
 
 def declared():
-    """Every declared name, those of records' fields, and those of definitions, spelled as they are to be."""
-    names, fields, definitions = set(), set(), set(LIBRARY)
+    """Every declared name, and those of records' fields."""
+    names, fields = set(), set()
     for path in files("*/specs/**/*.antt", "*/proofs/**/*.antt"):
         if path.name == "Proof.antt":
             continue
@@ -58,23 +55,20 @@ def declared():
                 names.add(found.group(2))
                 if record is not None:
                     fields.add(found.group(2))
-            found = DEFINED.match(line)
-            if found:
-                definitions.add(snake(found.group(1)))
-    return names, fields, definitions
+    return names, fields
 
 
 def renamed():
     """The new name of each name that changes. Of two that fall together, the lemma gets an ending of its own."""
-    names, fields, definitions = declared()
-    new = {n: respelled(n, definitions) for n in names}
+    names, fields = declared()
+    new = {n: respelled(n) for n in names}
     taken = collections.defaultdict(set)
     for n, m in new.items():
         taken[m].add(n)
     together = {}
     for m, ns in taken.items():
         if len(ns) > 1:
-            first = next(n for n in sorted(ns) if re.search("[A-Z]", n))
+            first = next((n for n in sorted(ns) if re.search("[A-Z]", n)), m)
             for n in ns - {first}:
                 if "-" in n:
                     new[n] = m + "_lem"

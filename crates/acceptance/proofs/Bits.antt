@@ -49,10 +49,10 @@ module _ (test : ℕ → Bool) where
           rw none (rest (omega arith))
 
 -- bit j of the byte says whether until j + 1 is fulfilled
-pub fulfilment-has : (rule : List ℕ) (t : Term) (j : ℕ) → j < until_count rule → has (fulfilment rule t) j ≡ fulfils_next rule j t
+pub fulfilment_has : (rule : List ℕ) (t : Term) (j : ℕ) → j < until_count rule → has (fulfilment rule t) j ≡ fulfils_next rule j t
 unfolding fulfilment
-fulfilment-has rule t j lt = bits_has (λ k. fulfils_next rule k t) (until_count rule) j lt
+fulfilment_has rule t j lt = bits_has (λ k. fulfils_next rule k t) (until_count rule) j lt
 
-pub fulfilment-byte : (rule : List ℕ) → checked rule ≡ fine → (t : Term) → fulfilment rule t < 256
+pub fulfilment_byte : (rule : List ℕ) → checked rule ≡ fine → (t : Term) → fulfilment rule t < 256
 unfolding fulfilment
-fulfilment-byte rule passed t = omega (arith, bits_small (λ k. fulfils_next rule k t) (until_count rule), pow_mono {i = until_count rule} {j = 8} (untils_few rule passed))
+fulfilment_byte rule passed t = omega (arith, bits_small (λ k. fulfils_next rule k t) (until_count rule), pow_mono {i = until_count rule} {j = 8} (untils_few rule passed))

@@ -21,11 +21,11 @@ pub untils_few : (rule : List ℕ) → checked rule ≡ fine → until_count rul
 untils_few rule passed = (accepted_fine rule passed).untils
 
 -- an until among the first n nodes is one of them
-pub untils-below : (rule : List ℕ) (n k : ℕ) → k < length (untils rule n) → get_or (untils rule n) k 0 < n
+pub untils_below : (rule : List ℕ) (n k : ℕ) → k < length (untils rule n) → get_or (untils rule n) k 0 < n
 unfolding untils
-untils-below rule zero k lt = absurd (omega arith)
-untils-below rule (suc n) k lt =
-    go (eqb (kind_at rule n) 7) lt (dec_lt k (length (untils rule n))) (λ l. untils-below rule n k l)
+untils_below rule zero k lt = absurd (omega arith)
+untils_below rule (suc n) k lt =
+    go (eqb (kind_at rule n) 7) lt (dec_lt k (length (untils rule n))) (λ l. untils_below rule n k l)
   where
     go : (b : Bool) → k < length (untils rule n ++ cond b (n ∷ []) []) → Dec (k < length (untils rule n)) → (k < length (untils rule n) → get_or (untils rule n) k 0 < n)
         → get_or (untils rule n ++ cond b (n ∷ []) []) k 0 < suc n
@@ -66,14 +66,14 @@ module _ (rule : List ℕ) (n : ℕ) (nodes : List ℕ) where
       record { counted = rw same at inv.counted; gathered = rw same at inv.gathered }
 
   module _ (count i kind : ℕ) (lt : i < n) (is : kind ≡ kind_at rule i) (inv : Gathering rule n nodes count i) where
-    next-count : length (untils rule (suc i)) ≡ count + length (own_until kind i)
+    next_count : length (untils rule (suc i)) ≡ count + length (own_until kind i)
     unfolding untils
-    next-count = rw is (omega (arith, length-append (untils rule i) (own_until (kind_at rule i) i), inv.counted))
+    next_count = rw is (omega (arith, length-append (untils rule i) (own_until (kind_at rule i) i), inv.counted))
 
     pub gather_fits : n ≡ node_count rule → checked rule ≡ fine → count + length (own_until kind i) ≤ length nodes
     gather_fits e passed =
         let l = untils_rise rule (suc i) (node_count rule) (omega arith) in
-        omega (arith, next-count, untils_few rule passed, inv.room)
+        omega (arith, next_count, untils_few rule passed, inv.room)
 
     pub gather_steps : (after : List ℕ) (more : ℕ) → length after ≡ length nodes → take more after ≡ take count nodes ++ own_until kind i → more ≡ count + length (own_until kind i)
         → Gathering rule n after more (i + 1)
@@ -81,6 +81,6 @@ module _ (rule : List ℕ) (n : ℕ) (nodes : List ℕ) where
     gather_steps after more size taken counted = record {
       within = omega arith;
       room = size ∙ inv.room;
-      counted = rw (add-one i) (omega (arith, next-count));
+      counted = rw (add-one i) (omega (arith, next_count));
       gathered = rw (add-one i, ← is) (rw inv.gathered at taken);
     }

@@ -7,12 +7,12 @@ use Prim.Native.Nat.{ℕ}
 use native.Mathlib.Omega.{arith}
 use lib.Dec.{eqb}
 use borrow.Author.Tests.{eq-eqb, ne_eqb, eqb-true, eqb-false}
-use Rattle.sets.proofs.Members.{any-map}
+use Rattle.sets.proofs.Members.{any_map}
 use Rattle.formula.specs.Formula.{tree, InRange}
 use Rattle.term.specs.Term.{Term, joined, terms}
 use Rattle.term.specs.Memory.{pack, obligations_n, unpack}
-use Rattle.term.proofs.Packing.{Bytes, of-terms, numbers-bytes, terms-numbers}
-use Rattle.term.proofs.Unpacking.{pack-unpack, unpack-bytes}
+use Rattle.term.proofs.Packing.{Bytes, of_terms, numbers_bytes, terms_numbers}
+use Rattle.term.proofs.Unpacking.{pack_unpack, unpack_bytes}
 use Rattle.acceptance.specs.Acceptance.{shows, fulfils}
 use Rattle.acceptance.specs.Memory.{shows_n, fulfils_n}
 
@@ -30,18 +30,18 @@ equal_parts x y g h = go (eqb x.must y.must) (eqb x.must_not y.must_not) (eqb x.
 pack_obligations : (t : Term) → Bytes t → obligations_n (pack t) ≡ t.obligations
 pack_obligations t g = omega arith
 
-shows-packed : (f : ℕ) (t u : Term) → Bytes t → Bytes u → shows_n f (pack t) (pack u) ≡ shows f t u
+shows_packed : (f : ℕ) (t u : Term) → Bytes t → Bytes u → shows_n f (pack t) (pack u) ≡ shows f t u
 unfolding shows
-shows-packed f t u g h =
-    rw (of-terms.joins u t h g, equal_parts (joined u t) t (of-terms.good u t h g) g, pack_obligations u h) (simp and_assoc)
+shows_packed f t u g h =
+    rw (of_terms.joins u t h g, equal_parts (joined u t) t (of_terms.good u t h g) g, pack_obligations u h) (simp and_assoc)
 
-fulfils-packed : (rule : List ℕ) (f : ℕ) (t : Term) → InRange (tree rule f) → Bytes t → fulfils_n f (map pack (terms (tree rule f))) (pack t) ≡ fulfils rule f t
+fulfils_packed : (rule : List ℕ) (f : ℕ) (t : Term) → InRange (tree rule f) → Bytes t → fulfils_n f (map pack (terms (tree rule f))) (pack t) ≡ fulfils rule f t
 unfolding fulfils
-fulfils-packed rule f t range g =
-    let bytes = numbers-bytes (terms-numbers (tree rule f) range) in
-    let same = any-map pack (shows_n f (pack t)) (shows f t) (terms (tree rule f))
-    (λ u m. shows-packed f t u g (bytes u m)) in
+fulfils_packed rule f t range g =
+    let bytes = numbers_bytes (terms_numbers (tree rule f) range) in
+    let same = any_map pack (shows_n f (pack t)) (shows f t) (terms (tree rule f))
+    (λ u m. shows_packed f t u g (bytes u m)) in
     rw (pack_obligations t g, same)
 
-pub fulfils-number : (rule : List ℕ) (f t : ℕ) → InRange (tree rule f) → fulfils_n f (map pack (terms (tree rule f))) t ≡ fulfils rule f (unpack t)
-fulfils-number rule f t range = rw (pack-unpack t) at (fulfils-packed rule f (unpack t) range (unpack-bytes t))
+pub fulfils_number : (rule : List ℕ) (f t : ℕ) → InRange (tree rule f) → fulfils_n f (map pack (terms (tree rule f))) t ≡ fulfils rule f (unpack t)
+fulfils_number rule f t range = rw (pack_unpack t) at (fulfils_packed rule f (unpack t) range (unpack_bytes t))

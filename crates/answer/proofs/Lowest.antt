@@ -11,20 +11,20 @@ pub not_fine : {A : Type 0} {number place : ℕ} → ◌≡◌ {A = Check} (refu
 not_fine e = let z : ◌≡◌ {A = ℕ} 0 1 = cc in absurd (omega arith)
 
 -- what comes first in a fine answer is fine, and so is what follows
-pub fine-first : (a b : Check) → and_then a (λ _. b) ≡ fine → a ≡ fine
-fine-first (accepted u) b e = refl
-fine-first (refused number place) b e = not_fine e
+pub fine_first : (a b : Check) → and_then a (λ _. b) ≡ fine → a ≡ fine
+fine_first (accepted u) b e = refl
+fine_first (refused number place) b e = not_fine e
 
 pub fine_second : (a b : Check) → and_then a (λ _. b) ≡ fine → b ≡ fine
 fine_second (accepted u) b e = e
 fine_second (refused number place) b e = not_fine e
 
 -- the first refusal found is the lowest
-lowest-found : (check : ℕ → Check) (i n : ℕ) {number place : ℕ} → i < n → lowest check i ≡ fine
+lowest_found : (check : ℕ → Check) (i n : ℕ) {number place : ℕ} → i < n → lowest check i ≡ fine
     → refused number place ≡ check i → refused number place ≡ lowest check n
 unfolding lowest
-lowest-found check i zero lt e f = absurd (omega arith)
-lowest-found check i (suc n) {number} {place} lt e f = pick (ℕ_discrete i n) (λ lt. lowest-found check i n lt e f)
+lowest_found check i zero lt e f = absurd (omega arith)
+lowest_found check i (suc n) {number} {place} lt e f = pick (ℕ_discrete i n) (λ lt. lowest_found check i n lt e f)
   where
     pick : Dec (i ≡ n) → (i < n → refused number place ≡ lowest check n)
         → refused number place ≡ and_then (lowest check n) (λ _. check n)
@@ -47,7 +47,7 @@ module _ (check : ℕ → Check) (n : ℕ) where
 
   pub pass_fails : (i : ℕ) {number place : ℕ} → i < n → Passing check n i → refused number place ≡ check i
       → refused number place ≡ lowest check n
-  pass_fails i lt inv f = lowest-found check i n lt inv.passed f
+  pass_fails i lt inv f = lowest_found check i n lt inv.passed f
 
   pub pass_ends : (i : ℕ) → n ≤ i → Passing check n i → fine ≡ lowest check n
   pass_ends i le inv =
@@ -59,27 +59,27 @@ pub lowest_each : (check : ℕ → Check) (n : ℕ) → lowest check n ≡ fine 
 unfolding lowest
 lowest_each check zero e k lt = absurd (omega arith)
 lowest_each check (suc n) e k lt =
-    pick (ℕ_discrete k n) (λ lt. lowest_each check n (fine-first (lowest check n) (check n) e) k lt)
+    pick (ℕ_discrete k n) (λ lt. lowest_each check n (fine_first (lowest check n) (check n) e) k lt)
   where
     pick : Dec (k ≡ n) → (k < n → check k ≡ fine) → check k ≡ fine
     pick (yes same) below = rw same (fine_second (lowest check n) (check n) e)
     pick (no other) below = below (omega arith)
 
 -- and so are the first of them together
-pub lowest-below : (check : ℕ → Check) (n : ℕ) → lowest check n ≡ fine → (k : ℕ) → k ≤ n → lowest check k ≡ fine
+pub lowest_below : (check : ℕ → Check) (n : ℕ) → lowest check n ≡ fine → (k : ℕ) → k ≤ n → lowest check k ≡ fine
 unfolding lowest
-lowest-below check zero e k le =
+lowest_below check zero e k le =
     let z : k ≡ 0 = omega arith in
     rw z refl
-lowest-below check (suc n) e k le =
-    pick (ℕ_discrete k (suc n)) (λ le. lowest-below check n (fine-first (lowest check n) (check n) e) k le)
+lowest_below check (suc n) e k le =
+    pick (ℕ_discrete k (suc n)) (λ le. lowest_below check n (fine_first (lowest check n) (check n) e) k le)
   where
     pick : Dec (k ≡ suc n) → (k ≤ n → lowest check k ≡ fine) → lowest check k ≡ fine
     pick (yes same) below = rw same e
     pick (no other) below = below (omega arith)
 
 -- checks that are fine each are fine together
-pub lowest-all : (check : ℕ → Check) (n : ℕ) → ((k : ℕ) → k < n → check k ≡ fine) → lowest check n ≡ fine
+pub lowest_all : (check : ℕ → Check) (n : ℕ) → ((k : ℕ) → k < n → check k ≡ fine) → lowest check n ≡ fine
 unfolding lowest
-lowest-all check zero h = refl
-lowest-all check (suc n) h = rw (lowest-all check n (λ k l. h k (omega arith))) (h n (omega arith))
+lowest_all check zero h = refl
+lowest_all check (suc n) h = rw (lowest_all check n (λ k l. h k (omega arith))) (h n (omega arith))

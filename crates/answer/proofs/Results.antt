@@ -16,9 +16,9 @@ then_accepted (accepted a) f e = (a, refl, e)
 then_accepted (refused number place) f e = never_both e
 
 -- what a fine check says of its test, alone and before others
-pub require-fine : (t : Bool) (number place : ℕ) → require t number place ≡ fine → t ≡ true
-require-fine true number place e = refl
-require-fine false number place e = not_fine e
+pub require_fine : (t : Bool) (number place : ℕ) → require t number place ≡ fine → t ≡ true
+require_fine true number place e = refl
+require_fine false number place e = not_fine e
 
 pub required : (t : Bool) (number place : ℕ) (rest : Check) → and_then (require t number place) (λ _. rest) ≡ fine
     → (t ≡ true) × (rest ≡ fine)

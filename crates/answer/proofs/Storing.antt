@@ -9,7 +9,7 @@ use native.Mathlib.Omega.{arith}
 use lib.ListN.{length, get_or, take, drop, set, replicate, length-set, length-replicate}
 use lib.Seq.{sets, paste-suc, take_all, drop-length}
 use Rattle.answer.specs.Bytes.{two_bytes}
-use Rattle.answer.proofs.Zeros.{zeros-at}
+use Rattle.answer.proofs.Zeros.{zeros_at}
 
 -- a loop that stores vs and stands at i: the first i are stored, and the rest is as it was
 pub record Storing (xs vs : List ℕ) (n : ℕ) (ys : List ℕ) (i : ℕ) : Type 0 where
@@ -42,7 +42,7 @@ module _ (xs ys : List ℕ) (i : ℕ) where
   pub zero_steps : i < length ys → Zeroing xs ys i → Zeroing xs (set ys i 0) (i + 1)
   zero_steps lt inv =
       let all = length-replicate {A = ℕ} (length xs) 0 in
-      rw (zeros-at (length xs) i) at (store_steps xs _ (length xs) ys i (omega arith) (omega arith) (omega arith) inv)
+      rw (zeros_at (length xs) i) at (store_steps xs _ (length xs) ys i (omega arith) (omega arith) (omega arith) inv)
 
   pub zero_ends : length ys ≤ i → Zeroing xs ys i → ys ≡ replicate (length xs) 0
   zero_ends le inv =

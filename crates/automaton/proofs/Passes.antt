@@ -110,8 +110,8 @@ module _ (s n : ℕ) (pos : 0 < n) (w : ℕ → ℕ) (round : (i : ℕ) → s �
       let e : l.first + turns ≡ l.second = omega arith in
       omega (arith, add-mul l.first turns n, ap (λ (x : ℕ). x * n) e)
 
-  start-end : start < end
-  start-end = let h = l.later in omega (arith, span, mul-pos {m = turns} {n = n} (omega arith) pos)
+  start_end : start < end
+  start_end = let h = l.later in omega (arith, span, mul-pos {m = turns} {n = n} (omega arith) pos)
 
   round_on : (i : ℕ) → s ≤ i → (q : ℕ) → w (i + q * n) ≡ w i
   round_on i l zero = ap w (omega arith)
@@ -140,11 +140,11 @@ module _ (s n : ℕ) (pos : 0 < n) (w : ℕ → ℕ) (round : (i : ℕ) → s �
 
   back_lt : (i : ℕ) → back i < end
   unfolding Turned
-  back_lt zero = unfold back in omega (arith, start-end)
+  back_lt zero = unfold back in omega (arith, start_end)
   back_lt (suc i) = go (back_lt i) (turned i)
     where
       go : back i < end → Turned i → back (suc i) < end
-      go ih (inl x) = omega (arith, start-end)
+      go ih (inl x) = omega (arith, start_end)
       go ih (inr x) = differ (ℕ_discrete (suc (back i)) end)
         where
           differ : Dec (suc (back i) ≡ end) → back (suc i) < end
@@ -166,9 +166,9 @@ module _ (s n : ℕ) (pos : 0 < n) (w : ℕ → ℕ) (round : (i : ℕ) → s �
       go (inl e) (inr (f, g)) = inl (omega arith)
       go (inr (q, a, e)) (inr (f, g)) = inr (q, omega arith, omega arith)
 
-  same-letter : (i : ℕ) → w (back i) ≡ w i
+  same_letter : (i : ℕ) → w (back i) ≡ w i
   unfolding Apart
-  same-letter i = go (apart i)
+  same_letter i = go (apart i)
     where
       go : Apart i → w (back i) ≡ w i
       go (inl e) = ap w e
@@ -194,9 +194,9 @@ module _ (s n : ℕ) (pos : 0 < n) (w : ℕ → ℕ) (round : (i : ℕ) → s �
       go ih (inl x) = absurd (omega arith)
       go ih (inr x) = ap back f ∙ omega arith
 
-  come-round : Again (λ j. back j ≡ start)
+  come_round : Again (λ j. back j ≡ start)
   unfolding Turned
-  come-round i = go (back_lt i) (turned (i + (end - suc (back i))))
+  come_round i = go (back_lt i) (turned (i + (end - suc (back i))))
     where
       d : ℕ
       d = end - suc (back i)
@@ -207,7 +207,7 @@ module _ (s n : ℕ) (pos : 0 < n) (w : ℕ → ℕ) (round : (i : ℕ) → s �
 
   visit : (k : ℕ) → start ≤ k → k < end → Again (λ j. back j ≡ k)
   visit k a b i =
-      let (j, x, e) = come-round i in (j + (k - start), omega arith, omega (arith, ahead (k - start) j (omega arith)))
+      let (j, x, e) = come_round i in (j + (k - start), omega arith, omega (arith, ahead (k - start) j (omega arith)))
 
   accepts_again : Again (λ j. automaton.Accepting (l.at (back j)))
   accepts_again i = let (k, a, b, c) = l.accepts in split k a b c (dec_lt k end)
@@ -222,7 +222,7 @@ module _ (s n : ℕ) (pos : 0 < n) (w : ℕ → ℕ) (round : (i : ℕ) → s �
       split k a b c (no h) =
           let e : k ≡ end = omega arith in
           put start (subst automaton.Accepting (ap l.at e ∙ sym l.same) c)
-          (visit start (omega arith) start-end i)
+          (visit start (omega arith) start_end i)
 
   pub pass_endless : (p : ℕ → X) × Endless w automaton p
   pass_endless = (
@@ -231,7 +231,7 @@ module _ (s n : ℕ) (pos : 0 < n) (w : ℕ → ℕ) (round : (i : ℕ) → s �
       begins = unfold back in l.begins;
       steps = λ i.
           subst (automaton.Step (l.at (back i)) (w i)) (back_step i)
-          (subst (λ (x : ℕ). automaton.Step (l.at (back i)) x (l.at (suc (back i)))) (same-letter i) (l.steps (back i) (back_lt i)));
+          (subst (λ (x : ℕ). automaton.Step (l.at (back i)) x (l.at (suc (back i)))) (same_letter i) (l.steps (back i) (back_lt i)));
       again = accepts_again;
     },
   )

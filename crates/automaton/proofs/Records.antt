@@ -14,22 +14,22 @@ use Rattle.automaton.specs.Records.{records, numbered, state_bytes, state_record
 use Rattle.automaton.specs.Tables.{transition_count}
 
 module _ {A : Type 0} (bytes_of : A → List ℕ) where
-  pub records-append : (xs ys : List A) → records bytes_of (xs ++ ys) ≡ records bytes_of xs ++ records bytes_of ys
+  pub records_append : (xs ys : List A) → records bytes_of (xs ++ ys) ≡ records bytes_of xs ++ records bytes_of ys
   unfolding records
-  records-append [] ys = refl
-  records-append (x ∷ xs) ys =
-      rw (records-append xs ys) (sym (append_assoc (bytes_of x) (records bytes_of xs) (records bytes_of ys)))
+  records_append [] ys = refl
+  records_append (x ∷ xs) ys =
+      rw (records_append xs ys) (sym (append_assoc (bytes_of x) (records bytes_of xs) (records bytes_of ys)))
 
   pub records_last : (xs : List A) (x : A) → records bytes_of (xs ++ (x ∷ [])) ≡ records bytes_of xs ++ bytes_of x
   unfolding records
-  records_last xs x = records-append xs (x ∷ []) ∙ rw (append-nil (bytes_of x))
+  records_last xs x = records_append xs (x ∷ []) ∙ rw (append-nil (bytes_of x))
 
 -- records of the same length
 module _ {A : Type 0} (bytes_of : A → List ℕ) (size : ℕ) (sized : (x : A) → length (bytes_of x) ≡ size) where
-  pub records-length : (xs : List A) → length (records bytes_of xs) ≡ length xs * size
+  pub records_length : (xs : List A) → length (records bytes_of xs) ≡ length xs * size
   unfolding records
-  records-length [] = omega arith
-  records-length (x ∷ xs) = rw length-append (omega (arith, sized x, records-length xs))
+  records_length [] = omega arith
+  records_length (x ∷ xs) = rw length-append (omega (arith, sized x, records_length xs))
 
   -- byte j of record i, whatever follows
   pub byte_at : (none : A) (xs : List A) (rest : List ℕ) (i j k : ℕ) → i < length xs → j < size → k ≡ size * i + j
@@ -44,19 +44,19 @@ module _ {A : Type 0} (bytes_of : A → List ℕ) (size : ℕ) (sized : (x : A) 
       rw (append_assoc, n) (get_or-append-add (bytes_of x) (records bytes_of xs ++ rest) (size * i + j) 0 ∙ byte_at none xs rest i j (size * i + j) (omega arith) m refl)
 
   -- the number whose first byte that is
-  pub number-at : (none : A) (xs : List A) (rest : List ℕ) (i j k : ℕ) → i < length xs → j + 1 < size → k ≡ size * i + j
+  pub number_at_lem : (none : A) (xs : List A) (rest : List ℕ) (i j k : ℕ) → i < length xs → j + 1 < size → k ≡ size * i + j
       → number_at (records bytes_of xs ++ rest) k ≡ number_at (bytes_of (get_or xs i none)) j
-  number-at none xs rest i j k l m e =
+  number_at_lem none xs rest i j k l m e =
       ap₂ (λ (x y : ℕ). x + 256 * y) (byte_at none xs rest i j k l (omega arith) e)
       (byte_at none xs rest i (j + 1) (k + 1) l m (omega arith))
 
 -- ---- a list with its numbers
 
 module _ {A : Type 0} where
-  pub numbered-length : (from : ℕ) (xs : List A) → length (numbered from xs) ≡ length xs
+  pub numbered_length : (from : ℕ) (xs : List A) → length (numbered from xs) ≡ length xs
   unfolding numbered
-  numbered-length from [] = refl
-  numbered-length from (x ∷ xs) = ap suc (numbered-length (suc from) xs)
+  numbered_length from [] = refl
+  numbered_length from (x ∷ xs) = ap suc (numbered_length (suc from) xs)
 
   pub numbered_last : (from : ℕ) (xs : List A) (x : A)
       → numbered from (xs ++ (x ∷ [])) ≡ numbered from xs ++ ((from + length xs, x) ∷ [])
@@ -66,66 +66,66 @@ module _ {A : Type 0} where
       let e : from + suc (length xs) ≡ suc from + length xs = omega arith in
       rw (numbered_last (suc from) xs x, e)
 
-  numbered-at : (none : A) (from : ℕ) (xs : List A) (i : ℕ) → i < length xs
+  numbered_at : (none : A) (from : ℕ) (xs : List A) (i : ℕ) → i < length xs
       → get_or (numbered from xs) i (0, none) ≡ (from + i, get_or xs i none)
   unfolding numbered
-  numbered-at none from [] i l = absurd (omega arith)
-  numbered-at none from (x ∷ xs) zero l = let e : from + 0 ≡ from = omega arith in rw e
-  numbered-at none from (x ∷ xs) (suc i) l =
+  numbered_at none from [] i l = absurd (omega arith)
+  numbered_at none from (x ∷ xs) zero l = let e : from + 0 ≡ from = omega arith in rw e
+  numbered_at none from (x ∷ xs) (suc i) l =
       let e : from + suc i ≡ suc from + i = omega arith in
-      rw (numbered-at none (suc from) xs i (omega arith), e)
+      rw (numbered_at none (suc from) xs i (omega arith), e)
 
 -- ---- an automaton's records
 
-pub number-length : (n : ℕ) → length (two_bytes n) ≡ 2
+pub number_length : (n : ℕ) → length (two_bytes n) ≡ 2
 unfolding two_bytes
-number-length n = refl
+number_length n = refl
 
-pub state-length : (count : ℕ) (accepting rests : Bool) → length (state_bytes count accepting rests) ≡ 4
+pub state_length : (count : ℕ) (accepting rests : Bool) → length (state_bytes count accepting rests) ≡ 4
 unfolding two_bytes
-state-length count accepting rests = refl
+state_length count accepting rests = refl
 
 abbrev record_of : ℕ × State → List ℕ
 record_of x = state_record x.0 x.1
 
 record_length : (x : ℕ × State) → length (record_of x) ≡ 4
 unfolding state_record
-record_length x = state-length (length x.1.transitions) x.1.accepting (at_rest x.0 x.1)
+record_length x = state_length (length x.1.transitions) x.1.accepting (at_rest x.0 x.1)
 
-pub transition-length : (t : Transition) → length (transition_record t) ≡ 4
+pub transition_length : (t : Transition) → length (transition_record t) ≡ 4
 unfolding transition_record two_bytes
-transition-length t = refl
+transition_length t = refl
 
-pub states-length : (a : Automaton) → length (state_records a) ≡ length a.states * 4
+pub states_length : (a : Automaton) → length (state_records a) ≡ length a.states * 4
 unfolding state_records
-states-length a =
-    records-length record_of 4 record_length (numbered 0 a.states) ∙ rw (numbered-length 0 a.states)
+states_length a =
+    records_length record_of 4 record_length (numbered 0 a.states) ∙ rw (numbered_length 0 a.states)
 
 -- the record of state i begins at byte 4 * i, whatever follows
 module _ (a : Automaton) (rest : List ℕ) (i : ℕ) (inside : i < length a.states) where
   there : i < length (numbered 0 a.states)
-  there = omega (arith, numbered-length 0 a.states)
+  there = omega (arith, numbered_length 0 a.states)
 
   here : get_or (numbered 0 a.states) i (0, no_state) ≡ (i, get_or a.states i no_state)
-  here = let e : 0 + i ≡ i = omega arith in numbered-at no_state 0 a.states i inside ∙ rw e
+  here = let e : 0 + i ≡ i = omega arith in numbered_at no_state 0 a.states i inside ∙ rw e
 
-  pub state-byte-at : (j k : ℕ) → j < 4 → k ≡ 4 * i + j
+  pub state_byte_at : (j k : ℕ) → j < 4 → k ≡ 4 * i + j
       → get_or (state_records a ++ rest) k 0 ≡ get_or (state_record i (get_or a.states i no_state)) j 0
   unfolding state_records
-  state-byte-at j k l e =
+  state_byte_at j k l e =
       byte_at record_of 4 record_length (0, no_state) (numbered 0 a.states) rest i j k there l e ∙ rw here
 
-  pub state-number-at : (j k : ℕ) → j + 1 < 4 → k ≡ 4 * i + j
+  pub state_number_at : (j k : ℕ) → j + 1 < 4 → k ≡ 4 * i + j
       → number_at (state_records a ++ rest) k ≡ number_at (state_record i (get_or a.states i no_state)) j
   unfolding state_records
-  state-number-at j k l e =
-      number-at record_of 4 record_length (0, no_state) (numbered 0 a.states) rest i j k there l e ∙ rw here
+  state_number_at j k l e =
+      number_at_lem record_of 4 record_length (0, no_state) (numbered 0 a.states) rest i j k there l e ∙ rw here
 
-transitions-length : (ts : List Transition) → length (records transition_record ts) ≡ length ts * 4
-transitions-length ts = records-length transition_record 4 transition-length ts
+transitions_length : (ts : List Transition) → length (records transition_record ts) ≡ length ts * 4
+transitions_length ts = records_length transition_record 4 transition_length ts
 
-pub transitions-count : (ss : List State)
+pub transitions_count : (ss : List State)
     → length (records (λ s. records transition_record s.transitions) ss) ≡ transition_count ss * 4
 unfolding records transition_count
-transitions-count [] = refl
-transitions-count (s ∷ ss) = rw length-append (omega (arith, transitions-length s.transitions, transitions-count ss))
+transitions_count [] = refl
+transitions_count (s ∷ ss) = rw length-append (omega (arith, transitions_length s.transitions, transitions_count ss))

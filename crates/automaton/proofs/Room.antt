@@ -9,7 +9,7 @@ use lib.Dec.{leb}
 use borrow.Author.Tests.{leb-true, le-leb, lt-leb, not-true, not-false}
 use Rattle.answer.specs.Result.{refused, fine}
 use Rattle.answer.specs.Bytes.{filled}
-use Rattle.answer.proofs.Results.{require-fine}
+use Rattle.answer.proofs.Results.{require_fine}
 use Rattle.automaton.specs.Limits.{states_bytes, transitions_bytes, initial_bytes}
 use Rattle.automaton.specs.Tables.{lengths_fit, table_check, TablesRoom}
 
@@ -50,7 +50,7 @@ module _ (s t i : List ℕ) where
 
   pub room_fine : table_check s t i ≡ fine → TablesRoom s t i
   unfolding table_check
-  room_fine e = room_fits (require-fine sizes 25 0 e)
+  room_fine e = room_fits (require_fine sizes 25 0 e)
 
   pub fine_room : TablesRoom s t i → table_check s t i ≡ fine
   unfolding table_check
@@ -60,14 +60,14 @@ module _ (s t i : List ℕ) where
   tables_room {r} e f = room_fits (rw (← e) (not-false r f))
 
 -- a table that was filled is no shorter
-filled-longer : (table bytes : List ℕ) → length table ≤ length (filled table bytes)
-filled-longer table bytes =
+filled_longer : (table bytes : List ℕ) → length table ≤ length (filled table bytes)
+filled_longer table bytes =
     let zeros = length table - length bytes in
     rw (length-append bytes (replicate zeros 0), length-replicate {A = ℕ} zeros 0) (omega arith)
 
 pub filled_room : (s t i x y z : List ℕ) → TablesRoom s t i → TablesRoom (filled s x) (filled t y) (filled i z)
 filled_room s t i x y z room = record {
-  states = omega (arith, room.states, filled-longer s x);
-  transitions = omega (arith, room.transitions, filled-longer t y);
-  initial = omega (arith, room.initial, filled-longer i z);
+  states = omega (arith, room.states, filled_longer s x);
+  transitions = omega (arith, room.transitions, filled_longer t y);
+  initial = omega (arith, room.initial, filled_longer i z);
 }

@@ -19,7 +19,7 @@ use Rattle.generalized.specs.Generalized.{transitions}
 use Rattle.automaton.specs.Automaton.{Automaton, AcceptingPass, Recognizes}
 use Rattle.translation.specs.Degeneralized.{translation}
 use Rattle.translation.specs.Translate.{written_translation}
-use Rattle.lasso.proofs.Letters.{letter-round}
+use Rattle.lasso.proofs.Letters.{letter_round}
 use Rattle.automaton.proofs.Passes.{pass_iff}
 use Rattle.correctness.proofs.Runs.{Represents}
 use Rattle.correctness.proofs.Counting.{endless_iff_holds}
@@ -34,7 +34,7 @@ pub pass_iff_satisfied_by : (rule stem cycle : List ℕ) (listing : ℕ → List
     → AcceptingPass a stem cycle ↔ Satisfies rule stem cycle
 unfolding Satisfies
 pass_iff_satisfied_by rule stem cycle listing represents a e pos =
-    let round = letter-round stem cycle in
+    let round = letter_round stem cycle in
     translated rule listing (λ x. AcceptingPass x stem cycle ↔ Satisfies rule stem cycle)
     (λ passed states first pairs second. Iff.trans (pass_iff (automaton_by rule listing states pairs) stem cycle)
     (Iff.trans

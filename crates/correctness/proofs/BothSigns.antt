@@ -24,15 +24,15 @@ use Rattle.term.specs.Term.{Term, term, less, joined, consistent, product, cover
 use Rattle.generalized.specs.Generalized.{times, partial_product, generalized}
 use Rattle.translation.specs.Degeneralized.{translation}
 use Rattle.translation.specs.Conflicts.{rule_conflicts, written_conflicts}
-use Rattle.correctness.proofs.Members.{all-union, all-product}
-use Rattle.correctness.proofs.ConflictsExactly.{first_factor, second_factor, Join, of_node, of-state, Clash}
+use Rattle.correctness.proofs.Members.{all_union, all_product}
+use Rattle.correctness.proofs.ConflictsExactly.{first_factor, second_factor, Join, of_node, of_state, Clash}
 use Rattle.correctness.proofs.ConflictsExactly.{conflicts_passed, rule_exactly}
 
 -- a node of that kind, 2 plain or 3 negated, has the proposition p
 pub record Stands (rule : List ℕ) (kind p : ℕ) : Type 0 where
   pub node : ℕ
   pub inside : node < node_count rule
-  pub of-kind : kind_at rule node ≡ kind
+  pub of_kind : kind_at rule node ≡ kind
   pub of_proposition : left_at rule node ≡ p
 
 -- ---- P is said of each proposition that stands plain, Q of each that stands negated
@@ -65,7 +65,7 @@ module _ (P Q : ℕ → Type 0) where
   owing_signed c = record { plain = λ p h. absurd (zero_has h); negated = λ p h. absurd (zero_has h) }
 
   product_signed : (ts us : List Term) → All Signed ts → All Signed us → All Signed (product ts us)
-  product_signed = all-product less joined consistent Signed joined_signed
+  product_signed = all_product less joined consistent Signed joined_signed
 
   own_signed : (c : ℕ) → All Signed (term 0 0 c ∷ [])
   own_signed c = all_one Signed (term 0 0 c) (owing_signed c)
@@ -82,15 +82,15 @@ module _ (P Q : ℕ → Type 0) where
       (record { plain = λ p h. absurd (zero_has h); negated = λ p h. subst Q (sym (has_pow q p h)) s })
   terms_signed (conjunction a b) (s, r) = product_signed (terms a) (terms b) (terms_signed a s) (terms_signed b r)
   terms_signed (disjunction a b) (s, r) =
-      all-union less Signed (terms a) (terms b) (terms_signed a s) (terms_signed b r)
+      all_union less Signed (terms a) (terms b) (terms_signed a s) (terms_signed b r)
   terms_signed (next n a) s = λ t h.
       let (c, m, e) = map_in (term 0 0) t (cover a) h in subst Signed (sym e) (owing_signed c)
   terms_signed (until n a b) (s, r) =
-      all-union less Signed (terms b) (product (terms a) (term 0 0 (2 ^ n) ∷ [])) (terms_signed b r)
+      all_union less Signed (terms b) (product (terms a) (term 0 0 (2 ^ n) ∷ [])) (terms_signed b r)
       (product_signed (terms a) (term 0 0 (2 ^ n) ∷ []) (terms_signed a s) (own_signed (2 ^ n)))
   terms_signed (release n a b) (s, r) =
       product_signed (terms b) (union less (terms a) (term 0 0 (2 ^ n) ∷ [])) (terms_signed b r)
-      (all-union less Signed (terms a) (term 0 0 (2 ^ n) ∷ []) (terms_signed a s) (own_signed (2 ^ n)))
+      (all_union less Signed (terms a) (term 0 0 (2 ^ n) ∷ []) (terms_signed a s) (own_signed (2 ^ n)))
 
   -- in the two lists whose product is in a formula's terms
   first_signed : (f : Formula) → Signs f → All Signed (first_factor f)
@@ -116,7 +116,7 @@ module _ (P Q : ℕ → Type 0) where
   second_signed (next n a) s = λ t h. absurd h
   second_signed (until n a b) (s, r) = own_signed (2 ^ n)
   second_signed (release n a b) (s, r) =
-      all-union less Signed (terms a) (term 0 0 (2 ^ n) ∷ []) (terms_signed a s) (own_signed (2 ^ n))
+      all_union less Signed (terms a) (term 0 0 (2 ^ n) ∷ []) (terms_signed a s) (own_signed (2 ^ n))
 
   -- in a state's products, and in every join
   module _ (rule : List ℕ) (trees : (n : ℕ) → n < node_count rule → Signs (tree rule n)) where
@@ -132,7 +132,7 @@ module _ (P Q : ℕ → Type 0) where
     join_signed : {states : List ℕ} {t u : Term} → Join rule states t u → Signed (joined t u)
     join_signed (of_node n t u inside l m) =
         joined_signed t u (first_signed (tree rule n) (trees n inside) t l) (second_signed (tree rule n) (trees n inside) u m)
-    join_signed (of-state state n t u is inside owed l m) =
+    join_signed (of_state state n t u is inside owed l m) =
         joined_signed t u (partial_signed state n (omega arith) t l) (terms_signed (tree rule n) (trees n inside) u m)
 
     clash_signs : {states : List ℕ} (p : ℕ) → Clash rule states p → P p × Q p
@@ -168,7 +168,7 @@ module _ (rule : List ℕ) (passed : Rule.checked rule ≡ fine) where
       node = (accepted_fine rule passed).nodes n inside
 
       stands : (kind : ℕ) → kind_at rule n ≡ kind → Stands rule kind (left_at rule n)
-      stands kind e = record { node = n; inside = inside; of-kind = e; of_proposition = refl }
+      stands kind e = record { node = n; inside = inside; of_kind = e; of_proposition = refl }
 
       pick : Dec (3 < kind_at rule n) → SignsIn n
       pick (yes inner) =
@@ -202,19 +202,19 @@ pub conflicts_both_signs : (rule : List ℕ) (set : ℕ) → written_conflicts r
     → (form : List ℕ) × (normal_form rule ≡ accepted form) × Stands form 2 p × Stands form 3 p
 unfolding written_conflicts
 conflicts_both_signs rule set e p h =
-    let (form, made, of-form) = then_accepted (normal_form rule) _ e in
-    let (plain, negated) = rule_both_signs form set of-form p h in
+    let (form, made, of_form) = then_accepted (normal_form rule) _ e in
+    let (plain, negated) = rule_both_signs form set of_form p h in
     (form, made, plain, negated)
 
 -- so the set fits a byte: there are no more propositions than bits
-pub conflicts-byte : (rule : List ℕ) (set : ℕ) → written_conflicts rule ≡ accepted set → set < 256
+pub conflicts_byte : (rule : List ℕ) (set : ℕ) → written_conflicts rule ≡ accepted set → set < 256
 unfolding written_conflicts
-conflicts-byte rule set e =
-    let (form, made, of-form) = then_accepted (normal_form rule) _ e in
-    bits_below set 8 (λ p h. below form (conflicts_passed form set of-form) p (rule_both_signs form set of-form p h).0)
+conflicts_byte rule set e =
+    let (form, made, of_form) = then_accepted (normal_form rule) _ e in
+    bits_below set 8 (λ p h. below form (conflicts_passed form set of_form) p (rule_both_signs form set of_form p h).0)
   where
     below : (form : List ℕ) → Rule.checked form ≡ fine → (p : ℕ) → Stands form 2 p → p < 8
     below form passed p stands =
         let node = (accepted_fine form passed).nodes stands.node stands.inside in
-        let small = node.proposition (omega (arith, stands.of-kind)) (omega (arith, stands.of-kind)) in
+        let small = node.proposition (omega (arith, stands.of_kind)) (omega (arith, stands.of_kind)) in
         omega (arith, stands.of_proposition, small)

@@ -21,16 +21,16 @@ use Rattle.generalized.specs.Generalized.{times, partial_product}
 use Rattle.sets.proofs.Bits.{has_dec, has_true, has_false, not_has, or_has, zero_has, has_pow, and_disjoint}
 use Rattle.sets.proofs.Members.{in_map}
 use Rattle.correctness.proofs.Members.{in_union, in_product, ltb_equal, less_equal}
-use Rattle.correctness.proofs.Runs.{Reads, Within, within_trans, within-l, within-r, Fulfilling, Known, Fits, Run, Fair, Dominates, TermOf}
+use Rattle.correctness.proofs.Runs.{Reads, Within, within_trans, within_l, within_r, Fulfilling, Known, Fits, Run, Fair, Dominates, TermOf}
 use Rattle.correctness.proofs.Trees.{tree_fits}
-use Rattle.correctness.proofs.Obligations.{terms-own}
+use Rattle.correctness.proofs.Obligations.{terms_own}
 
 -- what reads a letter is not at odds with itself
-reads-consistent : (t : Term) (letter : ℕ) → Reads t letter → consistent t ≡ true
-reads-consistent t letter r = eq-eqb (bit_and t.must t.must_not) 0 (and_disjoint t.must t.must_not (λ n p q. r.clear n q (r.set n p)))
+reads_consistent : (t : Term) (letter : ℕ) → Reads t letter → consistent t ≡ true
+reads_consistent t letter r = eq-eqb (bit_and t.must t.must_not) 0 (and_disjoint t.must t.must_not (λ n p q. r.clear n q (r.set n p)))
 
-reads-joined : (x y : Term) (letter : ℕ) → Reads x letter → Reads y letter → Reads (joined x y) letter
-reads-joined x y letter p q = record {
+reads_joined : (x y : Term) (letter : ℕ) → Reads x letter → Reads y letter → Reads (joined x y) letter
+reads_joined x y letter p q = record {
   set = λ n h. elim (or_has x.must y.must n h) [ inl c ↦ p.set n c | inr c ↦ q.set n c ];
   clear = λ n h s. elim (or_has x.must_not y.must_not n h) [ inl c ↦ p.clear n c s | inr c ↦ q.clear n c s ];
 }
@@ -46,8 +46,8 @@ until_goes_on w n a b i (k, l, hb, f) no-b = go (ℕ_discrete i k)
     go (yes q) = absurd (no-b (subst (Holds w b) (sym q) hb))
     go (no q) = (f i (omega arith) (omega arith), (k, omega arith, hb, λ j x y. f j (omega arith) y))
 
-release-right : (w : ℕ → ℕ) (n : ℕ) (a b : Formula) (i : ℕ) → Holds w (release n a b) i → Holds w b i
-release-right w n a b i h = elim (h i (omega arith)) [ inl x ↦ x | inr x ↦ absurd (omega arith) ]
+release_right : (w : ℕ → ℕ) (n : ℕ) (a b : Formula) (i : ℕ) → Holds w (release n a b) i → Holds w b i
+release_right w n a b i h = elim (h i (omega arith)) [ inl x ↦ x | inr x ↦ absurd (omega arith) ]
 
 release_goes_on : (w : ℕ → ℕ) (n : ℕ) (a b : Formula) (i : ℕ) → Holds w (release n a b) i → (Holds w a i → ⊥) → Holds w (release n a b) (suc i)
 release_goes_on w n a b i h no-a k l = go (h k (omega arith))
@@ -114,10 +114,10 @@ module _ (rule : List ℕ) (w : ℕ → ℕ) (decide : (g : Formula) (i : ℕ) �
 
   pick_both : {ts us : List Term} {i : ℕ} → Picked ts i → Picked us i → Picked (product ts us) i
   pick_both {ts} {us} {i} p q =
-      let r = reads-joined p.choice q.choice (w i) p.reads q.reads in
+      let r = reads_joined p.choice q.choice (w i) p.reads q.reads in
       record {
         choice = joined p.choice q.choice;
-        listed = in_product less less_equal joined consistent p.choice q.choice ts us p.listed q.listed (reads-consistent (joined p.choice q.choice) (w i) r);
+        listed = in_product less less_equal joined consistent p.choice q.choice ts us p.listed q.listed (reads_consistent (joined p.choice q.choice) (w i) r);
         reads = r;
         owes = owes_or p.choice.obligations q.choice.obligations (suc i) p.owes q.owes;
       }
@@ -162,11 +162,11 @@ module _ (rule : List ℕ) (w : ℕ → ℕ) (decide : (g : Formula) (i : ℕ) �
 
       go : Dec (Holds w b i) → (Holds w b i → Picked (terms b) i) → (Holds w a i → Picked (terms a) i)
           → (p : Picked (union less (terms b) (product (terms a) owed)) i) × (Holds w b i → Has p.choice.obligations n → ⊥)
-      go (yes hb) pb pa = (pick_left (terms b) (product (terms a) owed) (pb hb), λ q. terms-own n b l (pb hb).choice (pb hb).listed)
+      go (yes hb) pb pa = (pick_left (terms b) (product (terms a) owed) (pb hb), λ q. terms_own n b l (pb hb).choice (pb hb).listed)
       go (no no-b) pb pa =
           let (ha, hu) = until_goes_on w n a b i h no-b in
           (pick_right (terms b) (product (terms a) owed) (pick_both (pa ha) (pick_owing (2 ^ n) i owed (inl refl) (owes_one n (until n a b) k (suc i) hu))), λ hb. absurd (no-b hb))
-  pick (release n a b) (k, fa, fb) i h = (pick_both (pick b fb i (release-right w n a b i h)).0 (go (decide a i) (λ ha. (pick a fa i ha).0)), tt)
+  pick (release n a b) (k, fa, fb) i h = (pick_both (pick b fb i (release_right w n a b i h)).0 (go (decide a i) (λ ha. (pick a fa i ha).0)), tt)
     where
       owed : List Term
       owed = term 0 0 (2 ^ n) ∷ []
@@ -198,10 +198,10 @@ module _ (rule : List ℕ) (w : ℕ → ℕ) (decide : (g : Formula) (i : ℕ) �
           add (p, c) = (pick_both r.picked p, λ m l h. each m l h (ℕ_discrete k m))
             where
               each : (m : ℕ) → m < suc k → Has e m → Dec (k ≡ m) → Each (joined r.picked.choice p.choice) m
-              each m l h (yes z) = subst (Each (joined r.picked.choice p.choice)) z (p.choice, p.listed, within-r r.picked.choice p.choice, c)
+              each m l h (yes z) = subst (Each (joined r.picked.choice p.choice)) z (p.choice, p.listed, within_r r.picked.choice p.choice, c)
               each m l h (no z) =
                   let (u, mu, wi, pr) = r.each m (omega arith) h in
-                  (u, mu, within_trans wi (within-l r.picked.choice p.choice), pr)
+                  (u, mu, within_trans wi (within_l r.picked.choice p.choice), pr)
       grown false q r = (r.picked, λ m l h. each m l h (ℕ_discrete k m))
         where
           each : (m : ℕ) → m < suc k → Has e m → Dec (k ≡ m) → Each r.picked.choice m

@@ -11,7 +11,7 @@ use lib.Bits.{bit_or, or_zero_l}
 use borrow.Author.Tests.{eqb-true, eq-eqb}
 use Rattle.answer.specs.Result.{accepted, fine}
 use Rattle.answer.proofs.Results.{then_accepted}
-use Rattle.answer.proofs.Lowest.{fine-first}
+use Rattle.answer.proofs.Lowest.{fine_first}
 use Rattle.sets.specs.Bits.{has, Has}
 use Rattle.sets.specs.Sets.{In, union, join_conflicts, product_conflicts}
 use Rattle.sets.proofs.Bits.{Sub, zero_has, has_true, has_false, or_has, has_or_l, has_or_r, some_bit}
@@ -19,14 +19,14 @@ use Rattle.formula.specs.Rule.{node_count, root, kind_at, left_at, right_at, rel
 use Rattle.formula.specs.Rule
 use Rattle.formula.specs.Formula.{Formula, bottom, top, proposition, negatedProposition, conjunction, disjunction, next}
 use Rattle.formula.specs.Formula.{until, release, build, tree, formula}
-use Rattle.formula.proofs.Accepted.{Node, accepted_fine, formed-fine, kind_known}
+use Rattle.formula.proofs.Accepted.{Node, accepted_fine, formed_fine, kind_known}
 use Rattle.formula.proofs.Trees.{leaf_in, pair_in}
 use Rattle.normalform.specs.NormalForm.{normal_form}
 use Rattle.term.specs.Term.{Term, term, less, joined, conflict, consistent, conflicts_between, terms, conflicts}
 use Rattle.term.specs.Size.{sizes_checked}
 use Rattle.term.specs.Memory.{Reaches, here, left, right}
-use Rattle.term.proofs.Sizes.{bytes-fine}
-use Rattle.term.proofs.Reached.{reached-whole}
+use Rattle.term.proofs.Sizes.{bytes_fine}
+use Rattle.term.proofs.Reached.{reached_whole}
 use Rattle.generalized.specs.Generalized.{partial_product, times_conflicts, partial_conflicts, state_conflicts, walk_conflicts, generalized}
 use Rattle.translation.specs.Degeneralized.{translation}
 use Rattle.translation.specs.Conflicts.{rule_conflicts, written_conflicts}
@@ -60,7 +60,7 @@ second_factor (release n a b) = union less (terms a) (term 0 0 (2 ^ n) ∷ [])
 pub data Join (rule states : List ℕ) : (t u : Term) → Type 0 where
   of_node : (n : ℕ) (t u : Term) → n < node_count rule → In t (first_factor (tree rule n))
       → In u (second_factor (tree rule n)) → Join rule states t u
-  of-state : (state n : ℕ) (t u : Term) → In state states → n < node_count rule → Has state n
+  of_state : (state n : ℕ) (t u : Term) → In state states → n < node_count rule → Has state n
       → In t (partial_product rule state n) → In u (terms (tree rule n)) → Join rule states t u
 
 -- a join that asks for p and forbids it, so that it is dropped
@@ -120,18 +120,18 @@ module _ (p : ℕ) where
 abbrev own_conflicts : Formula → ℕ
 own_conflicts f = conflicts_between (first_factor f) (second_factor f)
 
-own-counts : (f : Formula) → Sub (own_conflicts f) (conflicts f)
+own_counts : (f : Formula) → Sub (own_conflicts f) (conflicts f)
 unfolding conflicts first_factor second_factor product_conflicts
-own-counts bottom p h = h
-own-counts top p h = h
-own-counts (proposition n q) p h = h
-own-counts (negatedProposition n q) p h = h
-own-counts (conjunction a b) p h = has_or_l (conflicts_between (terms a) (terms b)) (bit_or (conflicts a) (conflicts b)) p h
-own-counts (disjunction a b) p h = absurd (zero_has h)
-own-counts (next n a) p h = absurd (zero_has h)
-own-counts (until n a b) p h =
+own_counts bottom p h = h
+own_counts top p h = h
+own_counts (proposition n q) p h = h
+own_counts (negatedProposition n q) p h = h
+own_counts (conjunction a b) p h = has_or_l (conflicts_between (terms a) (terms b)) (bit_or (conflicts a) (conflicts b)) p h
+own_counts (disjunction a b) p h = absurd (zero_has h)
+own_counts (next n a) p h = absurd (zero_has h)
+own_counts (until n a b) p h =
     has_or_l (conflicts_between (terms a) (term 0 0 (2 ^ n) ∷ [])) (bit_or (conflicts a) (conflicts b)) p h
-own-counts (release n a b) p h =
+own_counts (release n a b) p h =
     has_or_l (conflicts_between (terms b) (union less (terms a) (term 0 0 (2 ^ n) ∷ []))) (bit_or (conflicts a) (conflicts b)) p h
 
 -- the conflicts of a node by its kind, and by those of its sides
@@ -170,7 +170,7 @@ module _ (rule : List ℕ) (passed : Rule.checked rule ≡ fine) where
 
     kind_few : kind_at rule n ≤ release_kind
     kind_few = unfold Rule.checked in
-        let formed = formed-fine release_kind rule (fine-first (syntax_check release_kind rule) _ passed) in
+        let formed = formed_fine release_kind rule (fine_first (syntax_check release_kind rule) _ passed) in
         kind_known release_kind rule n (formed.each n inside)
 
     abbrev of : ℕ → ℕ
@@ -184,8 +184,8 @@ module _ (rule : List ℕ) (passed : Rule.checked rule ≡ fine) where
         leaf_in rule n inside node (λ f. conflicts f ≡ 0) (kind_at rule n) refl (left_at rule n) refl
         (λ f g. leaf_none n (left_at rule n) f g (kind_at rule n) (omega arith))
 
-    of-next : kind_at rule n ≡ 6 → of n ≡ of (left_at rule n)
-    of-next e =
+    of_next : kind_at rule n ≡ 6 → of n ≡ of (left_at rule n)
+    of_next e =
         pair_in rule n inside node (λ f. conflicts f ≡ of (left_at rule n)) (kind_at rule n) refl (left_at rule n)
         (right_at rule n) refl refl (omega arith) (next_operand n (left_at rule n) _ _ (kind_at rule n) e)
 
@@ -202,7 +202,7 @@ module _ (rule : List ℕ) (passed : Rule.checked rule ≡ fine) where
     in_left inner p h = pick (ℕ_discrete (kind_at rule n) 6)
       where
         pick : Dec (kind_at rule n ≡ 6) → Has (of n) p
-        pick (yes e) = rw (of-next e) h
+        pick (yes e) = rw (of_next e) h
         pick (no pair) = rw (of_pair inner pair)
             (has_or_r own (bit_or (of (left_at rule n)) (of (right_at rule n))) p
             (has_or_l (of (left_at rule n)) (of (right_at rule n)) p h))
@@ -212,19 +212,19 @@ module _ (rule : List ℕ) (passed : Rule.checked rule ≡ fine) where
         (has_or_r own (bit_or (of (left_at rule n)) (of (right_at rule n))) p
         (has_or_r (of (left_at rule n)) (of (right_at rule n)) p h))
 
-  reached-counts : {n k : ℕ} → n < node_count rule → Reaches rule n k
+  reached_counts : {n k : ℕ} → n < node_count rule → Reaches rule n k
       → Sub (conflicts (tree rule k)) (conflicts (tree rule n))
-  reached-counts inside (here n) p h = h
-  reached-counts inside (left n k inner r) p h =
-      in_left n inside inner p (reached-counts (omega (arith, (node n inside).left inner)) r p h)
-  reached-counts inside (right n k inner pair r) p h =
-      in_right n inside inner pair p (reached-counts (omega (arith, (node n inside).right inner)) r p h)
+  reached_counts inside (here n) p h = h
+  reached_counts inside (left n k inner r) p h =
+      in_left n inside inner p (reached_counts (omega (arith, (node n inside).left inner)) r p h)
+  reached_counts inside (right n k inner pair r) p h =
+      in_right n inside inner pair p (reached_counts (omega (arith, (node n inside).right inner)) r p h)
 
   -- those of every node are among those of the root, since 6 lets no node stand apart
-  every_node-counts : (n : ℕ) → n < node_count rule → Sub (conflicts (tree rule n)) (conflicts (formula rule))
+  every_node_counts : (n : ℕ) → n < node_count rule → Sub (conflicts (tree rule n)) (conflicts (formula rule))
   unfolding formula
-  every_node-counts n lt =
-      reached-counts (omega (arith, (accepted_fine rule passed).some)) (reached-whole rule passed n lt)
+  every_node_counts n lt =
+      reached_counts (omega (arith, (accepted_fine rule passed).some)) (reached_whole rule passed n lt)
 
   -- and each comes from the own joins of some node
   module _ (p : ℕ) where
@@ -249,20 +249,20 @@ module _ (rule : List ℕ) (passed : Rule.checked rule ≡ fine) where
         pick : Dec (3 < kind_at rule n) → Dec (kind_at rule n ≡ 6) → Found
         pick (no leaf) is = absurd (zero_has (subst (λ (x : ℕ). Has x p) (of_leaf n inside leaf) h))
         pick (yes inner) (yes e) =
-            below (left_at rule n) ((node n inside).left inner) (subst (λ (x : ℕ). Has x p) (of-next n inside e) h)
+            below (left_at rule n) ((node n inside).left inner) (subst (λ (x : ℕ). Has x p) (of_next n inside e) h)
         pick (yes inner) (no pair) =
             parts inner pair
             (or_has (own n inside) (bit_or (conflicts (tree rule (left_at rule n))) (conflicts (tree rule (right_at rule n)))) p
             (subst (λ (x : ℕ). Has x p) (of_pair n inside inner pair) h))
 
-    found-to : (bound n : ℕ) → n < bound → n < node_count rule → Has (conflicts (tree rule n)) p → Found
-    found-to zero n lt inside h = absurd (omega arith)
-    found-to (suc bound) n lt inside h =
-        found_step n inside (λ k l. found-to bound k (omega arith) (omega arith)) h
+    found_to : (bound n : ℕ) → n < bound → n < node_count rule → Has (conflicts (tree rule n)) p → Found
+    found_to zero n lt inside h = absurd (omega arith)
+    found_to (suc bound) n lt inside h =
+        found_step n inside (λ k l. found_to bound k (omega arith) (omega arith)) h
 
-    root-found : Has (conflicts (formula rule)) p → Found
+    root_found : Has (conflicts (formula rule)) p → Found
     unfolding formula
-    root-found h = found-to (suc (root rule)) (root rule) (omega arith) (omega (arith, (accepted_fine rule passed).some)) h
+    root_found h = found_to (suc (root rule)) (root rule) (omega arith) (omega (arith, (accepted_fine rule passed).some)) h
 
 -- ---- the partial products of all states
 
@@ -303,23 +303,23 @@ module _ (rule : List ℕ) (p : ℕ) where
           has_or_l (partial_conflicts rule state n)
           (times_conflicts (has state n) (partial_product rule state n) (terms (tree rule n))) p (ih (omega arith))
 
-  walk-found : (states : List ℕ) → Has (walk_conflicts rule states) p
+  walk_found : (states : List ℕ) → Has (walk_conflicts rule states) p
       → (state : ℕ) × In state states × Has (state_conflicts rule state) p
   unfolding walk_conflicts
-  walk-found [] h = absurd (zero_has h)
-  walk-found (x ∷ xs) h = elim (or_has (state_conflicts rule x) (walk_conflicts rule xs) p h) [
+  walk_found [] h = absurd (zero_has h)
+  walk_found (x ∷ xs) h = elim (or_has (state_conflicts rule x) (walk_conflicts rule xs) p h) [
     | inl k ↦ (x, inl refl, k)
-    | inr k ↦ (let (state, m, found) = walk-found xs k in (state, inr m, found))
+    | inr k ↦ (let (state, m, found) = walk_found xs k in (state, inr m, found))
   ]
 
-  walk-counts : (states : List ℕ) (state : ℕ) → In state states → Has (state_conflicts rule state) p
+  walk_counts : (states : List ℕ) (state : ℕ) → In state states → Has (state_conflicts rule state) p
       → Has (walk_conflicts rule states) p
   unfolding walk_conflicts
-  walk-counts [] state m h = absurd m
-  walk-counts (x ∷ xs) state (inl e) h =
+  walk_counts [] state m h = absurd m
+  walk_counts (x ∷ xs) state (inl e) h =
       has_or_l (state_conflicts rule x) (walk_conflicts rule xs) p (subst (λ (s : ℕ). Has (state_conflicts rule s) p) e h)
-  walk-counts (x ∷ xs) state (inr m) h =
-      has_or_r (state_conflicts rule x) (walk_conflicts rule xs) p (walk-counts xs state m h)
+  walk_counts (x ∷ xs) state (inr m) h =
+      has_or_r (state_conflicts rule x) (walk_conflicts rule xs) p (walk_counts xs state m h)
 
 -- ---- an accepted rule
 
@@ -328,7 +328,7 @@ pub conflicts_passed : (rule : List ℕ) (set : ℕ) → rule_conflicts rule ≡
 unfolding rule_conflicts translation
 conflicts_passed rule set e =
     let (a, made, after) = then_accepted (translation rule) _ e in
-    bytes-fine rule (then_accepted (sizes_checked rule) _ made).1
+    bytes_fine rule (then_accepted (sizes_checked rule) _ made).1
 
 module _ (rule states : List ℕ) (set : ℕ) (walked : generalized rule ≡ accepted states)
     (carried : rule_conflicts rule ≡ accepted set) where
@@ -343,20 +343,20 @@ module _ (rule states : List ℕ) (set : ℕ) (walked : generalized rule ≡ acc
 
   clashes : (p : ℕ) → Has set p → Clash rule states p
   clashes p h = elim (or_has (conflicts (formula rule)) (walk_conflicts rule states) p (subst (λ (x : ℕ). Has x p) (sym set_is) h)) [
-    | inl k ↦ at-node (root-found rule passed p k)
-    | inr k ↦ at-state (walk-found rule p states k)
+    | inl k ↦ at_node (root_found rule passed p k)
+    | inr k ↦ at_state (walk_found rule p states k)
   ]
     where
-      at-node : (n : ℕ) × (n < node_count rule) × Has (own_conflicts (tree rule n)) p → Clash rule states p
-      at-node (n, inside, k) =
+      at_node : (n : ℕ) × (n < node_count rule) × Has (own_conflicts (tree rule n)) p → Clash rule states p
+      at_node (n, inside, k) =
           let (t, u, l, m, c) = product_dropped p (first_factor (tree rule n)) (second_factor (tree rule n)) k in
           record { first = t; second = u; join = of_node n t u inside l m; both_ways = c }
 
-      at-state : (state : ℕ) × In state states × Has (state_conflicts rule state) p → Clash rule states p
-      at-state (state, is, k) =
+      at_state : (state : ℕ) × In state states × Has (state_conflicts rule state) p → Clash rule states p
+      at_state (state, is, k) =
           let (n, inside, at) = partial_found rule p state (node_count rule) k in
           let (t, u, l, m, c) = product_dropped p (partial_product rule state n) (terms (tree rule n)) at.1 in
-          record { first = t; second = u; join = of-state state n t u is inside at.0 l m; both_ways = c }
+          record { first = t; second = u; join = of_state state n t u is inside at.0 l m; both_ways = c }
 
   counts : (p : ℕ) (t u : Term) → Join rule states t u → Has (conflict (joined t u)) p → Has set p
   counts p t u join h = subst (λ (x : ℕ). Has x p) set_is (of join h)
@@ -365,11 +365,11 @@ module _ (rule states : List ℕ) (set : ℕ) (walked : generalized rule ≡ acc
           → Has (bit_or (conflicts (formula rule)) (walk_conflicts rule states)) p
       of (of_node n v w inside l m) k =
           has_or_l (conflicts (formula rule)) (walk_conflicts rule states) p
-          (every_node-counts rule passed n inside p
-          (own-counts (tree rule n) p (dropped_product p v w (first_factor (tree rule n)) (second_factor (tree rule n)) l m k)))
-      of (of-state state n v w is inside owed l m) k =
+          (every_node_counts rule passed n inside p
+          (own_counts (tree rule n) p (dropped_product p v w (first_factor (tree rule n)) (second_factor (tree rule n)) l m k)))
+      of (of_state state n v w is inside owed l m) k =
           has_or_r (conflicts (formula rule)) (walk_conflicts rule states) p
-          (walk-counts rule p states state is
+          (walk_counts rule p states state is
           (partial_counts rule p state (node_count rule) n inside
           (owed, dropped_product p v w (partial_product rule state n) (terms (tree rule n)) l m k)))
 
@@ -404,13 +404,13 @@ module _ (rule states : List ℕ) (set : ℕ) (walked : generalized rule ≡ acc
 
 module _ (rule form states : List ℕ) (set : ℕ) (formed : normal_form rule ≡ accepted form)
     (walked : generalized form ≡ accepted states) (carried : written_conflicts rule ≡ accepted set) where
-  of-form : rule_conflicts form ≡ accepted set
-  of-form = unfold written_conflicts in rw formed at carried
+  of_form : rule_conflicts form ≡ accepted set
+  of_form = unfold written_conflicts in rw formed at carried
 
   -- a proposition is in the set exactly where some join is dropped for it
   pub conflicts_exactly : (p : ℕ) → Has set p ↔ Clash form states p
-  conflicts_exactly = rule_exactly form states set walked of-form
+  conflicts_exactly = rule_exactly form states set walked of_form
 
   -- the set is empty exactly where no join is dropped
   pub no_conflicts_iff : (set ≡ 0) ↔ ((t u : Term) → Join form states t u → consistent (joined t u) ≡ true)
-  no_conflicts_iff = rule_none_iff form states set walked of-form
+  no_conflicts_iff = rule_none_iff form states set walked of_form

@@ -20,7 +20,7 @@ use Rattle.translation.specs.Degeneralized.{next_level}
 use Rattle.lasso.proofs.Positions.{Again}
 use Rattle.sets.proofs.Members.{at_in, in_at, append_in, in_append}
 use Rattle.correctness.proofs.Runs.{Reads, Fulfilling, Known, Run, Fair, Represents}
-use Rattle.correctness.proofs.Trees.{kind-until, until-kind}
+use Rattle.correctness.proofs.Trees.{kind_until, until_kind}
 use Rattle.correctness.proofs.Sound.{sound}
 use Rattle.formula.proofs.Periodic.{holds_dec}
 use Rattle.correctness.proofs.Complete.{complete}
@@ -66,11 +66,11 @@ module _ (rule : List ℕ) where
       go ih (no e) = inl (ih (omega arith))
 
   -- each until has a number, which tells the terms that fulfil it
-  pub until-numbered : (n : ℕ) (a b : Formula) → Known rule n (until n a b)
+  pub until_numbered : (n : ℕ) (a b : Formula) → Known rule n (until n a b)
       → (k : ℕ) × (k < until_count rule) × ((t : Term) → Over rule k t ↔ Fulfilling n (until n a b) t)
-  until-numbered n a b known =
+  until_numbered n a b known =
       let (k, l, q) = in_at 0 n (untils rule (node_count rule))
-      (in_untils (node_count rule) n known.0 (until-kind rule n a b known)) in (
+      (in_untils (node_count rule) n known.0 (until_kind rule n a b known)) in (
         k,
         l,
         λ t. subst (λ (c : ℕ). fulfils rule c t ≡ true ↔ Fulfilling n (until n a b) t) (sym q)
@@ -86,14 +86,14 @@ module _ (rule : List ℕ) where
   fair_counts t fair k l i =
       let n = get_or (untils rule (node_count rule)) k 0 in
       let (s, q) = untils_in (node_count rule) n (at_in 0 (untils rule (node_count rule)) k l) in
-      let (a, b, known) = kind-until rule n s q in
+      let (a, b, known) = kind_until rule n s q in
       let (j, x, g) = fair n a b known i in
       (j, x, (fulfils_iff rule n (t j)).1 (subst (λ (f : Formula). Fulfilling n f (t j)) (sym known.1) g))
 
   counts_fair : (t : ℕ → Term) → Counts t → Fair rule t
   unfolding Counts
   counts_fair t counts n a b known i =
-      let (k, l, same) = until-numbered n a b known in
+      let (k, l, same) = until_numbered n a b known in
       let (j, x, g) = counts k l i in
       (j, x, (same (t j)).0 g)
 

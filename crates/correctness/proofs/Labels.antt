@@ -16,10 +16,10 @@ use Rattle.formula.specs.Formula.{Formula, bottom, top, proposition, negatedProp
 use Rattle.sets.specs.Bits.{has}
 use Rattle.term.specs.Term.{Term, term, less, joined, consistent, product, cover, terms}
 use Rattle.generalized.specs.Generalized.{times, partial_product, transitions}
-use Rattle.generalized.proofs.Sifting.{transitions-terms}
+use Rattle.generalized.proofs.Sifting.{transitions_terms}
 use Rattle.automaton.proofs.WellFormed.{Label}
 use Rattle.sets.proofs.Members.{All, all_one, map_in}
-use Rattle.correctness.proofs.Members.{all-union, product_in, product-kept}
+use Rattle.correctness.proofs.Members.{all_union, product_in, product_kept}
 
 abbrev pub Labelled : Term → Type 0
 Labelled t = Label t.must t.must_not
@@ -40,7 +40,7 @@ product_labelled ts us p q z h =
     record {
       must_small = subst (λ (t : Term). t.must < skipped) (sym e) bytes.0;
       not_small = subst (λ (t : Term). t.must_not < skipped) (sym e) bytes.1;
-      disjoint = eqb-true (bit_and z.must z.must_not) 0 (product-kept less joined consistent ts us z h);
+      disjoint = eqb-true (bit_and z.must z.must_not) 0 (product_kept less joined consistent ts us z h);
     }
 
 terms_labelled : (f : Formula) → InRange f → All Labelled (terms f)
@@ -50,14 +50,14 @@ terms_labelled top m = all_one Labelled (term 0 0 0) (owing_labelled 0)
 terms_labelled (proposition n p) m = all_one Labelled (term (2 ^ p) 0 0) (record { must_small = pow-lt {j = propositions} m; not_small = omega arith; disjoint = and_zero_r (2 ^ p) })
 terms_labelled (negatedProposition n p) m = all_one Labelled (term 0 (2 ^ p) 0) (record { must_small = omega arith; not_small = pow-lt {j = propositions} m; disjoint = and_zero_l (2 ^ p) })
 terms_labelled (conjunction a b) (p, q) = product_labelled (terms a) (terms b) (terms_labelled a p) (terms_labelled b q)
-terms_labelled (disjunction a b) (p, q) = all-union less Labelled (terms a) (terms b) (terms_labelled a p) (terms_labelled b q)
+terms_labelled (disjunction a b) (p, q) = all_union less Labelled (terms a) (terms b) (terms_labelled a p) (terms_labelled b q)
 terms_labelled (next n a) m = λ t h. let (c, mc, e) = map_in (term 0 0) t (cover a) h in subst Labelled (sym e) (owing_labelled c)
 terms_labelled (until n a b) (p, q) =
-    all-union less Labelled (terms b) (product (terms a) (term 0 0 (2 ^ n) ∷ [])) (terms_labelled b q)
+    all_union less Labelled (terms b) (product (terms a) (term 0 0 (2 ^ n) ∷ [])) (terms_labelled b q)
     (product_labelled (terms a) (term 0 0 (2 ^ n) ∷ []) (terms_labelled a p) (all_one Labelled (term 0 0 (2 ^ n)) (owing_labelled (2 ^ n))))
 terms_labelled (release n a b) (p, q) =
     product_labelled (terms b) (union less (terms a) (term 0 0 (2 ^ n) ∷ [])) (terms_labelled b q)
-    (all-union less Labelled (terms a) (term 0 0 (2 ^ n) ∷ []) (terms_labelled a p) (all_one Labelled (term 0 0 (2 ^ n)) (owing_labelled (2 ^ n))))
+    (all_union less Labelled (terms a) (term 0 0 (2 ^ n) ∷ []) (terms_labelled a p) (all_one Labelled (term 0 0 (2 ^ n)) (owing_labelled (2 ^ n))))
 
 module _ (rule : List ℕ) (in_range : (n : ℕ) → n < node_count rule → InRange (tree rule n)) (state : ℕ) where
   partial_labelled : (n : ℕ) → n ≤ node_count rule → All Labelled (partial_product rule state n)
@@ -71,4 +71,4 @@ module _ (rule : List ℕ) (in_range : (n : ℕ) → n < node_count rule → InR
 
   -- the transitions of any state
   pub transitions_labelled : All Labelled (transitions rule state)
-  transitions_labelled t m = partial_labelled (node_count rule) (omega arith) t (transitions-terms rule state t m)
+  transitions_labelled t m = partial_labelled (node_count rule) (omega arith) t (transitions_terms rule state t m)

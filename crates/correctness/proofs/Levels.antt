@@ -32,10 +32,10 @@ module _ (rule : List ℕ) where
       go false ih = (omega arith, omega arith)
 
   -- what is climbed over is fulfilled
-  climb-over : (d j : ℕ) (x : Term) (k : ℕ) → j ≤ k → k < climb rule d j x → Over k x
+  climb_over : (d j : ℕ) (x : Term) (k : ℕ) → j ≤ k → k < climb rule d j x → Over k x
   unfolding climb
-  climb-over zero j x k l m = absurd (omega arith)
-  climb-over (suc d) j x k l m = go (fulfils_next rule j x) refl m (λ l m. climb-over d (suc j) x k l m) (ℕ_discrete j k)
+  climb_over zero j x k l m = absurd (omega arith)
+  climb_over (suc d) j x k l m = go (fulfils_next rule j x) refl m (λ l m. climb_over d (suc j) x k l m) (ℕ_discrete j k)
     where
       go : (b : Bool) → fulfils_next rule j x ≡ b → k < elim b [ true ↦ climb rule d (suc j) x | false ↦ j ]
           → (suc j ≤ k → k < climb rule d (suc j) x → Over k x) → Dec (j ≡ k) → Over k x
@@ -44,13 +44,13 @@ module _ (rule : List ℕ) where
       go false q m ih e = absurd (omega arith)
 
   -- what is fulfilled is climbed over
-  over-climb : (d j : ℕ) (x : Term) → Over j x → j < climb rule (suc d) j x
+  over_climb : (d j : ℕ) (x : Term) → Over j x → j < climb rule (suc d) j x
   unfolding climb
-  over-climb d j x q = subst (λ (b : Bool). j < elim b [ true ↦ climb rule d (suc j) x | false ↦ j ]) (sym q) (climb_bounds d (suc j) x).0
+  over_climb d j x q = subst (λ (b : Bool). j < elim b [ true ↦ climb rule d (suc j) x | false ↦ j ]) (sym q) (climb_bounds d (suc j) x).0
 
-  next-below : (j : ℕ) (x : Term) → j < r → next_level rule j x ≡ climb rule (r - j) j x
+  next_below : (j : ℕ) (x : Term) → j < r → next_level rule j x ≡ climb rule (r - j) j x
   unfolding next_level
-  next-below j x l = rw (lt-ltb j r l)
+  next_below j x l = rw (lt-ltb j r l)
 
   next_last : (j : ℕ) (x : Term) → r ≤ j → next_level rule j x ≡ climb rule r 0 x
   unfolding next_level
@@ -60,7 +60,7 @@ module _ (rule : List ℕ) where
   next_le j x = go (dec_lt j r)
     where
       go : Dec (j < r) → next_level rule j x ≤ r
-      go (yes l) = omega (arith, (climb_bounds (r - j) j x).1, next-below j x l)
+      go (yes l) = omega (arith, (climb_bounds (r - j) j x).1, next_below j x l)
       go (no l) = omega (arith, (climb_bounds r 0 x).1, next_last j x (omega arith))
 
   module _ (t : ℕ → Term) where
@@ -76,18 +76,18 @@ module _ (rule : List ℕ) where
 
     level_grows : (i : ℕ) → level i < r → level i ≤ level (suc i)
     unfolding level
-    level_grows i l = omega (arith, next-below (level i) (t i) l, (climb_bounds (r - level i) (level i) (t i)).0)
+    level_grows i l = omega (arith, next_below (level i) (t i) l, (climb_bounds (r - level i) (level i) (t i)).0)
 
-    level-over : (i : ℕ) → level i < r → Over (level i) (t i) → level i < level (suc i)
+    level_over : (i : ℕ) → level i < r → Over (level i) (t i) → level i < level (suc i)
     unfolding level
-    level-over i l q =
+    level_over i l q =
         let f : suc (r - suc (level i)) ≡ r - level i = omega arith in
-        let b = subst (λ (d : ℕ). level i < climb rule d (level i) (t i)) f (over-climb (r - suc (level i)) (level i) (t i) q) in
-        omega (arith, next-below (level i) (t i) l)
+        let b = subst (λ (d : ℕ). level i < climb rule d (level i) (t i)) f (over_climb (r - suc (level i)) (level i) (t i) q) in
+        omega (arith, next_below (level i) (t i) l)
 
     -- below r the level rises in the end
     rises : (d i : ℕ) → level i < r → Over (level i) (t (i + d)) → (j : ℕ) × (i ≤ j) × (level i < level j)
-    rises zero i l q = (suc i, omega arith, level-over i l (subst (λ (c : ℕ). Over (level i) (t c)) (omega arith) q))
+    rises zero i l q = (suc i, omega arith, level_over i l (subst (λ (c : ℕ). Over (level i) (t c)) (omega arith) q))
     rises (suc d) i l q = go (rises d (suc i)) (dec_lt (level i) (level (suc i)))
       where
         go : (level (suc i) < r → Over (level (suc i)) (t (suc i + d)) → (j : ℕ) × (suc i ≤ j) × (level (suc i) < level j))
@@ -123,11 +123,11 @@ module _ (rule : List ℕ) where
       where
         up : level q < r → Dec (k < level q) → ((level q < r) × (k < level q)) ⊎ Over k (t q)
         up l (yes m) = inl (l, m)
-        up l (no m) = inr (climb-over (r - level q) (level q) (t q) k (omega arith) (omega (arith, next-below (level q) (t q) l)))
+        up l (no m) = inr (climb_over (r - level q) (level q) (t q) k (omega arith) (omega (arith, next_below (level q) (t q) l)))
 
         go : Dec (level q < r) → ((level q < r) × (k < level q)) ⊎ Over k (t q)
         go (yes l) = up l (dec_lt k (level q))
-        go (no l) = inr (climb-over r 0 (t q) k (omega arith) (omega (arith, next_last (level q) (t q) (omega arith))))
+        go (no l) = inr (climb_over r 0 (t q) k (omega arith) (omega (arith, next_last (level q) (t q) (omega arith))))
 
     seen : (p : ℕ) → level p ≡ r → (d k : ℕ) → k < level (suc p + d) → (j : ℕ) × (p ≤ j) × Over k (t j)
     seen p e zero k h = go (gained p k (subst (λ (c : ℕ). k < level c) (omega arith) h))

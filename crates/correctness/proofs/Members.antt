@@ -122,12 +122,12 @@ module _ {A : Type 0} (less : A → A → Bool) where
           joins_keep (joined x y) u ys (insert_product less joined consistent xs ys []) (in_product x y xs ys m n c)
 
 -- what holds of all that goes into a set holds of all that is in it
-pub all-union : {A : Type 0} (less : A → A → Bool) (P : A → Type 0) (xs ys : List A) → All P xs → All P ys → All P (union less xs ys)
-all-union less P xs ys p q z h = elim (union_in less z xs ys h) [ inl m ↦ p z m | inr m ↦ q z m ]
+pub all_union : {A : Type 0} (less : A → A → Bool) (P : A → Type 0) (xs ys : List A) → All P xs → All P ys → All P (union less xs ys)
+all_union less P xs ys p q z h = elim (union_in less z xs ys h) [ inl m ↦ p z m | inr m ↦ q z m ]
 
-pub all-product : {A : Type 0} (less : A → A → Bool) (joined : A → A → A) (consistent : A → Bool) (P : A → Type 0) → ((x y : A) → P x → P y → P (joined x y))
+pub all_product : {A : Type 0} (less : A → A → Bool) (joined : A → A → A) (consistent : A → Bool) (P : A → Type 0) → ((x y : A) → P x → P y → P (joined x y))
     → (xs ys : List A) → All P xs → All P ys → All P (insert_product less joined consistent xs ys [])
-all-product less joined consistent P join xs ys p q z h =
+all_product less joined consistent P join xs ys p q z h =
     let (x, y, mx, my, e) = product_in less joined consistent z xs ys h in subst P (sym e) (join x y (p x mx) (q y my))
 
 -- what is in a product was kept
@@ -148,10 +148,10 @@ module _ {A : Type 0} (less : A → A → Bool) (joined : A → A → A) (consis
   joins_kept x [] ws h = h
   joins_kept x (y ∷ ys) ws h = join_kept x y (insert_joins less joined consistent x ys ws) (joins_kept x ys ws h)
 
-  pub product-kept : (xs ys : List A) → All Kept (insert_product less joined consistent xs ys [])
+  pub product_kept : (xs ys : List A) → All Kept (insert_product less joined consistent xs ys [])
   unfolding insert_product
-  product-kept [] ys = λ z h. absurd h
-  product-kept (x ∷ xs) ys = joins_kept x ys (insert_product less joined consistent xs ys []) (product-kept xs ys)
+  product_kept [] ys = λ z h. absurd h
+  product_kept (x ∷ xs) ys = joins_kept x ys (insert_product less joined consistent xs ys []) (product_kept xs ys)
 
 -- the orders of numbers and of terms
 pub ltb_equal : (x y : ℕ) → ltb x y ≡ false → ltb y x ≡ false → x ≡ y

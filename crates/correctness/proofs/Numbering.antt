@@ -10,13 +10,13 @@ use Rattle.automaton.proofs.Passes.{AutomatonOver, Endless, Pass, endless_pass, 
 pub record Numbering {X : Type 0} (automaton : AutomatonOver X) (numbered : AutomatonOver ℕ) (N : ℕ) (Valid : ℕ → Type 0) (means : ℕ → X) : Type 0 where
   pub small : (k : ℕ) → Valid k → k < N
   pub initial_valid : (k : ℕ) → numbered.Initial k → Valid k
-  pub initial-means : (k : ℕ) → numbered.Initial k → automaton.Initial (means k)
-  pub initial-has : (x : X) → automaton.Initial x → (k : ℕ) × numbered.Initial k × (means k ≡ x)
+  pub initial_means : (k : ℕ) → numbered.Initial k → automaton.Initial (means k)
+  pub initial_has : (x : X) → automaton.Initial x → (k : ℕ) × numbered.Initial k × (means k ≡ x)
   pub step_valid : (k letter j : ℕ) → Valid k → numbered.Step k letter j → Valid j
   pub step_means : (k letter j : ℕ) → Valid k → numbered.Step k letter j → automaton.Step (means k) letter (means j)
   pub step_has : (k letter : ℕ) (x : X) → Valid k → automaton.Step (means k) letter x → (j : ℕ) × numbered.Step k letter j × (means j ≡ x)
-  pub accepting-means : (k : ℕ) → Valid k → numbered.Accepting k → automaton.Accepting (means k)
-  pub accepting-has : (k : ℕ) → Valid k → automaton.Accepting (means k) → numbered.Accepting k
+  pub accepting_means : (k : ℕ) → Valid k → numbered.Accepting k → automaton.Accepting (means k)
+  pub accepting_has : (k : ℕ) → Valid k → automaton.Accepting (means k) → numbered.Accepting k
 
 module _ (w : ℕ → ℕ) {X : Type 0} {automaton : AutomatonOver X} {numbered : AutomatonOver ℕ} {N : ℕ} {Valid : ℕ → Type 0} {means : ℕ → X}
     (numbering : Numbering automaton numbered N Valid means) where
@@ -27,9 +27,9 @@ module _ (w : ℕ → ℕ) {X : Type 0} {automaton : AutomatonOver X} {numbered 
 
     endless_means : Endless w automaton (λ i. means (q i))
     endless_means = record {
-      begins = numbering.initial-means (q 0) run.begins;
+      begins = numbering.initial_means (q 0) run.begins;
       steps = λ i. numbering.step_means (q i) (w i) (q (suc i)) (valid i) (run.steps i);
-      again = λ i. let (j, l, c) = run.again i in (j, l, numbering.accepting-means (q j) (valid j) c);
+      again = λ i. let (j, l, c) = run.again i in (j, l, numbering.accepting_means (q j) (valid j) c);
     }
 
   module _ (p : ℕ → X) (run : Endless w automaton p) where
@@ -40,7 +40,7 @@ module _ (w : ℕ → ℕ) {X : Type 0} {automaton : AutomatonOver X} {numbered 
       is : means number ≡ p i
 
     start : (k : ℕ) × numbered.Initial k × (means k ≡ p 0)
-    start = numbering.initial-has (p 0) run.begins
+    start = numbering.initial_has (p 0) run.begins
 
     on : (i : ℕ) (x : Numbered i) → (j : ℕ) × numbered.Step x.number (w i) j × (means j ≡ p (suc i))
     on i x = numbering.step_has x.number (w i) (p (suc i)) x.valid (subst (λ (y : X). automaton.Step y (w i) (p (suc i))) (sym x.is) (run.steps i))
@@ -57,7 +57,7 @@ module _ (w : ℕ → ℕ) {X : Type 0} {automaton : AutomatonOver X} {numbered 
     endless_numbered = record {
       begins = start.1;
       steps = λ i. (on i (at i)).1;
-      again = λ i. let (j, l, c) = run.again i in (j, l, numbering.accepting-has (at j).number (at j).valid (subst automaton.Accepting (sym (at j).is) c));
+      again = λ i. let (j, l, c) = run.again i in (j, l, numbering.accepting_has (at j).number (at j).valid (subst automaton.Accepting (sym (at j).is) c));
     }
 
   pub pass_iff_endless : (s n : ℕ) → 0 < n → ((i : ℕ) → s ≤ i → w (i + n) ≡ w i) → Pass s n w numbered ↔ ((p : ℕ → X) × Endless w automaton p)

@@ -9,15 +9,15 @@ use Rattle.sets.specs.Sets.{In, any}
 use Rattle.sets.proofs.Bits.{has_true}
 use Rattle.term.specs.Term.{Term}
 use Rattle.acceptance.specs.Acceptance.{fulfilment}
-use Rattle.acceptance.proofs.Bits.{fulfilment-has}
+use Rattle.acceptance.proofs.Bits.{fulfilment_has}
 use Rattle.domination.specs.Domination.{dominates, stays, undominated}
 use Rattle.domination.proofs.Undominated.{in_sift, dominated_above}
 use Rattle.domination.proofs.Packed.{rank, term_parts, term_falls, term_follows}
 use Rattle.generalized.specs.Generalized.{state_terms, transitions}
-use Rattle.generalized.proofs.Sifting.{transitions-terms}
-use Rattle.correctness.proofs.Runs.{Within, within-reads, Dominates, TermOf, Represents}
+use Rattle.generalized.proofs.Sifting.{transitions_terms}
+use Rattle.correctness.proofs.Runs.{Within, within_reads, Dominates, TermOf, Represents}
 use Rattle.correctness.proofs.Tests.{within_iff}
-use Rattle.correctness.proofs.Counting.{until-numbered}
+use Rattle.correctness.proofs.Counting.{until_numbered}
 use Rattle.correctness.proofs.Listing.{Listed}
 
 module _ (rule : List ℕ) where
@@ -34,13 +34,13 @@ module _ (rule : List ℕ) where
         obligations = (within_iff v.obligations t.obligations).0 p.obligations;
       } in
       record {
-        reads = λ letter r. within-reads asks r;
+        reads = λ letter r. within_reads asks r;
         obligations = asks.obligations;
         fulfils = λ n a b known f.
-            let (k, l, same) = until-numbered rule n a b known in
-            let own = has_true (fulfilment rule t) k (fulfilment-has rule t k l ∙ (same t).1 f) in
+            let (k, l, same) = until_numbered rule n a b known in
+            let own = has_true (fulfilment rule t) k (fulfilment_has rule t k l ∙ (same t).1 f) in
             let also = (within_iff (fulfilment rule t) (fulfilment rule v)).0 p.fulfils k own in
-            (same v).0 (sym (fulfilment-has rule v k l) ∙ eq-eqb _ 1 also.set);
+            (same v).0 (sym (fulfilment_has rule v k l) ∙ eq-eqb _ 1 also.set);
       }
 
   pub terms_represent : Represents rule (TermOf rule)
@@ -49,7 +49,7 @@ module _ (rule : List ℕ) where
   pub transitions_represent : Represents rule (Listed (transitions rule))
   unfolding transitions
   transitions_represent = record {
-    listed = transitions-terms rule;
+    listed = transitions_terms rule;
     enough = λ e t m. go e t m (any (λ u. dominates rule u t) (state_terms rule e)) refl;
   }
     where

@@ -28,8 +28,8 @@ pub record Within (u t : Term) : Type 0 where
   pub must_not : Sub u.must_not t.must_not
   pub obligations : Sub u.obligations t.obligations
 
-pub within-reads : {u t : Term} {letter : ℕ} → Within u t → Reads t letter → Reads u letter
-within-reads k r = record { set = λ n h. r.set n (k.must n h); clear = λ n h. r.clear n (k.must_not n h) }
+pub within_reads : {u t : Term} {letter : ℕ} → Within u t → Reads t letter → Reads u letter
+within_reads k r = record { set = λ n h. r.set n (k.must n h); clear = λ n h. r.clear n (k.must_not n h) }
 
 pub within_trans : {u v t : Term} → Within u v → Within v t → Within u t
 within_trans p q = record {
@@ -38,15 +38,15 @@ within_trans p q = record {
   obligations = λ n h. q.obligations n (p.obligations n h);
 }
 
-pub within-l : (x y : Term) → Within x (joined x y)
-within-l x y = record {
+pub within_l : (x y : Term) → Within x (joined x y)
+within_l x y = record {
   must = has_or_l x.must y.must;
   must_not = has_or_l x.must_not y.must_not;
   obligations = has_or_l x.obligations y.obligations;
 }
 
-pub within-r : (x y : Term) → Within y (joined x y)
-within-r x y = record {
+pub within_r : (x y : Term) → Within y (joined x y)
+within_r x y = record {
   must = has_or_r x.must y.must;
   must_not = has_or_r x.must_not y.must_not;
   obligations = has_or_r x.obligations y.obligations;
@@ -113,10 +113,10 @@ module _ (rule : List ℕ) where
     pub enough : (e : ℕ) (t : Term) → TermOf e t → (v : Term) × Move e v × Dominates v t
 
   -- a term of a partial product has within it a term of each obligation
-  pub product-has : (k e : ℕ) (t : Term) → In t (partial_product rule e k) → (n : ℕ) → n < k → Has e n → (u : Term) × In u (terms (tree rule n)) × Within u t
+  pub product_has : (k e : ℕ) (t : Term) → In t (partial_product rule e k) → (n : ℕ) → n < k → Has e n → (u : Term) × In u (terms (tree rule n)) × Within u t
   unfolding partial_product
-  product-has zero e t h n l d = absurd (omega arith)
-  product-has (suc k) e t h n l d = go (λ v m i. product-has k e v m n i d) (has e k) refl h (ℕ_discrete n k)
+  product_has zero e t h n l d = absurd (omega arith)
+  product_has (suc k) e t h n l d = go (λ v m i. product_has k e v m n i d) (has e k) refl h (ℕ_discrete n k)
     where
       Found : Term → Type 0
       Found v = (u : Term) × In u (terms (tree rule n)) × Within u v
@@ -125,10 +125,10 @@ module _ (rule : List ℕ) where
           → In t (times b (partial_product rule e k) (terms (tree rule k))) → Dec (n ≡ k) → Found t
       go ih true q h (yes p) =
           let (x, y, mx, my, r) = product_in less joined consistent t (partial_product rule e k) (terms (tree rule k)) h in
-          (y, subst (λ (c : ℕ). In y (terms (tree rule c))) (sym p) my, subst (Within y) (sym r) (within-r x y))
+          (y, subst (λ (c : ℕ). In y (terms (tree rule c))) (sym p) my, subst (Within y) (sym r) (within_r x y))
       go ih true q h (no p) =
           let (x, y, mx, my, r) = product_in less joined consistent t (partial_product rule e k) (terms (tree rule k)) h in
           let (u, m, i) = ih x mx (omega arith) in
-          (u, m, within_trans i (subst (Within x) (sym r) (within-l x y)))
+          (u, m, within_trans i (subst (Within x) (sym r) (within_l x y)))
       go ih false q h (yes p) = absurd (has_false e k q (subst (Has e) p d))
       go ih false q h (no p) = ih t h (omega arith)

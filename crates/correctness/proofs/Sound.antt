@@ -18,15 +18,15 @@ use Rattle.sets.specs.Bits.{Has}
 use Rattle.sets.proofs.Bits.{Sub, has_zero, has_or_l, has_or_r, pow_has}
 use Rattle.sets.proofs.Members.{map_in}
 use Rattle.correctness.proofs.Members.{union_in, product_in}
-use Rattle.correctness.proofs.Runs.{Reads, Within, within-reads, within-l, within-r, Fulfilling, Known, Fits, Run, Fair, TermOf, product-has}
+use Rattle.correctness.proofs.Runs.{Reads, Within, within_reads, within_l, within_r, Fulfilling, Known, Fits, Run, Fair, TermOf, product_has}
 use Rattle.correctness.proofs.Trees.{tree_fits}
 
 -- until and release, one position at a time
 until_now : (w : ℕ → ℕ) (n : ℕ) (a b : Formula) (i : ℕ) → Holds w b i → Holds w (until n a b) i
 until_now w n a b i h = (i, omega arith, h, λ j p q. absurd (omega arith))
 
-until-later : (w : ℕ → ℕ) (n : ℕ) (a b : Formula) (i : ℕ) → Holds w a i → Holds w (until n a b) (suc i) → Holds w (until n a b) i
-until-later w n a b i h (k, l, hb, f) = (k, omega arith, hb, λ j p q. go j p q (ℕ_discrete i j))
+until_later : (w : ℕ → ℕ) (n : ℕ) (a b : Formula) (i : ℕ) → Holds w a i → Holds w (until n a b) (suc i) → Holds w (until n a b) i
+until_later w n a b i h (k, l, hb, f) = (k, omega arith, hb, λ j p q. go j p q (ℕ_discrete i j))
   where
     go : (j : ℕ) → i ≤ j → j < k → Dec (i ≡ j) → Holds w a j
     go j p q (yes e) = subst (Holds w a) e h
@@ -39,8 +39,8 @@ release_now w n a b i hb ha k l = go (ℕ_discrete i k)
     go (yes e) = inl (subst (Holds w b) e hb)
     go (no e) = inr (i, omega arith, omega arith, ha)
 
-release-later : (w : ℕ → ℕ) (n : ℕ) (a b : Formula) (i : ℕ) → Holds w b i → Holds w (release n a b) (suc i) → Holds w (release n a b) i
-release-later w n a b i hb hr k l = go (ℕ_discrete i k)
+release_later : (w : ℕ → ℕ) (n : ℕ) (a b : Formula) (i : ℕ) → Holds w b i → Holds w (release n a b) (suc i) → Holds w (release n a b) i
+release_later w n a b i hb hr k l = go (ℕ_discrete i k)
   where
     go : Dec (i ≡ k) → Holds w b k ⊎ ((j : ℕ) × (i ≤ j) × (j < k) × Holds w a j)
     go (yes e) = inl (subst (Holds w b) e hb)
@@ -58,17 +58,17 @@ module _ (rule : List ℕ) (Move : ℕ → Term → Type 0) (listed : (d : ℕ) 
   -- the term of obligation n that the run takes at position i
   taken : (n : ℕ) (g : Formula) → Known rule n g → (i : ℕ) → Has (e i) n → (u : Term) × In u (terms g) × Within u (t i)
   taken n g (l, q) i h =
-      let (u, m, k) = product-has rule (node_count rule) (e i) (t i) (listed (e i) (t i) (run.steps i)) n l h in
+      let (u, m, k) = product_has rule (node_count rule) (e i) (t i) (listed (e i) (t i) (run.steps i)) n l h in
       (u, subst (λ (f : Formula). In u (terms f)) q m, k)
 
-  within-next : (i : ℕ) (u : Term) → Within u (t i) → Sub u.obligations (e (suc i))
-  within-next i u k n h = subst (λ (d : ℕ). Has d n) (run.goes i) (k.obligations n h)
+  within_next : (i : ℕ) (u : Term) → Within u (t i) → Sub u.obligations (e (suc i))
+  within_next i u k n h = subst (λ (d : ℕ). Has d n) (run.goes i) (k.obligations n h)
 
   obligation_says : (n : ℕ) (g : Formula) → Known rule n g → cover g ≡ 2 ^ n ∷ [] → Terms-say g → Cover-says g
   unfolding Terms-say Cover-says
   obligation_says n g k q say i c m s =
       let (u, mu, wi) = taken n g k i (s n (subst (λ (d : ℕ). Has d n) (sym (one (subst (In c) q m))) (pow_has n))) in
-      say i u mu (within-reads wi (run.reads i)) (within-next i u wi)
+      say i u mu (within_reads wi (run.reads i)) (within_next i u wi)
     where
       one : In c (2 ^ n ∷ []) → c ≡ 2 ^ n
       one (inl p) = p
@@ -84,9 +84,9 @@ module _ (rule : List ℕ) (Move : ℕ → Term → Type 0) (listed : (d : ℕ) 
         owed : (x y : Term) → In x (terms a) → In y (term 0 0 (2 ^ n) ∷ []) → u ≡ joined x y → Holds w a i × Has u.obligations n
         owed x y mx (inr z) q = absurd z
         owed x y mx (inl z) q =
-            let k : Within x u = subst (Within x) (sym q) (within-l x y) in
-            let l : Within y u = subst (Within y) (sym q) (within-r x y) in (
-              say-a i x mx (within-reads k r) (λ c h. s c (k.obligations c h)),
+            let k : Within x u = subst (Within x) (sym q) (within_l x y) in
+            let l : Within y u = subst (Within y) (sym q) (within_r x y) in (
+              say-a i x mx (within_reads k r) (λ c h. s c (k.obligations c h)),
               l.obligations n (subst (λ (v : Term). Has v.obligations n) (sym z) (pow_has n)),
             )
 
@@ -95,7 +95,7 @@ module _ (rule : List ℕ) (Move : ℕ → Term → Type 0) (listed : (d : ℕ) 
         go (inr mp) = let (x, y, mx, my, q) = product_in less joined consistent u (terms a) (term 0 0 (2 ^ n) ∷ []) mp in inr (owed x y mx my q)
 
     split_in : (i : ℕ) (u : Term) → In u (terms (until n a b)) → Within u (t i) → Holds w b i ⊎ (Holds w a i × Has u.obligations n)
-    split_in i u m k = split i u m (within-reads k (run.reads i)) (within-next i u k)
+    split_in i u m k = split i u m (within_reads k (run.reads i)) (within_next i u k)
 
     ends : (j : ℕ) → Has (e j) n → Fulfilling n (until n a b) (t j) → Holds w (until n a b) j
     ends j h (inl g) =
@@ -110,7 +110,7 @@ module _ (rule : List ℕ) (Move : ℕ → Term → Type 0) (listed : (d : ℕ) 
         let (u, m, k) = taken n (until n a b) known i h in
         elim (split_in i u m k) [
           | inl hb ↦ until_now w n a b i hb
-          | inr r ↦ until-later w n a b i r.0 (follow d (suc i) (subst (λ (k : ℕ). Fulfilling n (until n a b) (t k)) (omega arith) g) (within-next i u k n r.1))
+          | inr r ↦ until_later w n a b i r.0 (follow d (suc i) (subst (λ (k : ℕ). Fulfilling n (until n a b) (t k)) (omega arith) g) (within_next i u k n r.1))
         ]
 
     until_says : Terms-say (until n a b)
@@ -121,7 +121,7 @@ module _ (rule : List ℕ) (Move : ℕ → Term → Type 0) (listed : (d : ℕ) 
         go (inl hb) = until_now w n a b i hb
         go (inr (ha, h)) =
             let (j, l, g) = fair n a b known (suc i) in
-            until-later w n a b i ha
+            until_later w n a b i ha
             (follow (j - suc i) (suc i) (subst (λ (k : ℕ). Fulfilling n (until n a b) (t k)) (omega arith) g) (s n h))
 
   -- a release that is an obligation goes on for as long as its left side has not come
@@ -130,12 +130,12 @@ module _ (rule : List ℕ) (Move : ℕ → Term → Type 0) (listed : (d : ℕ) 
     unfolding terms Terms-say
     parts i u m r s =
         let (x, y, mx, my, q) = product_in less joined consistent u (terms b) (union less (terms a) (term 0 0 (2 ^ n) ∷ [])) m in
-        let k : Within x u = subst (Within x) (sym q) (within-l x y) in
-        let l : Within y u = subst (Within y) (sym q) (within-r x y) in
-        (say-b i x mx (within-reads k r) (λ c h. s c (k.obligations c h)), go y l (union_in less y (terms a) (term 0 0 (2 ^ n) ∷ []) my))
+        let k : Within x u = subst (Within x) (sym q) (within_l x y) in
+        let l : Within y u = subst (Within y) (sym q) (within_r x y) in
+        (say-b i x mx (within_reads k r) (λ c h. s c (k.obligations c h)), go y l (union_in less y (terms a) (term 0 0 (2 ^ n) ∷ []) my))
       where
         go : (y : Term) → Within y u → In y (terms a) ⊎ In y (term 0 0 (2 ^ n) ∷ []) → Holds w a i ⊎ Has (e (suc i)) n
-        go y l (inl ma) = inl (say-a i y ma (within-reads l r) (λ c h. s c (l.obligations c h)))
+        go y l (inl ma) = inl (say-a i y ma (within_reads l r) (λ c h. s c (l.obligations c h)))
         go y l (inr (inl z)) = inr (s n (l.obligations n (subst (λ (v : Term). Has v.obligations n) (sym z) (pow_has n))))
         go y l (inr (inr z)) = absurd z
 
@@ -145,7 +145,7 @@ module _ (rule : List ℕ) (Move : ℕ → Term → Type 0) (listed : (d : ℕ) 
     part : (i : ℕ) → Has (e i) n → Holds w b i × (Holds w a i ⊎ Has (e (suc i)) n)
     part i h =
         let (u, m, v) = taken n (release n a b) known i h in
-        parts i u m (within-reads v (run.reads i)) (within-next i u v)
+        parts i u m (within_reads v (run.reads i)) (within_next i u v)
 
     lasts : (d i k : ℕ) → k ≡ i + d → Has (e i) n → Till i k
     unfolding Till
@@ -166,7 +166,7 @@ module _ (rule : List ℕ) (Move : ℕ → Term → Type 0) (listed : (d : ℕ) 
       where
         go : Holds w b i × (Holds w a i ⊎ Has (e (suc i)) n) → Holds w (release n a b) i
         go (hb, inl ha) = release_now w n a b i hb ha
-        go (hb, inr h) = release-later w n a b i hb (λ k l. lasts (k - suc i) (suc i) k (omega arith) h)
+        go (hb, inr h) = release_later w n a b i hb (λ k l. lasts (k - suc i) (suc i) k (omega arith) h)
 
   -- the induction: terms and covers say that the formula holds
   says : (g : Formula) → Fits rule g → Terms-say g × Cover-says g
@@ -189,9 +189,9 @@ module _ (rule : List ℕ) (Move : ℕ → Term → Type 0) (listed : (d : ℕ) 
       go (ta, ca) (tb, cb) = (
         λ i u m r s.
             let (x, y, mx, my, q) = product_in less joined consistent u (terms a) (terms b) m in
-            let k : Within x u = subst (Within x) (sym q) (within-l x y) in
-            let l : Within y u = subst (Within y) (sym q) (within-r x y) in
-            (ta i x mx (within-reads k r) (λ c h. s c (k.obligations c h)), tb i y my (within-reads l r) (λ c h. s c (l.obligations c h))),
+            let k : Within x u = subst (Within x) (sym q) (within_l x y) in
+            let l : Within y u = subst (Within y) (sym q) (within_r x y) in
+            (ta i x mx (within_reads k r) (λ c h. s c (k.obligations c h)), tb i y my (within_reads l r) (λ c h. s c (l.obligations c h))),
         λ i c m s.
             let (x, y, mx, my, q) = product_in ltb bit_or (λ _. true) c (cover a) (cover b) m in (
               ca i x mx (λ n h. s n (subst (λ (d : ℕ). Has d n) (sym q) (has_or_l x y n h))),

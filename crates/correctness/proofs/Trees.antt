@@ -22,14 +22,14 @@ child fs n left = cond (ltb left n) (get_or fs left bottom) bottom
 abbrev Built : List Formula → (kind left right n : ℕ) → Type 0
 Built fs kind left right n = get_or fs n bottom ≡ build kind n left (child fs n left) (child fs n right)
 
-trees-length : (below : List Formula) (rest : List ℕ) → length (trees bottom build below rest) ≡ length below + length rest / 3
+trees_length : (below : List Formula) (rest : List ℕ) → length (trees bottom build below rest) ≡ length below + length rest / 3
 unfolding trees
-trees-length below [] = omega arith
-trees-length below (kind ∷ []) = omega arith
-trees-length below (kind ∷ (left ∷ [])) = omega arith
-trees-length below (kind ∷ (left ∷ (right ∷ rest))) =
+trees_length below [] = omega arith
+trees_length below (kind ∷ []) = omega arith
+trees_length below (kind ∷ (left ∷ [])) = omega arith
+trees_length below (kind ∷ (left ∷ (right ∷ rest))) =
     let f = build kind (length below) left (get_or below left bottom) (get_or below right bottom) in
-    omega (arith, trees-length (below ++ (f ∷ [])) rest, length-append below (f ∷ []))
+    omega (arith, trees_length (below ++ (f ∷ [])) rest, length-append below (f ∷ []))
 
 -- what is there stays there
 trees_keep : (below : List Formula) (rest : List ℕ) (i : ℕ) → i < length below → get_or (trees bottom build below rest) i bottom ≡ get_or below i bottom
@@ -138,17 +138,17 @@ module _ (rule : List ℕ) where
     where
       go : Dec (n < node_count rule) → Fits rule (tree rule n)
       go (yes h) = (trees_placed (suc n) n (omega arith) h).fits
-      go (no h) = subst (Fits rule) (sym (get_or-eq_default (trees bottom build [] rule) bottom {n = n} (omega (arith, trees-length [] rule)))) tt
+      go (no h) = subst (Fits rule) (sym (get_or-eq_default (trees bottom build [] rule) bottom {n = n} (omega (arith, trees_length [] rule)))) tt
 
   -- ---- the untils are the nodes of kind 7
-  pub kind-until : (n : ℕ) → n < node_count rule → kind_at rule n ≡ 7 → (a b : Formula) × Known rule n (until n a b)
+  pub kind_until : (n : ℕ) → n < node_count rule → kind_at rule n ≡ 7 → (a b : Formula) × Known rule n (until n a b)
   unfolding tree
-  kind-until n h e =
+  kind_until n h e =
       (_, _, (h, tree_built rule n h ∙ ap (λ (kind : ℕ). build kind n (left_at rule n) (child (trees bottom build [] rule) n (left_at rule n)) (child (trees bottom build [] rule) n (right_at rule n))) e))
 
-  pub until-kind : (n : ℕ) (a b : Formula) → Known rule n (until n a b) → kind_at rule n ≡ 7
+  pub until_kind : (n : ℕ) (a b : Formula) → Known rule n (until n a b) → kind_at rule n ≡ 7
   unfolding tree
-  until-kind n a b (h, e) = go (kind_at rule n) _ _ (sym (tree_built rule n h) ∙ e)
+  until_kind n a b (h, e) = go (kind_at rule n) _ _ (sym (tree_built rule n h) ∙ e)
     where
       go : (kind : ℕ) (f g : Formula) → build kind n (left_at rule n) f g ≡ until n a b → kind ≡ 7
       go zero f g q = cc

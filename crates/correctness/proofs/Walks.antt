@@ -23,7 +23,7 @@ use Rattle.automaton.specs.Automaton.{Transition, State, no_state, reads, Step}
 use Rattle.sets.specs.Sets.{In}
 use Rattle.acceptance.specs.Acceptance.{until_count}
 use Rattle.translation.specs.Degeneralized.{next_level, Pair, pair, same_pair, numbers, initial_numbers, target, transition_of}
-use Rattle.translation.proofs.Codes.{numbers-length}
+use Rattle.translation.proofs.Codes.{numbers_length}
 use Rattle.sets.proofs.Members.{All, at_in, in_at, map_in, in_map, map_at}
 use Rattle.correctness.proofs.Runs.{Reads}
 use Rattle.correctness.proofs.Tests.{reads_iff}
@@ -34,20 +34,20 @@ use Rattle.correctness.proofs.Listing.{Listed, state_walk_by, generalized_by, pa
 use Rattle.correctness.proofs.Listing.{degeneralized_by, state_by, automaton_by}
 
 -- the numbers below n
-pub numbers-at : (n k : ℕ) → k < n → get_or (numbers n) k 0 ≡ k
+pub numbers_at : (n k : ℕ) → k < n → get_or (numbers n) k 0 ≡ k
 unfolding numbers
-numbers-at zero k l = absurd (omega arith)
-numbers-at (suc n) k l = go (numbers-at n k) (ℕ_discrete (length (numbers n)) k)
+numbers_at zero k l = absurd (omega arith)
+numbers_at (suc n) k l = go (numbers_at n k) (ℕ_discrete (length (numbers n)) k)
   where
     go : (k < n → get_or (numbers n) k 0 ≡ k) → Dec (length (numbers n) ≡ k) → get_or (numbers n ++ (n ∷ [])) k 0 ≡ k
-    go ih (yes e) = subst (λ (j : ℕ). get_or (numbers n ++ (n ∷ [])) j 0 ≡ j) e (get_or-append_seam (numbers n) n [] 0 ∙ sym (numbers-length n))
-    go ih (no e) = let l : k < length (numbers n) = omega (arith, numbers-length n) in get_or-append (numbers n) (n ∷ []) 0 k l ∙ ih (omega (arith, numbers-length n))
+    go ih (yes e) = subst (λ (j : ℕ). get_or (numbers n ++ (n ∷ [])) j 0 ≡ j) e (get_or-append_seam (numbers n) n [] 0 ∙ sym (numbers_length n))
+    go ih (no e) = let l : k < length (numbers n) = omega (arith, numbers_length n) in get_or-append (numbers n) (n ∷ []) 0 k l ∙ ih (omega (arith, numbers_length n))
 
 numbers_in : (n k : ℕ) → In k (numbers n) → k < n
-numbers_in n k h = let (i, l, q) = in_at 0 k (numbers n) h in omega (arith, numbers-length n, numbers-at n i (omega (arith, numbers-length n)))
+numbers_in n k h = let (i, l, q) = in_at 0 k (numbers n) h in omega (arith, numbers_length n, numbers_at n i (omega (arith, numbers_length n)))
 
 in_numbers : (n k : ℕ) → k < n → In k (numbers n)
-in_numbers n k l = subst (λ (x : ℕ). In x (numbers n)) (numbers-at n k l) (at_in 0 (numbers n) k (omega (arith, numbers-length n)))
+in_numbers n k l = subst (λ (x : ℕ). In x (numbers n)) (numbers_at n k l) (at_in 0 (numbers n) k (omega (arith, numbers_length n)))
 
 -- two pairs are the same exactly if they are equal
 same_equal : (x y : Pair) → same_pair x y ≡ true → x ≡ y
@@ -86,44 +86,44 @@ module _ (rule : List ℕ) (listing : ℕ → List Term) (accepted-rule : sizes_
   abbrev listed_at : ℕ → List Term
   listed_at k = pair_transitions_by rule listing states (at k)
 
-  pub first-walked : Explored (state_walk_by rule listing) 0 (cover (formula rule)) states
-  first-walked =
+  pub first_walked : Explored (state_walk_by rule listing) 0 (cover (formula rule)) states
+  first_walked =
       walk_explored (state_walk_by rule listing) eqb-true (λ x. eq-eqb x x refl)
       (omega (arith, initial_few rule accepted-rule)) first
 
-  initial-count : length (map (λ i. pair i 0) (numbers count)) ≡ count
-  initial-count = length-map (numbers count) (λ i. pair i 0) ∙ numbers-length count
+  initial_count : length (map (λ i. pair i 0) (numbers count)) ≡ count
+  initial_count = length-map (numbers count) (λ i. pair i 0) ∙ numbers_length count
 
   pub second_walked : Explored (pair_walk_by rule listing states) 0 (map (λ i. pair i 0) (numbers count)) pairs
   unfolding initial_numbers
   second_walked =
       walk_explored (pair_walk_by rule listing states) same_equal same_self
-      (omega (arith, initial_few rule accepted-rule, initial-count)) second
+      (omega (arith, initial_few rule accepted-rule, initial_count)) second
 
   -- the first numbers are the initial ones
-  initial-at : (k : ℕ) → k < count → at k ≡ pair k 0
-  initial-at k l =
-      extends_at second_walked.extends (pair 0 0) k (omega (arith, initial-count))
+  initial_at_lem : (k : ℕ) → k < count → at k ≡ pair k 0
+  initial_at_lem k l =
+      extends_at second_walked.extends (pair 0 0) k (omega (arith, initial_count))
       ∙ get_or-map (λ i. pair i 0) (numbers count) k 0
-      ∙ ap (λ (i : ℕ). pair i 0) (numbers-at count k l)
+      ∙ ap (λ (i : ℕ). pair i 0) (numbers_at count k l)
 
   pub initial_valid : (k : ℕ) → k < count → Valid states pairs k
   initial_valid k l = record {
-    inside = omega (arith, extends_longer second_walked.extends, initial-count);
-    known = subst (λ (x : Pair). x.state < length states) (sym (initial-at k l)) (omega (arith, extends_longer first-walked.extends));
+    inside = omega (arith, extends_longer second_walked.extends, initial_count);
+    known = subst (λ (x : Pair). x.state < length states) (sym (initial_at_lem k l)) (omega (arith, extends_longer first_walked.extends));
   }
 
-  initial-means : (k : ℕ) → k < count → means states pairs k ≡ record { obligations = get_or (cover (formula rule)) k 0; level = 0 }
-  initial-means k l =
-      let o = ap (λ (x : Pair). get_or states x.state 0) (initial-at k l) ∙ extends_at first-walked.extends 0 k l in
-      λ i. record { obligations = o i; level = (initial-at k l i).level }
+  initial_means : (k : ℕ) → k < count → means states pairs k ≡ record { obligations = get_or (cover (formula rule)) k 0; level = 0 }
+  initial_means k l =
+      let o = ap (λ (x : Pair). get_or states x.state 0) (initial_at_lem k l) ∙ extends_at first_walked.extends 0 k l in
+      λ i. record { obligations = o i; level = (initial_at_lem k l i).level }
 
   -- the target of a known state's transition is known
   target_known : (state : ℕ) → state < length states → (t : Term) → In t (listing (get_or states state 0))
       → (find eqb t.obligations states < length states) × (get_or states (find eqb t.obligations states) 0 ≡ t.obligations)
   target_known state l t m =
-      first-walked.numbered t.obligations
-      ((first-walked.taken state (omega arith) l).closed t.obligations
+      first_walked.numbered t.obligations
+      ((first_walked.taken state (omega arith) l).closed t.obligations
       (in_map (λ t. t.obligations) t (listing (get_or states state 0)) m))
 
   -- the pairs' states are numbers of the first walk
@@ -135,7 +135,7 @@ module _ (rule : List ℕ) (listing : ℕ → List Term) (accepted-rule : sizes_
       start x h =
           let (i, m, e) = map_in (λ i. pair i 0) x (numbers count) h in
           let q : x.state ≡ i = ap (λ (y : Pair). y.state) e in
-          omega (arith, numbers_in count i m, extends_longer first-walked.extends)
+          omega (arith, numbers_in count i m, extends_longer first_walked.extends)
 
       step : (x : Pair) → x.state < length states
           → All (λ y. y.state < length states) (map (target rule states x) (pair_transitions_by rule listing states x))
@@ -163,9 +163,9 @@ module _ (rule : List ℕ) (listing : ℕ → List Term) (accepted-rule : sizes_
         is = λ i. record { obligations = o i; level = (f i).level };
       }
 
-  state-at : (k : ℕ) → Valid states pairs k
+  state_at_lem : (k : ℕ) → Valid states pairs k
       → get_or (automaton_by rule listing states pairs).states k no_state ≡ state_by rule listing states pairs (at k)
-  state-at k v = map_at (state_by rule listing states pairs) (pair 0 0) no_state pairs k v.inside
+  state_at_lem k v = map_at (state_by rule listing states pairs) (pair 0 0) no_state pairs k v.inside
 
   step_iff : (k letter j : ℕ) → Valid states pairs k → Step (automaton_by rule listing states pairs) k letter j
       ↔ ((t : Term) × In t (listed_at k) × Reads t letter × (j ≡ leads k t))
@@ -177,14 +177,14 @@ module _ (rule : List ℕ) (listing : ℕ → List Term) (accepted-rule : sizes_
       there : Step (automaton_by rule listing states pairs) k letter j
           → (t : Term) × In t (listed_at k) × Reads t letter × (j ≡ leads k t)
       there (u, m, r, e) =
-          let (t, l, q) = map_in transition u (listed_at k) (subst (λ (s : State). In u s.transitions) (state-at k v) m) in
+          let (t, l, q) = map_in transition u (listed_at k) (subst (λ (s : State). In u s.transitions) (state_at_lem k v) m) in
           (t, l, (reads_iff t (leads k t) letter).0 (subst (λ (x : Transition). reads x letter ≡ true) q r), e ∙ ap (λ (x : Transition). x.target) q)
 
       back : (t : Term) × In t (listed_at k) × Reads t letter × (j ≡ leads k t)
           → Step (automaton_by rule listing states pairs) k letter j
       back (t, l, r, e) = (
         transition t,
-        subst (λ (s : State). In (transition t) s.transitions) (sym (state-at k v)) (in_map transition t (listed_at k) l),
+        subst (λ (s : State). In (transition t) s.transitions) (sym (state_at_lem k v)) (in_map transition t (listed_at k) l),
         (reads_iff t (leads k t) letter).1 r,
         e,
       )
@@ -195,12 +195,12 @@ module _ (rule : List ℕ) (listing : ℕ → List Term) (accepted-rule : sizes_
   numbering = record {
     small = λ k v. v.inside;
     initial_valid = λ k h. initial_valid k (numbers_in count k h);
-    initial-means = λ k h.
+    initial_means = λ k h.
         let l = numbers_in count k h in
-        subst (counting rule (Listed listing)).Initial (sym (initial-means k l)) (at_in 0 (cover (formula rule)) k l, refl);
-    initial-has = λ x (m, z).
+        subst (counting rule (Listed listing)).Initial (sym (initial_means k l)) (at_in 0 (cover (formula rule)) k l, refl);
+    initial_has = λ x (m, z).
         let (k, l, q) = in_at 0 x.obligations (cover (formula rule)) m in
-        (k, in_numbers count k l, initial-means k l ∙ sym (λ i. record { obligations = sym q i; level = z i }));
+        (k, in_numbers count k l, initial_means k l ∙ sym (λ i. record { obligations = sym q i; level = z i }));
     step_valid = λ k letter j v s. let (t, l, r, e) = (step_iff k letter j v).0 s in subst (Valid states pairs) (sym e) (lands k v t l).valid;
     step_means = λ k letter j v s.
         let (t, l, r, e) = (step_iff k letter j v).0 s in
@@ -211,6 +211,6 @@ module _ (rule : List ℕ) (listing : ℕ → List Term) (accepted-rule : sizes_
       (step_iff k letter (leads k t) v).1 (t, l, r, refl),
       (lands k v t l).is ∙ sym (λ i. record { obligations = o i; level = p i }),
     );
-    accepting-means = λ k v c. eqb-true (at k).level (until_count rule) (subst (λ (s : State). s.accepting ≡ true) (state-at k v) c);
-    accepting-has = λ k v c. subst (λ (s : State). s.accepting ≡ true) (sym (state-at k v)) (eq-eqb (at k).level (until_count rule) c);
+    accepting_means = λ k v c. eqb-true (at k).level (until_count rule) (subst (λ (s : State). s.accepting ≡ true) (state_at_lem k v) c);
+    accepting_has = λ k v c. subst (λ (s : State). s.accepting ≡ true) (sym (state_at_lem k v)) (eq-eqb (at k).level (until_count rule) c);
   }

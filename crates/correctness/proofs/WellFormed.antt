@@ -16,13 +16,13 @@ use Rattle.automaton.specs.Automaton.{Transition, State, Automaton}
 use Rattle.sets.specs.Sets.{In}
 use Rattle.translation.specs.Degeneralized.{Pair, pair, initial_numbers, transition_of, translation}
 use Rattle.translation.specs.Translate.{written_translation}
-use Rattle.translation.proofs.Codes.{numbers-length}
+use Rattle.translation.proofs.Codes.{numbers_length}
 use Rattle.automaton.proofs.WellFormed.{WellFormedState, WellFormed, Label}
 use Rattle.sets.proofs.Members.{in_at, at_in, map_in}
 use Rattle.correctness.proofs.Labels.{transitions_labelled}
 use Rattle.correctness.proofs.Listing.{generalized_by, degeneralized_by, state_by, automaton_by}
 use Rattle.correctness.proofs.Listing.{translated, translation_by_lem}
-use Rattle.correctness.proofs.Walks.{numbers-at, Valid, first-walked, second_walked, initial_valid}
+use Rattle.correctness.proofs.Walks.{numbers_at, Valid, first_walked, second_walked, initial_valid}
 use Rattle.correctness.proofs.Walks.{pairs_known, lands}
 
 module _ (rule : List ℕ) (accepted-rule : sizes_checked rule ≡ fine)
@@ -31,8 +31,8 @@ module _ (rule : List ℕ) (accepted-rule : sizes_checked rule ≡ fine)
   abbrev state : Pair → State
   state = state_by rule (transitions rule) states pairs
 
-  state-formed : (k : ℕ) → k < length pairs → WellFormedState (length pairs) (state (get_or pairs k (pair 0 0)))
-  state-formed k l = record {
+  state_formed : (k : ℕ) → k < length pairs → WellFormedState (length pairs) (state (get_or pairs k (pair 0 0)))
+  state_formed k l = record {
     few = omega (arith, length-map listed transition, few_transitions rule accepted-rule here.state _ passed);
     labels = λ t m.
         let (u, n, e) = map_in transition t listed m in
@@ -55,7 +55,7 @@ module _ (rule : List ℕ) (accepted-rule : sizes_checked rule ≡ fine)
 
       passed : product_check rule here.state (get_or states here.state 0) ≡ fine
       passed =
-          ((first-walked rule (transitions rule) accepted-rule states first pairs second).taken here.state (omega arith)
+          ((first_walked rule (transitions rule) accepted-rule states first pairs second).taken here.state (omega arith)
           valid.known).passed
 
       listed : List Term
@@ -68,19 +68,19 @@ module _ (rule : List ℕ) (accepted-rule : sizes_checked rule ≡ fine)
   each_formed s m =
       let (x, n, e) = map_in state s pairs m in
       let (k, l, q) = in_at (pair 0 0) x pairs n in
-      subst (WellFormedState (length pairs)) (ap state q ∙ sym e) (state-formed k l)
+      subst (WellFormedState (length pairs)) (ap state q ∙ sym e) (state_formed k l)
 
   formed : WellFormed (automaton_by rule (transitions rule) states pairs)
   unfolding initial_numbers
   formed = record {
     states = omega (arith, (second_walked rule (transitions rule) accepted-rule states first pairs second).small, size);
     each = λ s m. subst (λ (n : ℕ). WellFormedState n s) (sym size) (each_formed s m);
-    initial = omega (arith, initial_few rule accepted-rule, numbers-length c);
+    initial = omega (arith, initial_few rule accepted-rule, numbers_length c);
     inside = λ i l.
-        let m : i < c = omega (arith, numbers-length c) in
+        let m : i < c = omega (arith, numbers_length c) in
         let valid = initial_valid rule (transitions rule) accepted-rule states first pairs second i m in
-        omega (arith, numbers-at c i m, valid.inside, size);
-    rising = λ i l. omega (arith, numbers-at c i (omega (arith, numbers-length c)), numbers-at c (suc i) (omega (arith, numbers-length c)));
+        omega (arith, numbers_at c i m, valid.inside, size);
+    rising = λ i l. omega (arith, numbers_at c i (omega (arith, numbers_length c)), numbers_at c (suc i) (omega (arith, numbers_length c)));
   }
     where
       c : ℕ

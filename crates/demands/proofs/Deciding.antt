@@ -8,7 +8,7 @@ use lib.ListN.{length, take}
 use borrow.Author.Tests.{leb-true, le-leb, lt-leb}
 use Rattle.answer.specs.Result.{Result, accepted, refused, fine}
 use Rattle.normalform.specs.NormalForm.{written_checked}
-use Rattle.answer.proofs.Results.{require-fine, never_both, then_accepted}
+use Rattle.answer.proofs.Results.{require_fine, never_both, then_accepted}
 use Rattle.automaton.specs.Automaton.{Automaton}
 use Rattle.automaton.specs.Tables.{Counts, Outcome, outcome, lengths_fit, table_check, TablesRoom}
 use Rattle.automaton.proofs.Room.{tables_short, room_fine, fine_room}
@@ -21,7 +21,7 @@ use Rattle.lasso.specs.Lasso.{remaining, lasso_check}
 use Rattle.judge.proofs.VerdictIff.{image_judged}
 use Rattle.correctness.proofs.WellFormed.{written_well_formed}
 use Rattle.demands.specs.Demand.{room_check, input_check, Decision, decision, concluded, decided}
-use Rattle.demands.proofs.TwoCalls.{Stored, is_stored, has-stored, image_is}
+use Rattle.demands.proofs.TwoCalls.{Stored, is_stored, has_stored, image_is}
 
 -- ---- buffers that are long enough, a rule and a lasso that are not refused
 
@@ -49,8 +49,8 @@ module _ (rule stem cycle s t i image work : List ℕ) (passes : input_check rul
       record {
         room = record {
           tables = room_fine s t i tables;
-          buffer = leb-true largest_image (length image) (require-fine _ 25 0 buffer);
-          working = leb-true work_bytes (length work) (require-fine _ 25 0 works);
+          buffer = leb-true largest_image (length image) (require_fine _ 25 0 buffer);
+          working = leb-true work_bytes (length work) (require_fine _ 25 0 works);
         };
         bytes = bytes;
         lasso = lasso;
@@ -86,7 +86,7 @@ module _ (rule stem cycle s t i image work : List ℕ) (passes : input_check rul
     module _ (c : Counts) (counted : told ≡ accepted c) (image' : List ℕ) {written : Result ℕ}
         (writing : buffer written image' ≡ writes c s' t' i' image) (n : ℕ) (e : written ≡ accepted n) where
       abbrev has : Stored rule s t i image fits room bytes s' t' i' translates c counted image' writing
-      has = has-stored rule s t i image fits room bytes s' t' i' translates c counted image' writing
+      has = has_stored rule s t i image fits room bytes s' t' i' translates c counted image' writing
 
       abbrev a : Automaton
       a = has.automaton
@@ -97,9 +97,9 @@ module _ (rule stem cycle s t i image work : List ℕ) (passes : input_check rul
       unfolding stored
       lasso_judged {answer} {work'} judges =
           let known : judgement answer work' ≡ letters_judged a (remaining stem) (remaining cycle) work =
-          judges ∙ ap (λ (bytes : List ℕ). judged bytes stem cycle work) (image_is rule s t i image fits room bytes s' t' i' translates c counted image' writing n e) ∙ image_judged a (written_well_formed rule a has.translated-to) stem cycle work passed.lasso passed.room.working in
+          judges ∙ ap (λ (bytes : List ℕ). judged bytes stem cycle work) (image_is rule s t i image fits room bytes s' t' i' translates c counted image' writing n e) ∙ image_judged a (written_well_formed rule a has.translated_to) stem cycle work passed.lasso passed.room.working in
           let tables = has.tables in
-          rw has.translated-to (λ k. decision (known k).answer (tables k).states (tables k).transitions (tables k).initial (has.stored_in k) (known k).work)
+          rw has.translated_to (λ k. decision (known k).answer (tables k).states (tables k).transitions (tables k).initial (has.stored_in k) (known k).work)
 
 -- ---- the checks before them
 

@@ -12,7 +12,7 @@ use lib.ListN.{length, take}
 use Rattle.answer.specs.Result.{accepted}
 use Rattle.answer.specs.Buffer.{buffer}
 use Rattle.lasso.specs.Lasso.{remains, remaining, letter, remaining_before, IthRemaining}
-use Rattle.lasso.proofs.RemainingLetters.{before_grows, remaining_once, remaining-letters}
+use Rattle.lasso.proofs.RemainingLetters.{before_grows, remaining_once, remaining_letters}
 use Rattle.sets.specs.Sets.{In}
 use Rattle.automaton.specs.Automaton.{Automaton}
 use Rattle.automaton.specs.Tables.{Counts, outcome}
@@ -31,10 +31,10 @@ use Rattle.demands.proofs.RuleImage.{rule_image_accepted}
 use Rattle.demands.proofs.TwoCalls.{Imaged, two_calls}
 
 -- a letter that remains is that of the letters that remain with as many before it
-remaining-at : (stem cycle : List ℕ) → 0 < length (remaining cycle) → (p : ℕ) → remains (letter stem cycle p) ≡ true
+remaining_at : (stem cycle : List ℕ) → 0 < length (remaining cycle) → (p : ℕ) → remains (letter stem cycle p) ≡ true
     → letter stem cycle p ≡ letter (remaining stem) (remaining cycle) (remaining_before (letter stem cycle) p)
-remaining-at stem cycle some p stays =
-    let ith = remaining-letters stem cycle some (remaining_before (letter stem cycle) p) in
+remaining_at stem cycle some p stays =
+    let ith = remaining_letters stem cycle some (remaining_before (letter stem cycle) p) in
     let here : IthRemaining (letter stem cycle) (remaining_before (letter stem cycle) p) (letter stem cycle p) =
     record { place = p; there = refl; stays = stays; before = refl } in
     ap (letter stem cycle) (remaining_once here ith) ∙ ith.there
@@ -64,14 +64,14 @@ module _ (rule s t i s' t' i' image image' : List ℕ) (c : Counts) (n : ℕ)
 
   takes : profile_translation rule ≡ accepted a
   unfolding profile_translation
-  takes = rw (profile_accepted rule s t i s' t' i' c translating).0 made.translated-to
+  takes = rw (profile_accepted rule s t i s' t' i' c translating).0 made.translated_to
 
   read : read_image (take n image') ≡ accepted a
-  read = rw made.is_image (rule_image_accepted rule a made.translated-to)
+  read = rw made.is_image (rule_image_accepted rule a made.translated_to)
 
   watches : (k : ℕ) → Watches (take n image') a read word (after_steps (take n image') set (letter stem cycle) k)
       (remaining_before (letter stem cycle) k)
-  watches = unit_watches (take n image') a read word (letter stem cycle) (remaining-at stem cycle some) set room
+  watches = unit_watches (take n image') a read word (letter stem cycle) (remaining_at stem cycle some) set room
 
   raised_iff : (k : ℕ) → Raised k ↔ NoneCurrent a word (remaining_before (letter stem cycle) k)
   raised_iff k = (
@@ -92,13 +92,13 @@ module _ (rule s t i s' t' i' image image' : List ℕ) (c : Counts) (n : ℕ)
   raised_iff_broken = (
     λ (k, raised). (alarm_iff_broken rule a takes stem cycle some).0 (remaining_before (letter stem cycle) k, (raised_iff k).0 raised),
     λ broken.
-        let last = remaining-letters stem cycle some (length (remaining stem) + length (remaining cycle) * c.states) in
+        let last = remaining_letters stem cycle some (length (remaining stem) + length (remaining cycle) * c.states) in
         (last.place, raised_in_time broken last.place (omega (arith, last.before))),
   )
 
   -- raised it stays raised
-  pub raised-stays : (k m : ℕ) → k ≤ m → Raised k → Raised m
-  raised-stays k m le raised =
+  pub raised_stays : (k m : ℕ) → k ≤ m → Raised k → Raised m
+  raised_stays k m le raised =
       (raised_iff m).1
       (alarm_stays a word (remaining_before (letter stem cycle) k) (remaining_before (letter stem cycle) m)
       (before_grows (letter stem cycle) k m le) ((raised_iff k).0 raised))

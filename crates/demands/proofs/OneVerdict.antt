@@ -14,7 +14,7 @@ use Rattle.translation.specs.Translate.{written_translation}
 use Rattle.image.specs.Image.{image_bytes}
 use Rattle.judge.specs.Judge.{work_bytes, Verdict, kept, broken, verdict_of, judged}
 use Rattle.explain.specs.Satisfied.{satisfied}
-use Rattle.explain.proofs.ByMeaning.{satisfied_iff, satisfied-within}
+use Rattle.explain.proofs.ByMeaning.{satisfied_iff, satisfied_within}
 use Rattle.demands.proofs.Verdict.{verdict_iff_satisfied}
 
 -- the verdict that says whether a rule is kept
@@ -31,9 +31,9 @@ judged_as_meant rule stem cycle b told a known work enough = go b refl (satisfie
     go : (d : Bool) → b ≡ d → b ≡ true ↔ SatisfiesWritten rule (remaining stem) (remaining cycle)
         → verdict_of (judged (image_bytes a) stem cycle work).answer ≡ accepted (verdict_for d)
     go true e sat =
-        let (some, few) = satisfied-within rule stem cycle b told in
+        let (some, few) = satisfied_within rule stem cycle b told in
         (verdict_iff_satisfied rule stem cycle a known work some few enough).0.1 (sat.0 e)
     go false e sat =
-        let (some, few) = satisfied-within rule stem cycle b told in
+        let (some, few) = satisfied_within rule stem cycle b told in
         (verdict_iff_satisfied rule stem cycle a known work some few enough).1.1
         (λ kept. false≢true (sym e ∙ sat.1 kept))

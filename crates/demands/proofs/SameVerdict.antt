@@ -15,20 +15,20 @@ use Rattle.formula.specs.Rule.{root}
 use Rattle.translation.specs.Translate.{written_translation}
 use Rattle.image.specs.Image.{image_bytes}
 use Rattle.sameword.specs.Words.{SameWord, SameRemaining, compared}
-use Rattle.sameword.proofs.Exactly.{compared_exactly, compared-fine}
+use Rattle.sameword.proofs.Exactly.{compared_exactly, compared_fine}
 use Rattle.judge.specs.Judge.{work_bytes, Verdict, kept, broken, Finding, verdict_of, Exactly, judged}
 use Rattle.demands.proofs.Verdict.{verdict_iff_satisfied}
 
 -- one word satisfies the same rules
-same-word_satisfies : (rule stem cycle otherStem otherCycle : List ℕ) → SameWord stem cycle otherStem otherCycle
+same_word_satisfies : (rule stem cycle otherStem otherCycle : List ℕ) → SameWord stem cycle otherStem otherCycle
     → SatisfiesWritten rule stem cycle ≡ SatisfiesWritten rule otherStem otherCycle
 unfolding SatisfiesWritten
-same-word_satisfies rule stem cycle otherStem otherCycle same =
+same_word_satisfies rule stem cycle otherStem otherCycle same =
     ap (λ (word : ℕ → ℕ). HoldsWritten word (written_tree rule (root rule)) 0) (fun_ext same)
 
 -- two answers that say exactly one thing have one verdict
-one-verdict : (r s : Result Finding) (P : Type 0) → Exactly r P → Exactly s P → verdict_of r ≡ verdict_of s
-one-verdict r s P e f = go (verdict_of r) refl
+one_verdict : (r s : Result Finding) (P : Type 0) → Exactly r P → Exactly s P → verdict_of r ≡ verdict_of s
+one_verdict r s P e f = go (verdict_of r) refl
   where
     go : (v : Result Verdict) → verdict_of r ≡ v → v ≡ verdict_of s
     go (accepted kept) said = sym (f.0.1 (e.0.0 said))
@@ -44,26 +44,26 @@ module _ (rule : List ℕ) (a : Automaton) (known : written_translation rule ≡
   -- R-6 and R-9: the written rule is accepted, and a is its automaton; both lassos are within judge's limits, and their
   -- letters that remain agree at each i; each is judged by the rule's image with working bytes of its own. Then the
   -- verdicts are the same.
-  pub same-word-same-verdict : 0 < length (remaining cycle) → length stem + length cycle ≤ max_letters
+  pub same_word_same_verdict : 0 < length (remaining cycle) → length stem + length cycle ≤ max_letters
       → 0 < length (remaining otherCycle) → length otherStem + length otherCycle ≤ max_letters
       → SameRemaining stem cycle otherStem otherCycle
       → verdict_of (judged (image_bytes a) stem cycle work).answer
       ≡ verdict_of (judged (image_bytes a) otherStem otherCycle otherWork).answer
-  same-word-same-verdict some few some-other few-other same =
+  same_word_same_verdict some few some-other few-other same =
       let first = (judged (image_bytes a) stem cycle work).answer in
       let second = (judged (image_bytes a) otherStem otherCycle otherWork).answer in
-      one-verdict first second (SatisfiesWritten rule (remaining otherStem) (remaining otherCycle))
+      one_verdict first second (SatisfiesWritten rule (remaining otherStem) (remaining otherCycle))
       (subst (Exactly first)
-      (same-word_satisfies rule (remaining stem) (remaining cycle) (remaining otherStem) (remaining otherCycle) same)
+      (same_word_satisfies rule (remaining stem) (remaining cycle) (remaining otherStem) (remaining otherCycle) same)
       (verdict_iff_satisfied rule stem cycle a known work some few enough))
       (verdict_iff_satisfied rule otherStem otherCycle a known otherWork some-other few-other enough-other)
 
   -- the same where compare has told that they are one word: then both are within the limits
-  pub told-same-verdict : compared stem cycle otherStem otherCycle ≡ accepted true
+  pub told_same_verdict : compared stem cycle otherStem otherCycle ≡ accepted true
       → verdict_of (judged (image_bytes a) stem cycle work).answer
       ≡ verdict_of (judged (image_bytes a) otherStem otherCycle otherWork).answer
-  told-same-verdict told =
-      let (first, second) = compared-fine stem cycle otherStem otherCycle told in
-      same-word-same-verdict (lasso_some stem cycle first) (lasso_few stem cycle first)
+  told_same_verdict told =
+      let (first, second) = compared_fine stem cycle otherStem otherCycle told in
+      same_word_same_verdict (lasso_some stem cycle first) (lasso_few stem cycle first)
       (lasso_some otherStem otherCycle second) (lasso_few otherStem otherCycle second)
       ((compared_exactly stem cycle otherStem otherCycle first second).0.0 told)

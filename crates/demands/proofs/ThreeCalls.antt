@@ -28,4 +28,4 @@ module _ (rule s t i s' t' i' image image' : List ℕ) (c : Counts) (n : ℕ)
   three_calls_exactly stem cycle work some few enough =
       let made = two_calls rule s t i s' t' i' image image' c n translating writing in
       rw made.is_image
-      (verdict_iff_satisfied rule stem cycle made.automaton made.translated-to work some few enough)
+      (verdict_iff_satisfied rule stem cycle made.automaton made.translated_to work some few enough)

@@ -10,8 +10,8 @@ use borrow.Author.Tests.{leb-true, le-leb}
 use Rattle.answer.specs.Result.{Result, accepted, refused, and_then, Check, fine}
 use Rattle.answer.specs.Buffer.{Buffer, buffer}
 use Rattle.answer.specs.Bytes.{filled}
-use Rattle.answer.proofs.Lowest.{fine-first, fine_second}
-use Rattle.answer.proofs.Results.{require-fine, never_both, then_accepted}
+use Rattle.answer.proofs.Lowest.{fine_first, fine_second}
+use Rattle.answer.proofs.Results.{require_fine, never_both, then_accepted}
 use Rattle.automaton.specs.Automaton.{Automaton}
 use Rattle.automaton.specs.Records.{state_records, transition_records, initial_records}
 use Rattle.automaton.specs.Tables.{Counts, counts, Outcome, outcome, table_check, TablesRoom}
@@ -47,14 +47,14 @@ module _ (rule s t i image : List ℕ) (fits : TablesRoom s t i) (room : largest
       -- the image of the rule's automaton is at the start of the buffer, and its records are in the tables
       pub record Stored : Type 0 where
         pub automaton : Automaton
-        pub translated-to : written_translation rule ≡ accepted automaton
+        pub translated_to : written_translation rule ≡ accepted automaton
         pub tables : outcome told s' t' i' ≡ stored (accepted automaton) s t i
         answered : written ≡ accepted (length (image_bytes automaton))
         pub stored_in : image' ≡ image_bytes automaton ++ drop (length (image_bytes automaton)) image
 
-      pub has-stored : Stored
+      pub has_stored : Stored
       unfolding stored
-      has-stored = go (written_translation rule) refl is_stored
+      has_stored = go (written_translation rule) refl is_stored
         where
           go : (r : Result Automaton) → written_translation rule ≡ r → outcome told s' t' i' ≡ stored r s t i → Stored
           go (accepted a) known tables =
@@ -64,7 +64,7 @@ module _ (rule s t i image : List ℕ) (fits : TablesRoom s t i) (room : largest
               let done = writing ∙ handed ∙ image_written a known in
               record {
                 automaton = a;
-                translated-to = known;
+                translated_to = known;
                 tables = tables;
                 answered = ap (λ (b : Buffer). b.answer) done;
                 stored_in = ap (λ (b : Buffer). b.bytes) done;
@@ -73,21 +73,21 @@ module _ (rule s t i image : List ℕ) (fits : TablesRoom s t i) (room : largest
 
       -- the writer refuses nothing
       pub write_refused : {A : Type 0} {number place : ℕ} → written ≡ refused number place → A
-      write_refused e = never_both (sym e ∙ has-stored.answered)
+      write_refused e = never_both (sym e ∙ has_stored.answered)
 
       module _ (n : ℕ) (e : written ≡ accepted n) where
         abbrev a : Automaton
-        a = has-stored.automaton
+        a = has_stored.automaton
 
         image_size : length (image_bytes a) ≡ n
-        image_size = cc has-stored.answered
+        image_size = cc has_stored.answered
 
         pub image_inside : n ≤ length image'
-        image_inside = omega (arith, image_size, ap length has-stored.stored_in, length-append (image_bytes a) (drop (length (image_bytes a)) image))
+        image_inside = omega (arith, image_size, ap length has_stored.stored_in, length-append (image_bytes a) (drop (length (image_bytes a)) image))
 
         pub image_is : take n image' ≡ image_bytes a
         image_is =
-            ap (take n) has-stored.stored_in
+            ap (take n) has_stored.stored_in
             ∙ take_at (image_bytes a) (drop (length (image_bytes a)) image) n image_size
 
 -- ---- calls that have accepted
@@ -102,7 +102,7 @@ translate_fine rule s t i s' t' i' c e = go (and_then (table_check s t i) (λ _.
         → outcome (accepted c) s' t' i' ≡ unless check (stored (written_translation rule) s t i) s t i
         → (table_check s t i ≡ fine) × (written_checked rule ≡ fine)
     go (accepted u) known is =
-        (fine-first (table_check s t i) (written_checked rule) known, fine_second (table_check s t i) (written_checked rule) known)
+        (fine_first (table_check s t i) (written_checked rule) known, fine_second (table_check s t i) (written_checked rule) known)
     go (refused number place) known is = never_both (sym (ap (λ (o : Outcome). o.answer) is))
 
 write_fine : (c : Counts) (s t i image image' : List ℕ) (n : ℕ) → buffer (accepted n) image' ≡ writes c s t i image
@@ -122,7 +122,7 @@ write_fine c s t i image image' n e =
 -- an automaton, its counts and its image
 pub record Imaged (rule : List ℕ) (c : Counts) (image : List ℕ) : Type 0 where
   pub automaton : Automaton
-  pub translated-to : written_translation rule ≡ accepted automaton
+  pub translated_to : written_translation rule ≡ accepted automaton
   pub counted : c ≡ counts automaton
   pub is_image : image ≡ image_bytes automaton
 
@@ -136,11 +136,11 @@ two_calls rule s t i s' t' i' image image' c n translating writing =
     let (tables, bytes) = translate_fine rule s t i s' t' i' c translating in
     let fits = room_fine s t i tables in
     let buffers = write_fine c s' t' i' image image' n writing in
-    let room = leb-true largest_image (length image) (require-fine _ 25 0 buffers) in
-    let made = has-stored rule s t i image fits room bytes s' t' i' translating c refl image' writing in
+    let room = leb-true largest_image (length image) (require_fine _ 25 0 buffers) in
+    let made = has_stored rule s t i image fits room bytes s' t' i' translating c refl image' writing in
     record {
       automaton = made.automaton;
-      translated-to = made.translated-to;
+      translated_to = made.translated_to;
       counted = cc (ap (λ (o : Outcome). o.answer) made.tables);
       is_image = image_is rule s t i image fits room bytes s' t' i' translating c refl image' writing n refl;
     }

@@ -12,13 +12,13 @@ use Rattle.sets.proofs.Members.{All}
 use Rattle.sets.proofs.Bits.{or_sub, sub_or}
 use Rattle.term.specs.Term.{Term, joined}
 use Rattle.term.specs.Memory.{pack, unpack}
-use Rattle.term.proofs.Packing.{Bytes, of-terms}
-use Rattle.term.proofs.Unpacking.{unpack-pack}
+use Rattle.term.proofs.Packing.{Bytes, of_terms}
+use Rattle.term.proofs.Unpacking.{unpack_pack}
 use Rattle.acceptance.specs.Acceptance.{within, fulfilment}
 use Rattle.acceptance.proofs.Tests.{equal_parts}
 use Rattle.domination.specs.Domination.{same_term, dominates, undominated}
 use Rattle.domination.specs.Memory.{dominates_n}
-use Rattle.domination.proofs.Undominated.{undominated-map}
+use Rattle.domination.proofs.Undominated.{undominated_map}
 
 -- a set within another is no larger as a number
 within_le : (x y : ℕ) → within x y ≡ true → x ≤ y
@@ -132,27 +132,27 @@ module _ (rule : List ℕ) where
           ))
 
   -- No two terms dominate each other, so of two at least one stays (R-1, sentence 2).
-  pub dominates-one_way : (u t : Term) → dominates rule u t ≡ true → dominates rule t u ≡ true → ⊥
-  dominates-one_way u t e f = omega (arith, term_falls u t e, term_falls t u f)
+  pub dominates_one_way : (u t : Term) → dominates rule u t ≡ true → dominates rule t u ≡ true → ⊥
+  dominates_one_way u t e f = omega (arith, term_falls u t e, term_falls t u f)
 
   -- which untils a packed term fulfils
   abbrev pub untils_n : ℕ → ℕ
   untils_n t = fulfilment rule (unpack t)
 
-  dominates-packed : (u t : Term) → Bytes u → Bytes t → dominates_n untils_n (pack u) (pack t) ≡ dominates rule u t
+  dominates_packed : (u t : Term) → Bytes u → Bytes t → dominates_n untils_n (pack u) (pack t) ≡ dominates rule u t
   unfolding dominates
-  dominates-packed u t g h =
+  dominates_packed u t g h =
       rw (
         equal_parts u t g h,
-        of-terms.joins u t g h,
-        equal_parts (joined u t) t (of-terms.good u t g h) h,
-        unpack-pack u g,
-        unpack-pack t h,
+        of_terms.joins u t g h,
+        equal_parts (joined u t) t (of_terms.good u t g h) h,
+        unpack_pack u g,
+        unpack_pack t h,
       ) (simp and_assoc)
 
   -- sifting packed terms is sifting terms
-  pub undominated-packed : (ts : List Term) → All Bytes ts
+  pub undominated_packed : (ts : List Term) → All Bytes ts
       → undominated (dominates_n untils_n) (map pack ts) ≡ map pack (undominated (dominates rule) ts)
-  undominated-packed ts bytes =
-      undominated-map pack (dominates_n untils_n) (dominates rule) ts
-      (λ u t m n. dominates-packed u t (bytes u m) (bytes t n))
+  undominated_packed ts bytes =
+      undominated_map pack (dominates_n untils_n) (dominates rule) ts
+      (λ u t m n. dominates_packed u t (bytes u m) (bytes t n))

@@ -10,7 +10,7 @@ use native.Mathlib.Decide.{dec_lt}
 use lib.ListN.{length, get_or, take, drop, length-take, take-append-drop}
 use lib.Seq.{get_or-take}
 use Rattle.sets.specs.Sets.{In, any}
-use Rattle.sets.proofs.Members.{any_iff, any-map, at_in, in_at, in_append}
+use Rattle.sets.proofs.Members.{any_iff, any_map, at_in, in_at, in_append}
 use Rattle.domination.specs.Domination.{sift, stays, undominated}
 
 -- two tests of which each follows from the other are one
@@ -44,10 +44,10 @@ module _ {A : Type 0} (test : A → Bool) where
       go false f (inl q) ih = absurd (false≢true (sym f ∙ sym (ap test q) ∙ e))
       go false f (inr m) ih = ih m
 
-  pub sift-append : (xs ys : List A) → sift test (xs ++ ys) ≡ sift test xs ++ sift test ys
+  pub sift_append : (xs ys : List A) → sift test (xs ++ ys) ≡ sift test xs ++ sift test ys
   unfolding sift
-  sift-append [] ys = refl
-  sift-append (x ∷ xs) ys = rw (sift-append xs ys) (go (test x))
+  sift_append [] ys = refl
+  sift_append (x ∷ xs) ys = rw (sift_append xs ys) (go (test x))
     where
       go : (b : Bool) → cond b (x ∷ (sift test xs ++ sift test ys)) (sift test xs ++ sift test ys)
           ≡ cond b (x ∷ sift test xs) (sift test xs) ++ sift test ys
@@ -66,22 +66,22 @@ module _ {A : Type 0} (test : A → Bool) where
 
 -- ---- through a map under which a test stays the same
 module _ {A B : Type 0} (g : A → B) where
-  sift-map : (p : B → Bool) (q : A → Bool) (xs : List A) → ((x : A) → In x xs → p (g x) ≡ q x)
+  sift_map : (p : B → Bool) (q : A → Bool) (xs : List A) → ((x : A) → In x xs → p (g x) ≡ q x)
       → sift p (map g xs) ≡ map g (sift q xs)
   unfolding sift
-  sift-map p q [] same = refl
-  sift-map p q (x ∷ xs) same = rw (same x (inl refl), sift-map p q xs (λ y m. same y (inr m))) (go (q x))
+  sift_map p q [] same = refl
+  sift_map p q (x ∷ xs) same = rw (same x (inl refl), sift_map p q xs (λ y m. same y (inr m))) (go (q x))
     where
       go : (b : Bool) → cond b (g x ∷ map g (sift q xs)) (map g (sift q xs))
           ≡ map g (cond b (x ∷ sift q xs) (sift q xs))
       go true = refl
       go false = refl
 
-  pub undominated-map : (by : B → B → Bool) (dominates : A → A → Bool) (xs : List A)
+  pub undominated_map : (by : B → B → Bool) (dominates : A → A → Bool) (xs : List A)
       → ((y x : A) → In y xs → In x xs → by (g y) (g x) ≡ dominates y x)
       → undominated by (map g xs) ≡ map g (undominated dominates xs)
-  undominated-map by dominates xs same =
-      sift-map _ _ xs (λ x m. ap not (any-map g _ (λ y. dominates y x) xs (λ y n. same y x n m)))
+  undominated_map by dominates xs same =
+      sift_map _ _ xs (λ x m. ap not (any_map g _ (λ y. dominates y x) xs (λ y n. same y x n m)))
 
 -- ---- by any domination
 module _ {A : Type 0} (dominates : A → A → Bool) (rank : A → ℕ)

@@ -18,7 +18,7 @@ use Rattle.lasso.proofs.Letters.{after_small}
 use Rattle.evaluate.specs.Truth.{sweep, rounds, at, row, row_of, truth}
 use Rattle.evaluate.specs.Memory.{leaf_step, pair_step, round_here, round_step, opening, Swept, RowStored, Filled}
 use Rattle.evaluate.specs.Memory.{Room}
-use Rattle.evaluate.proofs.Sweeping.{before_row, sweep-agree}
+use Rattle.evaluate.proofs.Sweeping.{before_row, sweep_agree}
 
 -- ---- parts of a table
 
@@ -28,9 +28,9 @@ part (suc d) m [] = take-nil m ∙ sym (ap (drop (suc d)) (take-nil (suc d + m))
 part (suc d) m (x ∷ xs) =
     let e : suc (d + m) ≡ suc d + m = omega arith in part d m xs ∙ ap (λ (k : ℕ). drop (suc d) (take k (x ∷ xs))) e
 
-part-kept : (d m at : ℕ) (xs ys : List Bool) → d + m ≤ at → take at ys ≡ take at xs
+part_kept : (d m at : ℕ) (xs ys : List Bool) → d + m ≤ at → take at ys ≡ take at xs
     → take m (drop d ys) ≡ take m (drop d xs)
-part-kept d m at xs ys l e =
+part_kept d m at xs ys l e =
     part d m ys
     ∙ ap (drop d) (sym (take-take (d + m) at ys l) ∙ ap (take (d + m)) e ∙ take-take (d + m) at xs l)
     ∙ sym (part d m xs)
@@ -39,9 +39,9 @@ part_at : (d m i : ℕ) (xs : List Bool) → i < m → at (take m (drop d xs)) i
 part_at d m i xs l = get_or-take m (drop d xs) i false l ∙ get_or-drop d xs i false
 
 -- a pass down to position 0 leaves a row
-swept-stored : (f : ℕ → Bool → Bool) (at total : ℕ) (v : Bool) (xs ys : List Bool) → Swept f at total v xs ys 0
+swept_stored : (f : ℕ → Bool → Bool) (at total : ℕ) (v : Bool) (xs ys : List Bool) → Swept f at total v xs ys 0
     → RowStored at total (sweep f 0 total v) xs ys
-swept-stored f at total v xs ys inv =
+swept_stored f at total v xs ys inv =
     let a : total ≡ total - 0 = omega arith in
     let b : at ≡ at + 0 = omega arith in
     record {
@@ -51,20 +51,20 @@ swept-stored f at total v xs ys inv =
     }
 
 -- two passes leave the row of two rounds
-pub rounds-stored : (kind a b at total : ℕ) (stem cycle : List ℕ) (xs ys zs : List Bool) (v first : Bool)
+pub rounds_stored : (kind a b at total : ℕ) (stem cycle : List ℕ) (xs ys zs : List Bool) (v first : Bool)
     → v ≡ opening kind → total ≡ length stem + length cycle → a + total ≤ at → b + total ≤ at
     → first ≡ get_or (sweep (round_step kind xs a b) (length stem) (total - length stem) v) 0 v
     → Swept (round_step kind xs a b) at total v xs ys (length stem)
     → Swept (round_step kind ys a b) at total first ys zs 0
     → RowStored at (length stem + length cycle) (rounds stem cycle (round_step kind xs a b) (opening kind)) xs zs
-rounds-stored kind a b at total stem cycle xs ys zs v first o t p q e one two =
-    let h = swept-stored (round_step kind ys a b) at total first ys zs two in
+rounds_stored kind a b at total stem cycle xs ys zs v first o t p q e one two =
+    let h = swept_stored (round_step kind ys a b) at total first ys zs two in
     let l : total - length stem ≡ length cycle = omega arith in
     record {
       size = h.size ∙ one.size;
       row =
           ap (λ (m : ℕ). take m (drop at zs)) (sym t) ∙ h.row
-          ∙ sweep-agree (round_step kind ys a b) (round_step kind xs a b) first total 0
+          ∙ sweep_agree (round_step kind ys a b) (round_step kind xs a b) first total 0
           (λ i r x y. same i r (omega arith))
           ∙ ap₂ (λ (m : ℕ) (x : Bool). sweep (round_step kind xs a b) 0 m x) t
           (e ∙ ap₂ (λ (m : ℕ) (x : Bool). get_or (sweep (round_step kind xs a b) (length stem) m x) 0 x) l o);
@@ -109,47 +109,47 @@ module _ (stem cycle : List ℕ) (some : 0 < length cycle) where
     pair_row (suc (suc zero)) l m = absurd (omega arith)
     pair_row (suc (suc (suc zero))) l m = absurd (omega arith)
     pair_row (suc (suc (suc (suc zero)))) l m =
-        sweep-agree _ _ false total 0
+        sweep_agree _ _ false total 0
         (λ p r x y. ap₂ (λ (u v : Bool). u && v) (sym (part_at a total p xs (omega arith)))
         (sym (part_at b total p xs (omega arith))))
     pair_row (suc (suc (suc (suc (suc zero))))) l m =
-        sweep-agree _ _ false total 0
+        sweep_agree _ _ false total 0
         (λ p r x y. ap₂ (λ (u v : Bool). u || v) (sym (part_at a total p xs (omega arith)))
         (sym (part_at b total p xs (omega arith))))
     pair_row (suc (suc (suc (suc (suc (suc zero)))))) l m =
-        sweep-agree _ _ false total 0
+        sweep_agree _ _ false total 0
         (λ p r x y. sym (part_at a total (after stem cycle p) xs (after_small stem cycle some p)))
     pair_row (suc (suc (suc (suc (suc (suc (suc kind))))))) l m = absurd (omega arith)
 
     abbrev round_of : ℕ → List Bool
     round_of kind = rounds stem cycle (round_step kind xs a b) (opening kind)
 
-    round-row : (kind : ℕ) (g : ℕ → Bool → Bool) (v : Bool) → opening kind ≡ v
+    round_row : (kind : ℕ) (g : ℕ → Bool → Bool) (v : Bool) → opening kind ≡ v
         → ((p : ℕ) (r : Bool) → p < total → round_step kind xs a b p r ≡ g p r) → round_of kind ≡ rounds stem cycle g v
-    round-row kind g v o h =
+    round_row kind g v o h =
         let f = round_step kind xs a b in
         ap (λ (x : Bool). rounds stem cycle f x) o
-        ∙ sweep-agree f g (get_or (sweep f (length stem) (length cycle) v) 0 v) total 0 (λ p r x y. h p r (omega arith))
+        ∙ sweep_agree f g (get_or (sweep f (length stem) (length cycle) v) 0 v) total 0 (λ p r x y. h p r (omega arith))
         ∙ ap (λ (zs : List Bool). sweep g 0 total (get_or zs 0 v))
-        (sweep-agree f g v (length cycle) (length stem) (λ p r x y. h p r y))
+        (sweep_agree f g v (length cycle) (length stem) (λ p r x y. h p r y))
 
-    until-row : round_of 7 ≡ row stem cycle 7 left A B
-    until-row =
-        round-row 7 _ false refl
+    until_row : round_of 7 ≡ row stem cycle 7 left A B
+    until_row =
+        round_row 7 _ false refl
         (λ p r l. ap₂ (λ (x y : Bool). y || (x && r)) (sym (part_at a total p xs l)) (sym (part_at b total p xs l)))
 
-    release-row : round_of 8 ≡ row stem cycle 8 left A B
-    release-row =
-        round-row 8 _ true refl
+    release_row : round_of 8 ≡ row stem cycle 8 left A B
+    release_row =
+        round_row 8 _ true refl
         (λ p r l. ap₂ (λ (x y : Bool). y && (x || r)) (sym (part_at a total p xs l)) (sym (part_at b total p xs l)))
 
     either_row : (kind : ℕ) → 6 < kind → kind ≤ 8 → round_of kind ≡ row stem cycle kind left A B
     either_row kind l m = go (ℕ_discrete kind 7)
       where
         go : Dec (kind ≡ 7) → round_of kind ≡ row stem cycle kind left A B
-        go (yes e) = subst (λ (k : ℕ). round_of k ≡ row stem cycle k left A B) (sym e) until-row
+        go (yes e) = subst (λ (k : ℕ). round_of k ≡ row stem cycle k left A B) (sym e) until_row
         go (no e) =
-            let f : 8 ≡ kind = omega arith in subst (λ (k : ℕ). round_of k ≡ row stem cycle k left A B) f release-row
+            let f : 8 ≡ kind = omega arith in subst (λ (k : ℕ). round_of k ≡ row stem cycle k left A B) f release_row
 
 -- ---- one row more
 
@@ -174,8 +174,8 @@ module _ {rule stem cycle : List ℕ} {xs : List Bool} {k kind left : ℕ}
   proposition_known l m =
       omega (arith, accepted.proposition (omega (arith, node.is_kind)) (omega (arith, node.is_kind)), node.is_left)
 
-  pub left-low : 4 ≤ kind → left < k
-  left-low l = omega (arith, accepted.left (omega (arith, node.is_kind)), node.is_left)
+  pub left_low : 4 ≤ kind → left < k
+  left_low l = omega (arith, accepted.left (omega (arith, node.is_kind)), node.is_left)
 
   module _ (ys : List Bool) where
     one_more : (flags : List Bool) → RowStored (k * max_letters) (length stem + length cycle) flags xs ys
@@ -189,7 +189,7 @@ module _ {rule stem cycle : List ℕ} {xs : List Bool} {k kind left : ℕ}
             (λ (i : ℕ). take (length stem + length cycle) (drop (i * max_letters) ys) ≡ get_or (truth rule stem cycle)
             i []) (sym q) (h.row ∙ e)
         go j l (no q) =
-            part-kept (j * max_letters) (length stem + length cycle) (k * max_letters) xs ys
+            part_kept (j * max_letters) (length stem + length cycle) (k * max_letters) xs ys
             (omega (arith, node.room.few)) h.kept
             ∙ node.done.rows j (omega arith)
 
@@ -199,7 +199,7 @@ module _ {rule stem cycle : List ℕ} {xs : List Bool} {k kind left : ℕ}
         → Filled rule stem cycle ys (k + 1)
     unfolding truth
     leaf_done l inv =
-        one_more _ (swept-stored _ (k * max_letters) (length stem + length cycle) false xs ys inv)
+        one_more _ (swept_stored _ (k * max_letters) (length stem + length cycle) false xs ys inv)
         (leaf_row stem cycle node.room.some kind left (below (left_at rule k)) (below (right_at rule k)) l
         ∙ rw (node.is_kind, node.is_left) (sym (of_parts [] (row_of stem cycle) rule k node.inside)))
       where
@@ -207,8 +207,8 @@ module _ {rule stem cycle : List ℕ} {xs : List Bool} {k kind left : ℕ}
         below x = get_or (take k (trees [] (row_of stem cycle) [] rule)) x []
 
   module _ {right : ℕ} (is_right : right ≡ right_at rule k) where
-    pub right-low : 4 ≤ kind → right < k
-    right-low l = omega (arith, accepted.right (omega (arith, node.is_kind)))
+    pub right_low : 4 ≤ kind → right < k
+    right_low l = omega (arith, accepted.right (omega (arith, node.is_kind)))
 
     -- the row of an inner node from those of its children
     from_children : 4 ≤ kind
@@ -216,8 +216,8 @@ module _ {rule stem cycle : List ℕ} {xs : List Bool} {k kind left : ℕ}
         (take (length stem + length cycle) (drop (right * max_letters) xs)) ≡ get_or (truth rule stem cycle) k []
     unfolding truth
     from_children l =
-        let x = left-low l in
-        let y = right-low l in
+        let x = left_low l in
+        let y = right_low l in
         ap₂ (row stem cycle kind left) (node.done.rows left x) (node.done.rows right y)
         ∙ rw (node.is_kind, node.is_left, is_right)
         (sym (of_children [] (row_of stem cycle) rule k node.inside (omega (arith, node.is_left)) (omega arith)))
@@ -226,7 +226,7 @@ module _ {rule stem cycle : List ℕ} {xs : List Bool} {k kind left : ℕ}
         → Swept (pair_step kind xs (left * max_letters) (right * max_letters) stem cycle) (k * max_letters)
         (length stem + length cycle) false xs ys 0 → Filled rule stem cycle ys (k + 1)
     pair_done ys l m inv =
-        one_more ys _ (swept-stored _ (k * max_letters) (length stem + length cycle) false xs ys inv)
+        one_more ys _ (swept_stored _ (k * max_letters) (length stem + length cycle) false xs ys inv)
         (pair_row stem cycle node.room.some left (left * max_letters) (right * max_letters) xs kind (omega arith) m
         ∙ from_children l)
 

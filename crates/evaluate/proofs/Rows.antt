@@ -18,10 +18,10 @@ use Rattle.sets.proofs.Members.{or_iff}
 use Rattle.lasso.specs.Lasso.{letter, after}
 use Rattle.formula.specs.Satisfaction.{Holds, Satisfies}
 use Rattle.lasso.proofs.Positions.{some_dec}
-use Rattle.lasso.proofs.Letters.{letter-round, after_inside, after_last}
+use Rattle.lasso.proofs.Letters.{letter_round, after_inside, after_last}
 use Rattle.formula.proofs.Periodic.{Until, Repeats, not_repeats, holds_repeats, holds_dec}
 use Rattle.evaluate.specs.Truth.{sweep, plain, rounds, at, row, row_of, truth, true_at}
-use Rattle.evaluate.proofs.Sweeps.{sweep-length, swept, swept-end, swept_step, default}
+use Rattle.evaluate.proofs.Sweeps.{sweep_length, swept, swept_end, swept_step, default}
 use Rattle.evaluate.proofs.Untils.{two_rounds}
 
 not_iff : (a : Bool) {A : Type 0} → a ≡ true ↔ A → not a ≡ true ↔ (A → ⊥)
@@ -51,14 +51,14 @@ module _ (stem cycle : List ℕ) (pos : 0 < length cycle) where
 
   -- what a formula says repeats with the cycle, and is decided at each letter
   pub repeats : (f : Formula) → Repeats (length stem) (length cycle) pos (Holds (letter stem cycle) f)
-  repeats f = holds_repeats s n pos w (letter-round stem cycle) f
+  repeats f = holds_repeats s n pos w (letter_round stem cycle) f
 
   -- what a formula and its denial are at a position
   abbrev Never : (ℕ → Type 0) → ℕ → Type 0
   Never P i = P i → ⊥
 
   pub decided : (f : Formula) (i : ℕ) → Dec (Holds (letter stem cycle) f i)
-  decided f = holds_dec s n pos w (letter-round stem cycle) f
+  decided f = holds_dec s n pos w (letter_round stem cycle) f
 
   -- a release holds where its denial does not
   pub release_iff : (c : ℕ) (f g : Formula) (i : ℕ)
@@ -97,7 +97,7 @@ module _ (stem cycle : List ℕ) (pos : 0 < length cycle) where
   last_at f v i l =
       let e : i ≡ i - 0 = omega arith in
       default (rounds stem cycle f v) i false (get_or (sweep f s n v) 0 v)
-      (omega (arith, sweep-length f 0 (s + n) (get_or (sweep f s n v) 0 v)))
+      (omega (arith, sweep_length f 0 (s + n) (get_or (sweep f s n v) 0 v)))
       ∙ ap (λ (k : ℕ). get_or (rounds stem cycle f v) k (get_or (sweep f s n v) 0 v)) e
 
   last_step : (f : ℕ → Bool → Bool) (v : Bool) (i : ℕ) → i < s + n → last f v i ≡ f i (last f v (suc i))
@@ -109,7 +109,7 @@ module _ (stem cycle : List ℕ) (pos : 0 < length cycle) where
   last_end f v =
       let e : 0 + (s + n) ≡ s + n = omega arith in
       let z : 0 ≡ s - s = omega arith in
-      sym (ap (swept f 0 (s + n) (get_or (sweep f s n v) 0 v)) e) ∙ swept-end f 0 (s + n) (get_or (sweep f s n v) 0 v)
+      sym (ap (swept f 0 (s + n) (get_or (sweep f s n v) 0 v)) e) ∙ swept_end f 0 (s + n) (get_or (sweep f s n v) 0 v)
       ∙ ap (λ (k : ℕ). get_or (sweep f s n v) k v) z
 
   module _ (f g : Formula) (a b : List Bool) (ta : Tells f a) (tb : Tells g b) where
@@ -141,7 +141,7 @@ module _ (stem cycle : List ℕ) (pos : 0 < length cycle) where
                 (λ (x : Bool). x ≡ true ↔ (Holds w g p ⊎ (Holds w f p × (swept until_step s n false (suc p) ≡ true))))
                 (sym (swept_step until_step s n false p k m)) (until_step_lem p m _);
           })
-          (swept-end until_step s n false)
+          (swept_end until_step s n false)
           (record {
             step = λ p k m. subst
                 (λ (x : Bool). x ≡ true ↔ (Holds w g p ⊎ (Holds w f p × (last until_step false (suc p) ≡ true))))
@@ -185,7 +185,7 @@ module _ (stem cycle : List ℕ) (pos : 0 < length cycle) where
               (Never (Holds w g) p ⊎ (Never (Holds w f) p × (not (swept release_step s n true (suc p)) ≡ true))))
               (sym (swept_step release_step s n true p k m)) (release_step_lem p m _);
         })
-        (ap not (swept-end release_step s n true))
+        (ap not (swept_end release_step s n true))
         (record {
           step = λ p k m. subst
               (λ (x : Bool). not x ≡ true ↔
@@ -282,16 +282,16 @@ module _ (stem cycle : List ℕ) (pos : 0 < length cycle) where
             get_or-eq_default (rs ++ (r ∷ [])) [] {n = k} (omega (arith, length-append rs (r ∷ []), agree.same)),
           ) none_tells
 
-  all-agree : (fs : List Formula) (rs : List (List Bool)) (rest : List ℕ) → Agree fs rs
+  all_agree : (fs : List Formula) (rs : List (List Bool)) (rest : List ℕ) → Agree fs rs
       → Agree (trees bottom build fs rest) (trees [] (row_of stem cycle) rs rest)
   unfolding trees
-  all-agree fs rs [] h = h
-  all-agree fs rs (kind ∷ []) h = h
-  all-agree fs rs (kind ∷ (left ∷ [])) h = h
-  all-agree fs rs (kind ∷ (left ∷ (right ∷ rest))) h =
+  all_agree fs rs [] h = h
+  all_agree fs rs (kind ∷ []) h = h
+  all_agree fs rs (kind ∷ (left ∷ [])) h = h
+  all_agree fs rs (kind ∷ (left ∷ (right ∷ rest))) h =
       let f = build kind (length fs) left (get_or fs left bottom) (get_or fs right bottom) in
       let r = row_of stem cycle kind (length rs) left (get_or rs left []) (get_or rs right []) in
-      all-agree (fs ++ (f ∷ [])) (rs ++ (r ∷ [])) rest
+      all_agree (fs ++ (f ∷ [])) (rs ++ (r ∷ [])) rest
       (one_more fs rs f r h
       (row_tells (get_or fs left bottom) (get_or fs right bottom) (get_or rs left []) (get_or rs right []) (h.each left)
       (h.each right) kind (length fs) left))
@@ -300,7 +300,7 @@ module _ (stem cycle : List ℕ) (pos : 0 < length cycle) where
   pub true_iff_holds : (rule : List ℕ) (k i : ℕ) → i < length stem + length cycle
       → true_at rule stem cycle k i ≡ true ↔ Holds (letter stem cycle) (tree rule k) i
   unfolding true_at truth tree
-  true_iff_holds rule k i l = ((all-agree [] [] rule (record { same = refl; each = λ k. none_tells })).each k).is i l
+  true_iff_holds rule k i l = ((all_agree [] [] rule (record { same = refl; each = λ k. none_tells })).each k).is i l
 
   -- the root's at position 0 is whether the lasso satisfies the rule
   pub root_iff_satisfied : (rule : List ℕ) → true_at rule stem cycle (root rule) 0 ≡ true ↔ Satisfies rule stem cycle

@@ -9,13 +9,13 @@ use lib.Seq.{take-set-le, drop-set-lt, drop-cons, get_or-set_same, lt-length-set
 use Rattle.lasso.specs.Lasso.{letter, after}
 use Rattle.lasso.proofs.Letters.{after_small}
 use Rattle.evaluate.specs.Truth.{sweep}
-use Rattle.evaluate.proofs.Sweeps.{sweep-turn}
+use Rattle.evaluate.proofs.Sweeps.{sweep_turn}
 use Rattle.evaluate.specs.Memory.{leaf_here, pair_here, round_here, pair_step, round_step, Swept}
 
 module _ (f : ℕ → Bool → Bool) (at end : ℕ) (v : Bool) (xs : List Bool) where
-  pub sweep-begins : Swept f at end v xs xs end
+  pub sweep_begins : Swept f at end v xs xs end
   unfolding sweep
-  sweep-begins =
+  sweep_begins =
       let z : end - end ≡ 0 = omega arith in
       record {
         within = omega arith;
@@ -38,7 +38,7 @@ module _ (f : ℕ → Bool → Bool) (at end : ℕ) (v : Bool) (xs : List Bool) 
         more
         ∙ ap₂ (λ (y : Bool) (zs : List Bool). y ∷ zs) (get_or-set_same ys (at + j) x false inside ∙ made)
         (ap (take (end - suc j)) (drop-set-lt (suc (at + j)) ys (at + j) x (omega arith)) ∙ rest)
-        ∙ sym (sweep-turn f v end j lt);
+        ∙ sym (sweep_turn f v end j lt);
     kept =
         take-set-le (at + j) ys (at + j) x (omega arith) ∙ sym (take-take (at + j) (at + i) ys (omega arith))
         ∙ ap (take (at + j)) inv.kept ∙ take-take (at + j) (at + i) xs (omega arith);
@@ -73,12 +73,12 @@ module _ (f : ℕ → Bool → Bool) (at end : ℕ) (v : Bool) (xs : List Bool) 
       ∙ get_or-take (at + i) xs k false (omega arith)
 
 -- passes by rules that agree
-pub sweep-agree : (f g : ℕ → Bool → Bool) (v : Bool) (count i : ℕ)
+pub sweep_agree : (f g : ℕ → Bool → Bool) (v : Bool) (count i : ℕ)
     → ((p : ℕ) (r : Bool) → i ≤ p → p < i + count → f p r ≡ g p r) → sweep f i count v ≡ sweep g i count v
 unfolding sweep
-sweep-agree f g v zero i h = refl
-sweep-agree f g v (suc count) i h =
-    let t = sweep-agree f g v count (suc i) (λ p r a b. h p r (omega arith) (omega arith)) in
+sweep_agree f g v zero i h = refl
+sweep_agree f g v (suc count) i h =
+    let t = sweep_agree f g v count (suc i) (λ p r a b. h p r (omega arith) (omega arith)) in
     ap₂ (λ (y : Bool) (zs : List Bool). y ∷ zs)
     (ap (λ (zs : List Bool). f i (get_or zs 0 v)) t ∙ h i (get_or (sweep g (suc i) count v) 0 v) (omega arith)
     (omega arith)) t
@@ -91,11 +91,11 @@ leaf_flag kind p stem cycle j x y e f = e ∙ ap (λ (z : ℕ). leaf_here kind p
 
 module _ (kind a b at total : ℕ) (v : Bool) (f : ℕ → Bool → Bool) (xs ys : List Bool)
     (left : a + total ≤ at) (right : b + total ≤ at) where
-  pub pair-flag : (stem cycle : List ℕ) → total ≡ length stem + length cycle → 0 < length cycle
+  pub pair_flag : (stem cycle : List ℕ) → total ≡ length stem + length cycle → 0 < length cycle
       → (j i next : ℕ) (x r : Bool) → i ≡ suc j → Swept f at total v xs ys i → next ≡ after stem cycle j
       → x ≡ pair_here kind (get_or ys (a + j) false) (get_or ys (b + j) false) (get_or ys (a + next) false)
       → x ≡ pair_step kind xs a b stem cycle j r
-  pair-flag stem cycle et pos j i next x r e inv n q =
+  pair_flag stem cycle et pos j i next x r e inv n q =
       let w = inv.within in
       let m : next < total = omega (arith, after_small stem cycle pos j) in
       let p = before_row f at total v xs ys i (a + j) (omega arith) inv in
@@ -105,9 +105,9 @@ module _ (kind a b at total : ℕ) (v : Bool) (f : ℕ → Bool → Bool) (xs ys
       ∙ ap (λ (z : Bool). pair_here kind (get_or xs (a + j) false) z (get_or ys (a + next) false)) o
       ∙ ap (λ (z : Bool). pair_here kind (get_or xs (a + j) false) (get_or xs (b + j) false) z) t
 
-  pub round-flag : (j i : ℕ) (x next : Bool) → i ≡ suc j → Swept f at total v xs ys i
+  pub round_flag : (j i : ℕ) (x next : Bool) → i ≡ suc j → Swept f at total v xs ys i
       → x ≡ round_here kind (get_or ys (a + j) false) (get_or ys (b + j) false) next → x ≡ round_step kind xs a b j next
-  round-flag j i x next e inv q =
+  round_flag j i x next e inv q =
       let w = inv.within in
       let p = before_row f at total v xs ys i (a + j) (omega arith) inv in
       let o = before_row f at total v xs ys i (b + j) (omega arith) inv in
@@ -130,7 +130,7 @@ module _ (f : ℕ → Bool → Bool) (at end : ℕ) (v : Bool) (xs : List Bool) 
       let z : end - end ≡ 0 = omega arith in
       record {
         flag = sym (ap (λ (k : ℕ). get_or (sweep f end k v) 0 v) z);
-        swept = sweep-begins f at end v xs;
+        swept = sweep_begins f at end v xs;
         above = l;
       }
 
@@ -141,7 +141,7 @@ module _ (f : ℕ → Bool → Bool) (at end : ℕ) (v : Bool) (xs : List Bool) 
       let made : x ≡ f j (get_or (sweep f i (end - i) v) 0 v) = q ∙ ap (f j) inv.flag in
       record {
         flag = made ∙ ap (λ (k : ℕ). f j (get_or (sweep f k (end - k) v) 0 v)) e
-            ∙ sym (ap (λ (zs : List Bool). get_or zs 0 v) (sweep-turn f v end j lt));
+            ∙ sym (ap (λ (zs : List Bool). get_or zs 0 v) (sweep_turn f v end j lt));
         swept = sweep_steps f at end v xs ys i j x e fits made inv.swept;
         above = omega arith;
       }

@@ -7,10 +7,10 @@ use native.Mathlib.Omega.{arith}
 use lib.ListN.{get_or, length}
 use Rattle.evaluate.specs.Truth.{sweep, in_front}
 
-pub sweep-length : (f : ℕ → Bool → Bool) (i count : ℕ) (v : Bool) → length (sweep f i count v) ≡ count
+pub sweep_length : (f : ℕ → Bool → Bool) (i count : ℕ) (v : Bool) → length (sweep f i count v) ≡ count
 unfolding sweep
-sweep-length f i zero v = refl
-sweep-length f i (suc count) v = ap suc (sweep-length f (suc i) count v)
+sweep_length f i zero v = refl
+sweep_length f i (suc count) v = ap suc (sweep_length f (suc i) count v)
 
 -- the flag at position p, if it is one of those from i on
 abbrev pub swept : (f : ℕ → Bool → Bool) (i count : ℕ) (v : Bool) (p : ℕ) → Bool
@@ -21,8 +21,8 @@ unfolding sweep
 end f i zero v = refl
 end f i (suc count) v = end f (suc i) count v
 
-pub swept-end : (f : ℕ → Bool → Bool) (i count : ℕ) (v : Bool) → swept f i count v (i + count) ≡ v
-swept-end f i count v =
+pub swept_end : (f : ℕ → Bool → Bool) (i count : ℕ) (v : Bool) → swept f i count v (i + count) ≡ v
+swept_end f i count v =
     let e : i + count - i ≡ count = omega arith in ap (λ (k : ℕ). get_or (sweep f i count v) k v) e ∙ end f i count v
 
 one : (f : ℕ → Bool → Bool) (i count : ℕ) (v : Bool) (j : ℕ) → j < count
@@ -51,7 +51,7 @@ default (x ∷ xs) zero d e l = refl
 default (x ∷ xs) (suc i) d e l = default xs i d e (omega arith)
 
 -- one turn of a loop that counts down from n: position i, after those from i + 1 on
-pub sweep-turn : (f : ℕ → Bool → Bool) (v : Bool) (n i : ℕ) → i < n
+pub sweep_turn : (f : ℕ → Bool → Bool) (v : Bool) (n i : ℕ) → i < n
     → sweep f i (n - i) v ≡ in_front (f i) v (sweep f (suc i) (n - suc i) v)
 unfolding sweep
-sweep-turn f v n i l = let e : n - i ≡ suc (n - suc i) = omega arith in ap (λ (x : ℕ). sweep f i x v) e
+sweep_turn f v n i l = let e : n - i ≡ suc (n - suc i) = omega arith in ap (λ (x : ℕ). sweep f i x v) e

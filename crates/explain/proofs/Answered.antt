@@ -7,13 +7,13 @@ use mathlib.Core.Logic.{inl, inr, ◌↔◌}
 use native.Mathlib.Omega.{arith}
 use lib.ListN.{length}
 use Rattle.answer.specs.Result.{accepted, fine}
-use Rattle.answer.proofs.Lowest.{fine-first, fine_second}
+use Rattle.answer.proofs.Lowest.{fine_first, fine_second}
 use Rattle.answer.proofs.Results.{then_accepted}
 use Rattle.lasso.specs.Lasso.{remaining, max_letters}
 use Rattle.lasso.proofs.Checking.{lasso_some, lasso_few}
 use Rattle.sets.specs.Sets.{In}
 use Rattle.sets.proofs.Members.{in_append}
-use Rattle.place.proofs.Standing.{place-within}
+use Rattle.place.proofs.Standing.{place_within}
 use Rattle.formula.specs.Limits.{max_nodes}
 use Rattle.formula.specs.Rule.{checked}
 use Rattle.formula.proofs.Accepted.{accepted_few}
@@ -23,7 +23,7 @@ use Rattle.explain.specs.Meaning.{FirstBroken, Meant, Shown, Told}
 use Rattle.explain.specs.Call.{explain_check, as_lent, explained}
 use Rattle.explain.proofs.Clauses.{clause_node}
 use Rattle.explain.proofs.Named.{explanation_meant, kept_iff}
-use Rattle.explain.proofs.Parts.{part-shows}
+use Rattle.explain.proofs.Parts.{part_shows}
 
 module _ (rule stem cycle : List ℕ) where
   abbrev letters : Explanation
@@ -34,13 +34,13 @@ module _ (rule stem cycle : List ℕ) where
       → Told rule stem cycle (as_lent stem cycle x)
   lent_told kept m = m
   lent_told (broken c i) (first, shown) =
-      record { i = i; at = refl; first = first; shown_at = shown; shows = part-shows stem cycle i shown.inside }
+      record { i = i; at = refl; first = first; shown_at = shown; shows = part_shows stem cycle i shown.inside }
   lent_told (never_comes c) m = m
 
   module _ (passed : explain_check rule stem cycle ≡ fine) where
     pub rule_fine : checked rule ≡ fine
     unfolding explain_check
-    rule_fine = fine-first (checked rule) _ passed
+    rule_fine = fine_first (checked rule) _ passed
 
     pub some : 0 < length (remaining cycle)
     unfolding explain_check
@@ -59,8 +59,8 @@ module _ (rule stem cycle : List ℕ) where
   passes x e = (then_accepted (explain_check rule stem cycle) _ e).1
 
   -- R-11, sentences 3 to 8: what an answer tells is so
-  pub explained-told : (x : Explanation) → explained rule stem cycle ≡ accepted x → Told rule stem cycle x
-  explained-told x e =
+  pub explained_told : (x : Explanation) → explained rule stem cycle ≡ accepted x → Told rule stem cycle x
+  explained_told x e =
       let passed = passes x e in
       let told : accepted (as_lent stem cycle letters) ≡ accepted x = sym (tells passed) ∙ e in
       let same : as_lent stem cycle letters ≡ x = cc in
@@ -71,7 +71,7 @@ module _ (rule stem cycle : List ℕ) where
   pub kept_iff_satisfied : explain_check rule stem cycle ≡ fine
       → explained rule stem cycle ≡ accepted kept ↔ Satisfies rule (remaining stem) (remaining cycle)
   kept_iff_satisfied passed = (
-    explained-told kept,
+    explained_told kept,
     λ sat.
         tells passed
         ∙ ap (λ (x : Explanation). accepted (as_lent stem cycle x))
@@ -89,10 +89,10 @@ module _ (rule stem cycle : List ℕ) where
 
   pub told_small : (c from : ℕ) → explained rule stem cycle ≡ accepted (broken c from)
       → (c < max_nodes) × (from ≤ max_letters)
-  told_small c from e = go (passes (broken c from) e) (explained-told (broken c from) e)
+  told_small c from e = go (passes (broken c from) e) (explained_told (broken c from) e)
     where
       go : explain_check rule stem cycle ≡ fine → Shown rule stem cycle c from → (c < max_nodes) × (from ≤ max_letters)
-      go passed t = (clause_small c passed t.first, omega (arith, t.at, place-within stem cycle t.i, few passed))
+      go passed t = (clause_small c passed t.first, omega (arith, t.at, place_within stem cycle t.i, few passed))
 
   pub never_small : (c : ℕ) → explained rule stem cycle ≡ accepted (never_comes c) → c < max_nodes
-  never_small c e = clause_small c (passes (never_comes c) e) (explained-told (never_comes c) e).0
+  never_small c e = clause_small c (passes (never_comes c) e) (explained_told (never_comes c) e).0

@@ -21,7 +21,7 @@ use Rattle.explain.specs.Explain.{first_from, left, right, release_break, until_
 use Rattle.explain.specs.Meaning.{Exposed, BothFail, FirstAt}
 use Rattle.evaluate.proofs.Untils.{early}
 use Rattle.evaluate.proofs.Rows.{true_iff_holds, release_iff, repeats, decided}
-use Rattle.explain.proofs.Searches.{Found, from_some, from-none, below_false, false_below}
+use Rattle.explain.proofs.Searches.{Found, from_some, from_none, below_false, false_below}
 
 -- a search that finds nothing, or something
 search : (test : ℕ → Bool) (i count : ℕ)
@@ -103,9 +103,9 @@ module _ (rule stem cycle : List ℕ) (pos : 0 < length cycle) where
     )
 
     -- what is found is the first position that is exposed
-    pub release-found : (i : ℕ) → release_break rule stem cycle c ≡ some i → (i < s + n) × FirstAt (Exposed w f g) i
+    pub release_found : (i : ℕ) → release_break rule stem cycle c ≡ some i → (i < s + n) × FirstAt (Exposed w f g) i
     unfolding release_break
-    release-found i e = told (from_some _ 0 (s + n) i e)
+    release_found i e = told (from_some _ 0 (s + n) i e)
       where
         told : Found (λ i. not (right rule stem cycle c i) && not (any_below (left rule stem cycle c) i)) 0 (s + n) i
             → (i < s + n) × FirstAt (Exposed w f g) i
@@ -119,15 +119,15 @@ module _ (rule stem cycle : List ℕ) (pos : 0 < length cycle) where
             )
 
     -- where none is found there is none, however late
-    pub release-none : release_break rule stem cycle c ≡ none → (i : ℕ) → Exposed w f g i → ⊥
+    pub release_none : release_break rule stem cycle c ≡ none → (i : ℕ) → Exposed w f g i → ⊥
     unfolding release_break
-    release-none e i (x, y) =
+    release_none e i (x, y) =
         let (k, l, m, q, h) =
         early s n pos (λ j. Holds w f j → ⊥) (λ j. Holds w g j → ⊥)
         (not_repeats s n pos (Holds w g) (repeats stem cycle pos g)) 0
         (omega arith) (i, omega arith, x, λ j a b. y j b) in
         true≢false
-        (sym ((exposed_iff k m).1 (q, λ j b. h j (omega arith) b)) ∙ from-none _ 0 (s + n) e k (omega arith)
+        (sym ((exposed_iff k m).1 (q, λ j b. h j (omega arith) b)) ∙ from_none _ 0 (s + n) e k (omega arith)
         (omega arith))
 
     -- a release is broken at position 0 exactly if one is found
@@ -139,11 +139,11 @@ module _ (rule stem cycle : List ℕ) (pos : 0 < length cycle) where
             | inl e ↦ absurd
                 (broken
                 ((release_iff stem cycle pos c f g 0).1
-                (λ (k, l, q, h). release-none e k (q, λ j b. h j (omega arith) b))))
+                (λ (k, l, q, h). release_none e k (q, λ j b. h j (omega arith) b))))
             | inr r ↦ r
           ],
       λ (i, e) h.
-          let (l, t) = release-found i e in
+          let (l, t) = release_found i e in
           (release_iff stem cycle pos c f g 0).0 h (i, omega arith, t.here.0, λ j a b. t.here.1 j b),
     )
 
@@ -166,9 +166,9 @@ module _ (rule stem cycle : List ℕ) (pos : 0 < length cycle) where
         (λ (a, b). (x.0 a, y.0 b), λ (a, b). (x.1 a, y.1 b))
 
     -- what is found is the first position where both sides fail
-    pub until-found : (i : ℕ) → until_break rule stem cycle c ≡ some i → (i < s + n) × FirstAt (BothFail w f g) i
+    pub until_found : (i : ℕ) → until_break rule stem cycle c ≡ some i → (i < s + n) × FirstAt (BothFail w f g) i
     unfolding until_break
-    until-found i e = told (from_some _ 0 (s + n) i e)
+    until_found i e = told (from_some _ 0 (s + n) i e)
       where
         told : Found (λ i. not (left rule stem cycle c i) && not (right rule stem cycle c i)) 0 (s + n) i
             → (i < s + n) × FirstAt (BothFail w f g) i
@@ -187,7 +187,7 @@ module _ (rule stem cycle : List ℕ) (pos : 0 < length cycle) where
     until_none e i x =
         let (k, l, m, q, h) =
         early s n pos (λ j. Unit {0}) (BothFail w f g) both_repeats 0 (omega arith) (i, omega arith, x, λ j a b. tt) in
-        true≢false (sym ((both_iff k m).1 q) ∙ from-none _ 0 (s + n) e k (omega arith) (omega arith))
+        true≢false (sym ((both_iff k m).1 q) ∙ from_none _ 0 (s + n) e k (omega arith) (omega arith))
 
     module _ (broken : Holds w (until c f g) 0 → ⊥) where
       -- the right side does not come while one of both holds at each position before
@@ -210,12 +210,12 @@ module _ (rule stem cycle : List ℕ) (pos : 0 < length cycle) where
       pub until_before : (i : ℕ) → until_break rule stem cycle c ≡ some i → (j : ℕ) → j < i
           → Holds w f j × (Holds w g j → ⊥)
       until_before i e j l =
-          let (m, t) = until-found i e in
+          let (m, t) = until_found i e in
           let d : Holds w g j → ⊥ = never_yet j (λ k x. t.first k (omega arith)) in
           (holds_left j d (t.first j l), d)
 
       -- where none is found the right side never comes, and the left side holds for ever
-      pub until-never : until_break rule stem cycle c ≡ none → (i : ℕ) → (Holds w g i → ⊥) × Holds w f i
-      until-never e i =
+      pub until_never : until_break rule stem cycle c ≡ none → (i : ℕ) → (Holds w g i → ⊥) × Holds w f i
+      until_never e i =
           let d : Holds w g i → ⊥ = never_yet i (λ k x. until_none e k) in
           (d, holds_left i d (until_none e i))

@@ -49,10 +49,10 @@ module _ (rule stem cycle : List ℕ) where
           )
 
   -- and then the lasso is within the limits
-  pub satisfied-within : (b : Bool) → satisfied rule stem cycle ≡ accepted b
+  pub satisfied_within : (b : Bool) → satisfied rule stem cycle ≡ accepted b
       → (0 < length (remaining cycle)) × (length stem + length cycle ≤ max_letters)
   unfolding satisfied
-  satisfied-within b e =
+  satisfied_within b e =
       let (form, normal, verdict) = then_accepted (normal_form rule) _ e in
       let (x, told, same) = then_accepted (explained form stem cycle) _ verdict in
       let passed = passes form stem cycle x told in

@@ -13,7 +13,7 @@ use Rattle.lasso.specs.Lasso.{remaining, max_letters, lasso_check}
 use Rattle.lasso.proofs.Checking.{lasso_some, lasso_few, remaining_few}
 use Rattle.formula.specs.Rule.{checked, until_check}
 use Rattle.normalform.specs.NormalForm.{normal_form, written_checked}
-use Rattle.normalform.proofs.Passes.{normal_form-checked}
+use Rattle.normalform.proofs.Passes.{normal_form_checked}
 use Rattle.explain.specs.Explain.{Explanation, explanation, part_from}
 use Rattle.explain.specs.Call.{explain_check, as_lent, explained, part_of, broken_part}
 use Rattle.explain.specs.Satisfied.{verdict_only, satisfied}
@@ -45,11 +45,11 @@ module _ (rule stem cycle : List ℕ) where
         rw (stem-kept, cycle-kept) (remaining_few stem cycle (lasso_few stem cycle (sym within))),
       )
 
-      pub letters-told : {r : Result Explanation}
+      pub letters_told : {r : Result Explanation}
           → ((e : Explanation) → accepted (explanation rule first second) ≡ accepted e → r ≡ accepted
           (as_lent stem cycle e))
           → r ≡ explained rule stem cycle
-      letters-told h =
+      letters_told h =
           h (explanation rule (remaining stem) (remaining cycle)) (rw (stem-kept, cycle-kept) refl) ∙ told
 
 -- ---- at its index as lent
@@ -87,10 +87,10 @@ module _ (stem cycle : List ℕ) (from : ℕ) where
       nothing cycle ∙ sym (drop_of_length-le cycle {i =
       from - length stem} m) ∙ sym (rw (le-ltb from (length stem) l) refl)
 
-pub part-of : (rule stem cycle : List ℕ) (r : Result Explanation) → r ≡ explained rule stem cycle
+pub part_of_lem : (rule stem cycle : List ℕ) (r : Result Explanation) → r ≡ explained rule stem cycle
     → part_of stem cycle r ≡ broken_part rule stem cycle
 unfolding broken_part
-part-of rule stem cycle r e = ap (part_of stem cycle) e
+part_of_lem rule stem cycle r e = ap (part_of stem cycle) e
 
 -- ---- the call satisfies
 
@@ -103,7 +103,7 @@ module _ (rule stem cycle : List ℕ) where
       late : (form : List ℕ) → normal_form rule ≡ accepted form → until_check form ≡ refused number place
           → refused number place ≡ verdict_only (explained form stem cycle)
       late form normal f = unfold explained explain_check in
-          let c : checked form ≡ refused number place = normal_form-checked rule form normal ∙ f in
+          let c : checked form ≡ refused number place = normal_form_checked rule form normal ∙ f in
           rw c refl
 
       go : (r : Result (List ℕ)) → normal_form rule ≡ r → and_then r until_check ≡ refused number place
@@ -111,7 +111,7 @@ module _ (rule stem cycle : List ℕ) where
       go (accepted form) normal e = late form normal e
       go (refused n p) normal e = let q : ◌≡◌ {A = Result Bool} (refused number place) (refused n p) = cc in q
 
-  pub form-explained : (form : List ℕ) → normal_form rule ≡ accepted form → {r : Result Bool} {x : Result Explanation}
+  pub form_explained : (form : List ℕ) → normal_form rule ≡ accepted form → {r : Result Bool} {x : Result Explanation}
       → r ≡ verdict_only x → x ≡ explained form stem cycle → r ≡ satisfied rule stem cycle
   unfolding satisfied
-  form-explained form normal {r} e f = e ∙ ap verdict_only f ∙ sym (rw normal refl)
+  form_explained form normal {r} e f = e ∙ ap verdict_only f ∙ sym (rw normal refl)

@@ -26,42 +26,42 @@ module _ (rule : List ℕ) (accepted-rule : checked rule ≡ fine) where
   of kind n = build kind n (left_at rule n) (tree rule (left_at rule n)) (tree rule (right_at rule n))
 
   -- the tree of a node above kind 3, by those of its children
-  tree-pair : (n : ℕ) → n < node_count rule → 3 < kind_at rule n → tree rule n ≡ of (kind_at rule n) n
-  tree-pair n l inner =
+  tree_pair : (n : ℕ) → n < node_count rule → 3 < kind_at rule n → tree rule n ≡ of (kind_at rule n) n
+  tree_pair n l inner =
       pair_in rule n l (node n l) (λ f. f ≡ of (kind_at rule n) n) (kind_at rule n) refl (left_at rule n) (right_at rule n)
       refl refl inner refl
 
   tree_and : (n : ℕ) → n < node_count rule → kind_at rule n ≡ 4
       → tree rule n ≡ conjunction (tree rule (left_at rule n)) (tree rule (right_at rule n))
-  tree_and n l e = tree-pair n l (omega arith) ∙ ap (λ (k : ℕ). of k n) e
+  tree_and n l e = tree_pair n l (omega arith) ∙ ap (λ (k : ℕ). of k n) e
 
-  pub tree-until : (n : ℕ) → n < node_count rule → kind_at rule n ≡ 7
+  pub tree_until : (n : ℕ) → n < node_count rule → kind_at rule n ≡ 7
       → tree rule n ≡ until n (tree rule (left_at rule n)) (tree rule (right_at rule n))
-  tree-until n l e = tree-pair n l (omega arith) ∙ ap (λ (k : ℕ). of k n) e
+  tree_until n l e = tree_pair n l (omega arith) ∙ ap (λ (k : ℕ). of k n) e
 
-  pub tree-release : (n : ℕ) → n < node_count rule → kind_at rule n ≡ 8
+  pub tree_release : (n : ℕ) → n < node_count rule → kind_at rule n ≡ 8
       → tree rule n ≡ release n (tree rule (left_at rule n)) (tree rule (right_at rule n))
-  tree-release n l e = tree-pair n l (omega arith) ∙ ap (λ (k : ℕ). of k n) e
+  tree_release n l e = tree_pair n l (omega arith) ∙ ap (λ (k : ℕ). of k n) e
 
   module _ (n : ℕ) (inside : n < node_count rule) where
     -- the children of an "and" are nodes below it
-    pub left-low : kind_at rule n ≡ 4 → left_at rule n < n
-    left-low e = (node n inside).left (omega arith)
+    pub left_low : kind_at rule n ≡ 4 → left_at rule n < n
+    left_low e = (node n inside).left (omega arith)
 
-    pub right-low : kind_at rule n ≡ 4 → right_at rule n < n
-    right-low e = (node n inside).right (omega arith)
+    pub right_low : kind_at rule n ≡ 4 → right_at rule n < n
+    right_low e = (node n inside).right (omega arith)
 
     -- its clauses are theirs
     pub clauses_and : kind_at rule n ≡ 4
         → clauses_of rule n ≡ clauses_of rule (left_at rule n) ++ clauses_of rule (right_at rule n)
     unfolding clauses_of
     clauses_and e =
-        of_children [] taken_apart rule n inside (left-low e) (right-low e) ∙ rw (eq-eqb (kind_at rule n) 4 e) refl
+        of_children [] taken_apart rule n inside (left_low e) (right_low e) ∙ rw (eq-eqb (kind_at rule n) 4 e) refl
 
     -- and any other node is its own clause
-    pub clauses-own : (kind_at rule n ≡ 4 → ⊥) → clauses_of rule n ≡ n ∷ []
+    pub clauses_own : (kind_at rule n ≡ 4 → ⊥) → clauses_of rule n ≡ n ∷ []
     unfolding clauses_of
-    clauses-own d = of_parts [] taken_apart rule n inside ∙ rw (ne_eqb (kind_at rule n) 4 d) refl
+    clauses_own d = of_parts [] taken_apart rule n inside ∙ rw (ne_eqb (kind_at rule n) 4 d) refl
 
   -- a clause is a node, and no "and"
   abbrev Clause : ℕ → Type 0
@@ -74,15 +74,15 @@ module _ (rule : List ℕ) (accepted-rule : checked rule ≡ fine) where
       go : ((k : ℕ) → k < bound → k < node_count rule → (c : ℕ) → In c (clauses_of rule k) → Clause c)
           → Dec (kind_at rule n ≡ 4) → Clause c
       go ih (yes e) =
-          let x = left-low n l e in
-          let y = right-low n l e in
+          let x = left_low n l e in
+          let y = right_low n l e in
           elim
           (append_in c (clauses_of rule (left_at rule n)) (clauses_of rule (right_at rule n))
           (subst (In c) (clauses_and n l e) m)) [
             | inl k ↦ ih (left_at rule n) (omega arith) (omega arith) c k
             | inr k ↦ ih (right_at rule n) (omega arith) (omega arith) c k
           ]
-      go ih (no e) = own (subst (In c) (clauses-own n l e) m)
+      go ih (no e) = own (subst (In c) (clauses_own n l e) m)
         where
           own : In c (n ∷ []) → Clause c
           own (inl p) = (omega arith, λ q. e (ap (kind_at rule) (sym p) ∙ q))
@@ -98,8 +98,8 @@ module _ (rule : List ℕ) (accepted-rule : checked rule ≡ fine) where
     where
       go : ((k : ℕ) → k < bound → k < node_count rule → Together w i k) → Dec (kind_at rule n ≡ 4) → Together w i n
       go ih (yes e) =
-          let x = left-low n l e in
-          let y = right-low n l e in
+          let x = left_low n l e in
+          let y = right_low n l e in
           let a = ih (left_at rule n) (omega arith) (omega arith) in
           let b = ih (right_at rule n) (omega arith) (omega arith) in
           let L = clauses_of rule (left_at rule n) in
@@ -108,7 +108,7 @@ module _ (rule : List ℕ) (accepted-rule : checked rule ≡ fine) where
             λ h. (a.0 (λ c m. h c (in_append c L R (inl m))), b.0 (λ c m. h c (in_append c L R (inr m)))),
             λ h c m. elim (append_in c L R m) [ inl k ↦ a.1 h.0 c k | inr k ↦ b.1 h.1 c k ],
           )
-      go ih (no e) = rw (clauses-own n l e) (
+      go ih (no e) = rw (clauses_own n l e) (
         λ h. h n (inl refl),
         λ h c m. elim m [ inl p ↦ subst (λ (k : ℕ). Holds w (tree rule k) i) (sym p) h | inr k ↦ absurd k ],
       )

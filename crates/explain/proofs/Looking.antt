@@ -34,8 +34,8 @@ pub record Looking (test : ℕ → Bool) (total i : ℕ) : Type 0 where
   pub passed : (j : ℕ) → j < i → test j ≡ false
 
 module _ (test : ℕ → Bool) (total : ℕ) where
-  pub look-begins : Looking test total 0
-  look-begins = record { within = omega arith; passed = λ j l. absurd (omega arith) }
+  pub look_begins : Looking test total 0
+  look_begins = record { within = omega arith; passed = λ j l. absurd (omega arith) }
 
   pub look_steps : (i : ℕ) → i < total → test i ≡ false → Looking test total i → Looking test total (i + 1)
   look_steps i l e inv = record { within = omega arith; passed = λ j m. go j m (ℕ_discrete j i) }
@@ -62,7 +62,7 @@ module _ (table : List Bool) (a b total : ℕ) where
 
   pub hold_begins : Holding 0 false
   unfolding any_below
-  hold_begins = record { looking = look-begins (exposed_at table a b) total; so_far = refl }
+  hold_begins = record { looking = look_begins (exposed_at table a b) total; so_far = refl }
 
   -- the test of a position, by what has held
   exposed_by : (i : ℕ) (held x : Bool) → x ≡ (not (get_or table (b + i) false) && not held) → Holding i held

@@ -23,9 +23,9 @@ use Rattle.explain.specs.Explain.{named, explanation}
 use Rattle.explain.specs.Meaning.{FirstBroken, left_side, right_side, ShownAt, NeverComes, Meant}
 use Rattle.evaluate.proofs.Rows.{true_iff_holds}
 use Rattle.explain.proofs.Searches.{First, none_some, failing_none, none_failing, failing_some}
-use Rattle.explain.proofs.Clauses.{tree-until, tree-release, clause_node, clauses_iff_satisfied}
-use Rattle.explain.proofs.Breaks.{false_iff, release-found, release_broken_iff, until-found, until_before}
-use Rattle.explain.proofs.Breaks.{until-never}
+use Rattle.explain.proofs.Clauses.{tree_until, tree_release, clause_node, clauses_iff_satisfied}
+use Rattle.explain.proofs.Breaks.{false_iff, release_found, release_broken_iff, until_found, until_before}
+use Rattle.explain.proofs.Breaks.{until_never}
 
 pub kept_is : (rule stem cycle : List ℕ) → first_broken rule stem cycle ≡ none → kept ≡ explanation rule stem cycle
 unfolding explanation
@@ -39,9 +39,9 @@ module _ (rule stem cycle : List ℕ) (accepted-rule : checked rule ≡ fine) (p
   flag c = true_at rule stem cycle c 0
 
   -- no clause is named exactly where the rule is satisfied
-  none-named_iff : first_broken rule stem cycle ≡ none ↔ Satisfies rule stem cycle
+  none_named_iff : first_broken rule stem cycle ≡ none ↔ Satisfies rule stem cycle
   unfolding first_broken
-  none-named_iff = (
+  none_named_iff = (
     λ e. (clauses_iff_satisfied rule accepted-rule stem cycle).0
         (λ c m. (true_iff_holds stem cycle pos rule c 0 (omega arith)).0 (failing_none flag (clauses rule) e c m)),
     λ h. none_failing flag (clauses rule)
@@ -71,8 +71,8 @@ module _ (rule stem cycle : List ℕ) (accepted-rule : checked rule ≡ fine) (p
     right = right_side rule stem cycle c
 
     -- it is a clause: a node, and no "and"
-    pub named-node : (c < node_count rule) × (kind_at rule c ≡ 4 → ⊥)
-    named-node = told (named_broken c named)
+    pub named_node : (c < node_count rule) × (kind_at rule c ≡ 4 → ⊥)
+    named_node = told (named_broken c named)
       where
         told : FirstBroken rule stem cycle c → (c < node_count rule) × (kind_at rule c ≡ 4 → ⊥)
         told n =
@@ -87,7 +87,7 @@ module _ (rule stem cycle : List ℕ) (accepted-rule : checked rule ≡ fine) (p
     release_some : kind_at rule c ≡ 8 → (i : ℕ) × (break_at rule stem cycle c ≡ some i)
     release_some e =
         let broken =
-        subst (λ (f : Formula). Holds w f 0 → ⊥) (tree-release rule accepted-rule c named-node.0 e)
+        subst (λ (f : Formula). Holds w f 0 → ⊥) (tree_release rule accepted-rule c named_node.0 e)
         (named_broken c named).broken in
         let (i, q) = (release_broken_iff rule stem cycle pos c).0 broken in
         (i, release_is e ∙ q)
@@ -98,7 +98,7 @@ module _ (rule stem cycle : List ℕ) (accepted-rule : checked rule ≡ fine) (p
 
     until_broken : kind_at rule c ≡ 7 → Holds w (until c left right) 0 → ⊥
     until_broken e =
-        subst (λ (f : Formula). Holds w f 0 → ⊥) (tree-until rule accepted-rule c named-node.0 e)
+        subst (λ (f : Formula). Holds w f 0 → ⊥) (tree_until rule accepted-rule c named_node.0 e)
         (named_broken c named).broken
 
     other_is : (kind_at rule c ≡ 7 → ⊥) → (kind_at rule c ≡ 8 → ⊥) → break_at rule stem cycle c ≡ some 0
@@ -109,9 +109,9 @@ module _ (rule stem cycle : List ℕ) (accepted-rule : checked rule ≡ fine) (p
     shown : (i : ℕ) → break_at rule stem cycle c ≡ some i → ShownAt rule stem cycle c i
     shown i q = record {
       inside = within (ℕ_discrete (kind_at rule c) 8) (ℕ_discrete (kind_at rule c) 7);
-      release = λ e. (release-found rule stem cycle pos c i (sym (release_is e) ∙ q)).1;
+      release = λ e. (release_found rule stem cycle pos c i (sym (release_is e) ∙ q)).1;
       until = λ e. (
-        (until-found rule stem cycle pos c i (sym (until_is e) ∙ q)).1,
+        (until_found rule stem cycle pos c i (sym (until_is e) ∙ q)).1,
         until_before rule stem cycle pos c (until_broken e) i (sym (until_is e) ∙ q),
       );
       other = first;
@@ -123,8 +123,8 @@ module _ (rule stem cycle : List ℕ) (accepted-rule : checked rule ≡ fine) (p
             cc
 
         within : Dec (kind_at rule c ≡ 8) → Dec (kind_at rule c ≡ 7) → i < length stem + length cycle
-        within (yes e) d = (release-found rule stem cycle pos c i (sym (release_is e) ∙ q)).0
-        within (no e) (yes f) = (until-found rule stem cycle pos c i (sym (until_is f) ∙ q)).0
+        within (yes e) d = (release_found rule stem cycle pos c i (sym (release_is e) ∙ q)).0
+        within (no e) (yes f) = (until_found rule stem cycle pos c i (sym (until_is f) ∙ q)).0
         within (no e) (no f) = let z = first f e in omega arith
 
     -- it is shown nowhere only if it is an until whose right side never comes
@@ -133,7 +133,7 @@ module _ (rule stem cycle : List ℕ) (accepted-rule : checked rule ≡ fine) (p
       where
         go : Dec (kind_at rule c ≡ 7) → Dec (kind_at rule c ≡ 8) → NeverComes rule stem cycle c
         go (yes e) d =
-            let h = until-never rule stem cycle pos c (until_broken e) (sym (until_is e) ∙ q) in
+            let h = until_never rule stem cycle pos c (until_broken e) (sym (until_is e) ∙ q) in
             record { until = e; never = λ i. (h i).0; always = λ i. (h i).1 }
         go (no e) (yes f) = none_some (sym q ∙ (release_some f).1)
         go (no e) (no f) = none_some (sym q ∙ other_is e f)
@@ -149,12 +149,12 @@ module _ (rule stem cycle : List ℕ) (accepted-rule : checked rule ≡ fine) (p
       at c e (some i) f = (named_broken c e, shown c e i f)
 
       go : (r : Option ℕ) → first_broken rule stem cycle ≡ r → Meant rule stem cycle (named rule stem cycle r)
-      go none e = none-named_iff.0 e
+      go none e = none_named_iff.0 e
       go (some c) e = at c e (break_at rule stem cycle c) refl
 
   -- R-11, sentence 9, first half: a lasso that satisfies the rule, and no other, gets no clause named
   pub kept_iff : explanation rule stem cycle ≡ kept ↔ Satisfies rule stem cycle
   kept_iff = (
     λ e. subst (Meant rule stem cycle) e explanation_meant,
-    λ sat. sym (kept_is rule stem cycle (none-named_iff.1 sat)),
+    λ sat. sym (kept_is rule stem cycle (none_named_iff.1 sat)),
   )

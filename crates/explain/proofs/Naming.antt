@@ -38,10 +38,10 @@ module _ (test : ℕ → Bool) where
       go true ih e = ih e
       go false ih e = e
 
-  append-none : (xs ys : List ℕ) → first_failing test xs ≡ none → first_failing test (xs ++ ys) ≡ first_failing test ys
+  append_none : (xs ys : List ℕ) → first_failing test xs ≡ none → first_failing test (xs ++ ys) ≡ first_failing test ys
   unfolding first_failing
-  append-none [] ys e = refl
-  append-none (x ∷ xs) ys e = go (test x) (append-none xs ys) e
+  append_none [] ys e = refl
+  append_none (x ∷ xs) ys e = go (test x) (append_none xs ys) e
     where
       go : (b : Bool) → (first_failing test xs ≡ none → first_failing test (xs ++ ys) ≡ first_failing test ys)
           → cond b (first_failing test xs) (some x) ≡ none
@@ -72,5 +72,5 @@ module _ (test : ℕ → Bool) where
       pub in_right : (x y : ℕ) → max_nodes ≤ x → Names x l → Names y r → Names y n
       in_right x y s h k =
           k ∙ sym
-          (ap (first_failing test) both ∙ append-none (clauses_of rule l) (clauses_of rule r)
+          (ap (first_failing test) both ∙ append_none (clauses_of rule l) (clauses_of rule r)
           (sym h ∙ or_none_lem max_nodes x s))

@@ -31,8 +31,8 @@ module _ (stem cycle : List ℕ) (i : ℕ) (inside : i < length (remaining stem)
   abbrev part : List ℕ
   part = part_from stem cycle (place_of stem cycle i)
 
-  pub part-shows : Shows stem cycle i
-  part-shows = go (dec_lt i s)
+  pub part_shows : Shows stem cycle i
+  part_shows = go (dec_lt i s)
     where
       begins : (xs : List ℕ) (k : ℕ) → get_or (drop k xs) 0 0 ≡ get_or xs k 0
       begins xs k = let e : k + 0 ≡ k = omega arith in get_or-drop k xs 0 0 ∙ ap (λ (j : ℕ). get_or xs j 0) e

@@ -108,11 +108,11 @@ from_some test i (suc count) k e = go (from_some test (suc i) count k) (test i) 
             pick j a b (yes p) = ap test (sym p) ∙ q
             pick j a b (no p) = f.first j (omega arith) b
 
-pub from-none : (test : ℕ → Bool) (i count : ℕ) → first_from test i count ≡ none → (j : ℕ) → i ≤ j → j < i + count
+pub from_none : (test : ℕ → Bool) (i count : ℕ) → first_from test i count ≡ none → (j : ℕ) → i ≤ j → j < i + count
     → test j ≡ false
 unfolding first_from
-from-none test i zero e j a b = absurd (omega arith)
-from-none test i (suc count) e j a b = go (from-none test (suc i) count) (test i) refl e (ℕ_discrete i j)
+from_none test i zero e j a b = absurd (omega arith)
+from_none test i (suc count) e j a b = go (from_none test (suc i) count) (test i) refl e (ℕ_discrete i j)
   where
     go : (first_from test (suc i) count ≡ none → (j : ℕ) → suc i ≤ j → j < suc i + count → test j ≡ false) → (b : Bool)
         → test i ≡ b
@@ -145,7 +145,7 @@ false_below test zero h = refl
 false_below test (suc i) h = rw (false_below test i (λ j l. h j (omega arith))) (h i (omega arith))
 
 -- two tests that agree below n are met below n both or neither
-pub below-agree : (f g : ℕ → Bool) (n : ℕ) → ((i : ℕ) → i < n → f i ≡ g i) → any_below f n ≡ any_below g n
+pub below_agree : (f g : ℕ → Bool) (n : ℕ) → ((i : ℕ) → i < n → f i ≡ g i) → any_below f n ≡ any_below g n
 unfolding any_below
-below-agree f g zero h = refl
-below-agree f g (suc n) h = rw (below-agree f g n (λ i l. h i (omega arith)), h n (omega arith))
+below_agree f g zero h = refl
+below_agree f g (suc n) h = rw (below_agree f g n (λ i l. h i (omega arith)), h n (omega arith))

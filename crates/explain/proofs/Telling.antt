@@ -19,9 +19,9 @@ use Rattle.evaluate.specs.Truth.{true_at}
 use Rattle.explain.specs.Explain.{clauses_of, clauses, first_failing, first_broken, first_from, release_break}
 use Rattle.explain.specs.Explain.{until_break}
 use Rattle.explain.specs.Explain.{break_at, broken, never_comes, explanation}
-use Rattle.explain.proofs.Searches.{below-agree}
+use Rattle.explain.proofs.Searches.{below_agree}
 use Rattle.explain.proofs.Clauses.{clause_node}
-use Rattle.explain.proofs.Named.{named-node}
+use Rattle.explain.proofs.Named.{named_node}
 use Rattle.evaluate.specs.Memory.{Filled, Room}
 use Rattle.explain.specs.Memory.{or_none, first, exposed_at, both_fail_at}
 use Rattle.explain.proofs.Naming.{or_some, or_none_lem}
@@ -34,13 +34,13 @@ failing_agree f g [] h = refl
 failing_agree f g (c ∷ cs) h =
     ap₂ (λ (b : Bool) (r : Option ℕ). cond b r (some c)) (h c (inl refl)) (failing_agree f g cs (λ x m. h x (inr m)))
 
-from-agree : (f g : ℕ → Bool) (i count : ℕ) → ((j : ℕ) → j < i + count → f j ≡ g j)
+from_agree : (f g : ℕ → Bool) (i count : ℕ) → ((j : ℕ) → j < i + count → f j ≡ g j)
     → first_from f i count ≡ first_from g i count
 unfolding first_from
-from-agree f g i zero h = refl
-from-agree f g i (suc count) h =
+from_agree f g i zero h = refl
+from_agree f g i (suc count) h =
     ap₂ (λ (b : Bool) (r : Option ℕ). cond b (some i) r) (h i (omega arith))
-    (from-agree f g (suc i) count (λ j l. h j (omega arith)))
+    (from_agree f g (suc i) count (λ j l. h j (omega arith)))
 
 -- the table of an accepted rule on a lasso within the limits
 pub record Known (rule stem cycle : List ℕ) (table : List Bool) : Type 0 where
@@ -83,7 +83,7 @@ module _ {rule stem cycle : List ℕ} {table : List Bool} (known : Known rule st
   some_named x l h = sym (named_is x h) ∙ or_some max_nodes x l
 
   pub named_inside : (x : ℕ) → first_broken rule stem cycle ≡ some x → x < node_count rule
-  named_inside x e = (named-node rule stem cycle known.fine_rule known.room.some x e).0
+  named_inside x e = (named_node rule stem cycle known.fine_rule known.room.some x e).0
 
   -- where it is broken
   module _ {c kind : ℕ} (inside : c < node_count rule) (ek : kind ≡ kind_at rule c) where
@@ -113,13 +113,13 @@ module _ {rule stem cycle : List ℕ} {table : List Bool} (known : Known rule st
           let places = known.room.places in
           (omega arith, omega arith)
 
-      left-flag : (i : ℕ) → i < total → get_or table (l * max_letters + i) false ≡ true_at rule stem cycle (left_at rule c) i
-      left-flag i m =
+      left_flag : (i : ℕ) → i < total → get_or table (l * max_letters + i) false ≡ true_at rule stem cycle (left_at rule c) i
+      left_flag i m =
           let x = left_inside el high in flag_is l i (omega arith) m ∙ ap (λ (k : ℕ). true_at rule stem cycle k i) el
 
-      right-flag : (i : ℕ) → i < total
+      right_flag : (i : ℕ) → i < total
           → get_or table (r * max_letters + i) false ≡ true_at rule stem cycle (right_at rule c) i
-      right-flag i m =
+      right_flag i m =
           let x = right_inside er high in flag_is r i (omega arith) m ∙ ap (λ (k : ℕ). true_at rule stem cycle k i) er
 
       pub until_is : kind ≡ 7 → (x : ℕ)
@@ -127,8 +127,8 @@ module _ {rule stem cycle : List ℕ} {table : List Bool} (known : Known rule st
           → or_none total x ≡ break_at rule stem cycle c
       unfolding break_at until_break
       until_is e x h =
-          h ∙ from-agree _ _ 0 total
-          (λ j m. ap₂ (λ (u v : Bool). not u && not v) (left-flag j (omega arith)) (right-flag j (omega arith)))
+          h ∙ from_agree _ _ 0 total
+          (λ j m. ap₂ (λ (u v : Bool). not u && not v) (left_flag j (omega arith)) (right_flag j (omega arith)))
           ∙ sym (rw (← ek, ne_eqb kind 8 (λ f. omega arith), eq-eqb kind 7 e) refl)
 
       pub release_is : (kind ≡ 7 → ⊥) → (x : ℕ)
@@ -139,9 +139,9 @@ module _ {rule stem cycle : List ℕ} {table : List Bool} (known : Known rule st
           let k = accepted_kind rule known.fine_rule c inside in
           let e : kind ≡ 8 = omega arith in
           h
-          ∙ from-agree _ _ 0 total
-          (λ j m. ap₂ (λ (u v : Bool). not u && not v) (right-flag j (omega arith))
-          (below-agree _ _ j (λ i q. left-flag i (omega arith))))
+          ∙ from_agree _ _ 0 total
+          (λ j m. ap₂ (λ (u v : Bool). not u && not v) (right_flag j (omega arith))
+          (below_agree _ _ j (λ i q. left_flag i (omega arith))))
           ∙ sym (rw (← ek, eq-eqb kind 8 e) refl)
 
 -- ---- the answer

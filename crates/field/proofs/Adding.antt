@@ -20,8 +20,8 @@ use Rattle.automaton.specs.Limits.{max_states}
 use Rattle.image.specs.Image.{initial_at}
 use Rattle.image.specs.Reader.{counts_at, transitions_from, numbers_from, automaton_from}
 use Rattle.image.specs.Lookup.{image_automaton, record_at, records_at, transition_count_of, Readable}
-use Rattle.image.proofs.Lookup.{records_more, numbers_more, automaton-transitions, automaton-states}
-use Rattle.image.proofs.Lookup.{records-end, target_inside, initial_offset, initial_inside}
+use Rattle.image.proofs.Lookup.{records_more, numbers_more, automaton_transitions, automaton_states}
+use Rattle.image.proofs.Lookup.{records_end, target_inside, initial_offset, initial_inside}
 use Rattle.field.specs.Sets.{in_set, bits_from, begun, leads_to, moves_to, moved}
 use Rattle.field.specs.Memory.{Added}
 use Rattle.field.proofs.Packing.{bits_none, bits_one, bits_or}
@@ -29,13 +29,13 @@ use Rattle.field.proofs.Packing.{bits_none, bits_one, bits_or}
 -- ---- what joins
 
 -- a byte is left as it was if none of its states does
-byte-same : (byte k : ℕ) (test : ℕ → Bool) → ((q : ℕ) → 8 * k ≤ q → q < 8 * k + 8 → test q ≡ false)
+byte_same : (byte k : ℕ) (test : ℕ → Bool) → ((q : ℕ) → 8 * k ≤ q → q < 8 * k + 8 → test q ≡ false)
     → byte ≡ bit_or byte (bits_from test (8 * k) 8)
-byte-same byte k test none = sym (ap (bit_or byte) (bits_none test (8 * k) 8 none) ∙ or_zero_r byte)
+byte_same byte k test none = sym (ap (bit_or byte) (bits_none test (8 * k) 8 none) ∙ or_zero_r byte)
 
 -- nothing
 pub added_none : (x : List ℕ) (test : ℕ → Bool) → ((q : ℕ) → test q ≡ false) → Added x x test
-added_none x test none = record { size = refl; bytes = λ k l. byte-same (get_or x k 0) k test (λ q a b. none q) }
+added_none x test none = record { size = refl; bytes = λ k l. byte_same (get_or x k 0) k test (λ q a b. none q) }
 
 -- one state
 pub added_one : (x : List ℕ) (t bit : ℕ) → t / 8 < length x → bit ≡ 2 ^ (t % 8)
@@ -55,7 +55,7 @@ added_one x t bit l is = record { size = length-set x (t / 8) byte; bytes = λ k
         ∙ ap (bit_or (get_or x k 0)) (is ∙ ap (λ (j : ℕ). 2 ^ j) r ∙ sym one)
     go k (no e) =
         get_or-set_other x (t / 8) k byte 0 e
-        ∙ byte-same (get_or x k 0) k (λ q. eqb q t) (λ q a b. ne_eqb q t (λ (f : q ≡ t). e (omega arith)))
+        ∙ byte_same (get_or x k 0) k (λ q. eqb q t) (λ q a b. ne_eqb q t (λ (f : q ≡ t). e (omega arith)))
 
 -- the same, said by another test
 pub added_as : {x y : List ℕ} {f g : ℕ → Bool} → ((q : ℕ) → f q ≡ g q) → Added x y f → Added x y g
@@ -115,20 +115,20 @@ module _ (image : List ℕ) (letter at : ℕ) where
   unfoldable pub followed : (i q : ℕ) → Bool
   followed i q = any (leads_to letter q) (transitions_from i (drop at image))
 
-  pub followed-none : (q : ℕ) → followed 0 q ≡ false
+  pub followed_none : (q : ℕ) → followed 0 q ≡ false
   unfolding followed transitions_from any
-  followed-none q = refl
+  followed_none q = refl
 
   pub followed_more : (i q : ℕ) → followed (suc i) q ≡ (followed i q || leads_to letter q (record_at image (at + 4 * i)))
   unfolding followed
   followed_more i q = any_more (leads_to letter q) _ _ _ (records_more i at image)
 
-  pub followed-all : (p count : ℕ) → p < (counts_at image).states → at ≡ records_at image p
+  pub followed_all : (p count : ℕ) → p < (counts_at image).states → at ≡ records_at image p
       → count ≡ transition_count_of image p
       → (q : ℕ) → followed count q ≡ any (leads_to letter q) (get_or (image_automaton image).states p no_state).transitions
   unfolding followed
-  followed-all p count lp ea ec q =
-      ap (any (leads_to letter q)) (rw (ea, ec) refl ∙ sym (automaton-transitions image p lp))
+  followed_all p count lp ea ec q =
+      ap (any (leads_to letter q)) (rw (ea, ec) refl ∙ sym (automaton_transitions image p lp))
 
 -- those that one of the first i numbers from byte `at` on names
 module _ (image : List ℕ) (at : ℕ) where
@@ -143,30 +143,30 @@ module _ (image : List ℕ) (at : ℕ) where
   unfolding named
   named_more i t is q = any_more (eqb q) _ _ t (rw is (numbers_more i at image))
 
-  pub named-all : (count : ℕ) → at ≡ initial_at (counts_at image) → count ≡ (counts_at image).initial
+  pub named_all : (count : ℕ) → at ≡ initial_at (counts_at image) → count ≡ (counts_at image).initial
       → (q : ℕ) → named count q ≡ begun (image_automaton image) q
   unfolding named begun automaton_from
-  named-all count ea ec q = ap (any (eqb q)) (rw (ea, ec) refl)
+  named_all count ea ec q = ap (any (eqb q)) (rw (ea, ec) refl)
 
 -- those to which a step from one of the first p states leads
 module _ (image set : List ℕ) (letter : ℕ) where
   unfoldable pub reached : (p q : ℕ) → Bool
   reached p q = any_below (moves_to (image_automaton image) (in_set set) letter q) p
 
-  pub reached-none : (q : ℕ) → reached 0 q ≡ false
+  pub reached_none : (q : ℕ) → reached 0 q ≡ false
   unfolding reached any_below
-  reached-none q = refl
+  reached_none q = refl
 
   pub reached_more : (p q : ℕ)
       → reached (suc p) q ≡ (reached p q || moves_to (image_automaton image) (in_set set) letter q p)
   unfolding reached any_below
   reached_more p q = refl
 
-  pub reached-all : (n : ℕ) → n ≡ (counts_at image).states
+  pub reached_all : (n : ℕ) → n ≡ (counts_at image).states
       → (q : ℕ) → reached n q ≡ moved (image_automaton image) (in_set set) letter q
   unfolding reached moved
-  reached-all n en q =
-      ap (any_below (moves_to (image_automaton image) (in_set set) letter q)) (en ∙ sym (automaton-states image))
+  reached_all n en q =
+      ap (any_below (moves_to (image_automaton image) (in_set set) letter q)) (en ∙ sym (automaton_states image))
 
 -- ---- where the code looks
 
@@ -175,7 +175,7 @@ pub record_fits : (image : List ℕ) → Readable image → (p at n i : ℕ) →
     → at ≡ records_at image p → n ≡ transition_count_of image p → i < n
     → (at + 4 * i + 3 < length image) × (number_at image (at + 4 * i + 2) < max_states)
 record_fits image fine p at n i lp ea en lt =
-    let e = records-end image fine p lp in
+    let e = records_end image fine p lp in
     let t = target_inside image fine p i lp (rw en at lt) in
     (omega arith, rw ea (omega (arith, fine.few)))
 

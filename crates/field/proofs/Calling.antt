@@ -8,7 +8,7 @@ use lib.Dec.{leb}
 use borrow.Author.Tests.{leb-true, le-leb, lt-leb, lt-ltb, le-ltb}
 use Rattle.answer.specs.Result.{Result, accepted, refused, and_then, Check, fine, require}
 use Rattle.answer.specs.Bytes.{filled}
-use Rattle.answer.proofs.Results.{require-fine, never_both, then_accepted}
+use Rattle.answer.proofs.Results.{require_fine, never_both, then_accepted}
 use Rattle.lasso.specs.Lasso.{skipped}
 use Rattle.sets.specs.Sets.{any_below}
 use Rattle.automaton.specs.Automaton.{Automaton}
@@ -16,9 +16,9 @@ use Rattle.automaton.specs.Tables.{Counts}
 use Rattle.image.specs.Reader.{counts_at}
 use Rattle.image.specs.Lookup.{image_automaton, Readable}
 use Rattle.image.specs.Calls.{checks}
-use Rattle.image.proofs.Lookup.{automaton-states}
+use Rattle.image.proofs.Lookup.{automaton_states}
 use Rattle.image.proofs.Accepted.{readable}
-use Rattle.image.proofs.Contents.{read_of, checks-of, checks_refused}
+use Rattle.image.proofs.Contents.{read_of, checks_of, checks_refused}
 use Rattle.field.specs.Sets.{set_bytes, in_set, packed, moved, is_empty}
 use Rattle.field.specs.Calls.{Watch, watch, left, advances, watchable, unless_refused}
 
@@ -30,7 +30,7 @@ module _ (image : List ℕ) (n : ℕ) (en : n ≡ (counts_at image).states) wher
   unfolding is_empty
   alarm_is r bytes e =
       ap (λ (b : Bool). watch (accepted b) bytes)
-      (e ∙ ap (λ (k : ℕ). not (any_below (in_set bytes) k)) (en ∙ sym (automaton-states image)))
+      (e ∙ ap (λ (k : ℕ). not (any_below (in_set bytes) k)) (en ∙ sym (automaton_states image)))
 
   -- the set that is left has the bytes of a test
   pub packed_is : (set after bytes : List ℕ) (test : ℕ → Bool) (r : Bool) → bytes ≡ packed test
@@ -65,7 +65,7 @@ module _ (image set : List ℕ) where
 
     pub image_passed : {c : Counts} → accepted c ≡ checks image → fine ≡ lent_check
     unfolding watchable
-    image_passed {c} e = rw (le-leb set_bytes (length set) room, (checks-of image c e).read) refl
+    image_passed {c} e = rw (le-leb set_bytes (length set) room, (checks_of image c e).read) refl
 
   -- a refusal leaves the set as it was
   pub lent_refused : (next : Automaton → Watch) {number place : ℕ} → refused number place ≡ lent_check
@@ -87,7 +87,7 @@ module _ (image set : List ℕ) where
     lent_fine =
         let (a, known, _) = then_accepted (watchable image set) _ (sym e) in
         let (_, fits, read) = then_accepted (require (leb set_bytes (length set)) 25 0) _ known in
-        (readable (read_of image a read), leb-true set_bytes (length set) (require-fine _ 25 0 fits))
+        (readable (read_of image a read), leb-true set_bytes (length set) (require_fine _ 25 0 fits))
 
     pub lent_watched : (next : Automaton → Watch) {w : Watch} → w ≡ next (image_automaton image)
         → w ≡ unless_refused (watchable image set) next set

@@ -13,9 +13,9 @@ pub record NoneYet (test : ℕ → Bool) (n i : ℕ) : Type 0 where
   pub none : any_below test i ≡ false
 
 module _ (test : ℕ → Bool) (n : ℕ) where
-  pub none-begins : NoneYet test n 0
+  pub none_begins : NoneYet test n 0
   unfolding any_below
-  none-begins = record { within = omega arith; none = refl }
+  none_begins = record { within = omega arith; none = refl }
 
   pub none_steps : (i : ℕ) → i < n → test i ≡ false → NoneYet test n i → NoneYet test n (i + 1)
   unfolding any_below

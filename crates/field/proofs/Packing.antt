@@ -20,9 +20,9 @@ use Rattle.field.specs.Memory.{Added}
 
 -- ---- the lowest bit, and those above it
 
-bit-low : (b : Bool) (r : ℕ) → (cond b 1 0 + 2 * r) % 2 ≡ cond b 1 0
-bit-low true r = omega arith
-bit-low false r = omega arith
+bit_low : (b : Bool) (r : ℕ) → (cond b 1 0 + 2 * r) % 2 ≡ cond b 1 0
+bit_low true r = omega arith
+bit_low false r = omega arith
 
 bit_half : (b : Bool) (r : ℕ) → (cond b 1 0 + 2 * r) / 2 ≡ r
 bit_half true r = omega arith
@@ -71,7 +71,7 @@ bits_or f g i (suc n) = one (f i) (g i) (bits_from f (suc i) n) (bits_from g (su
     one : (b c : Bool) (x y : ℕ) → bit_or (cond b 1 0 + 2 * x) (cond c 1 0 + 2 * y) ≡ cond (b || c) 1 0 + 2 * bit_or x y
     one b c x y =
         or_step (cond b 1 0 + 2 * x) (cond c 1 0 + 2 * y)
-        ∙ rw (bit_half b x, bit_half c y, bit-low b x, bit-low c y) (bit_or b c (bit_or x y))
+        ∙ rw (bit_half b x, bit_half c y, bit_low b x, bit_low c y) (bit_or b c (bit_or x y))
 
 -- bit j is that of state i + j
 bits_has : (set : ℕ → Bool) (n i j : ℕ) → j < n → has (bits_from set i n) j ≡ set (i + j)
@@ -81,7 +81,7 @@ bits_has set (suc n) i zero l =
     let e : i ≡ i + 0 = omega arith in
     let x = cond (set i) 1 0 + 2 * bits_from set (suc i) n in
     ap (λ (k : ℕ). eqb (k % 2) 1) (div-one x)
-    ∙ ap (λ (k : ℕ). eqb k 1) (bit-low (set i) (bits_from set (suc i) n)) ∙ bit_is (set i) ∙ ap set e
+    ∙ ap (λ (k : ℕ). eqb k 1) (bit_low (set i) (bits_from set (suc i) n)) ∙ bit_is (set i) ∙ ap set e
 bits_has set (suc n) i (suc j) l =
     let e : suc i + j ≡ i + suc j = omega arith in
     let x = cond (set i) 1 0 + 2 * bits_from set (suc i) n in
@@ -92,47 +92,47 @@ bits_has set (suc n) i (suc j) l =
 
 -- ---- the first n bytes
 
-pub bytes-length : (set : ℕ → Bool) (n : ℕ) → length (bytes_up_to set n) ≡ n
+pub bytes_length : (set : ℕ → Bool) (n : ℕ) → length (bytes_up_to set n) ≡ n
 unfolding bytes_up_to
-bytes-length set zero = refl
-bytes-length set (suc n) =
-    omega (arith, length-append (bytes_up_to set n) (bits_from set (8 * n) 8 ∷ []), bytes-length set n)
+bytes_length set zero = refl
+bytes_length set (suc n) =
+    omega (arith, length-append (bytes_up_to set n) (bits_from set (8 * n) 8 ∷ []), bytes_length set n)
 
-bytes-at : (set : ℕ → Bool) (n k : ℕ) → k < n → get_or (bytes_up_to set n) k 0 ≡ bits_from set (8 * k) 8
+bytes_at : (set : ℕ → Bool) (n k : ℕ) → k < n → get_or (bytes_up_to set n) k 0 ≡ bits_from set (8 * k) 8
 unfolding bytes_up_to
-bytes-at set zero k l = absurd (omega arith)
-bytes-at set (suc n) k l = go (ℕ_discrete k n) (bytes-at set n k)
+bytes_at set zero k l = absurd (omega arith)
+bytes_at set (suc n) k l = go (ℕ_discrete k n) (bytes_at set n k)
   where
     go : Dec (k ≡ n) → (k < n → get_or (bytes_up_to set n) k 0 ≡ bits_from set (8 * k) 8)
         → get_or (bytes_up_to set n ++ (bits_from set (8 * n) 8 ∷ [])) k 0 ≡ bits_from set (8 * k) 8
     go (yes e) ih =
-        let q : k ≡ length (bytes_up_to set n) = e ∙ sym (bytes-length set n) in
+        let q : k ≡ length (bytes_up_to set n) = e ∙ sym (bytes_length set n) in
         ap (λ (j : ℕ). get_or (bytes_up_to set n ++ (bits_from set (8 * n) 8 ∷ [])) j 0) q
         ∙ get_or-append_seam (bytes_up_to set n) (bits_from set (8 * n) 8) [] 0
         ∙ ap (λ (j : ℕ). bits_from set (8 * j) 8) (sym e)
     go (no e) ih =
-        get_or-append (bytes_up_to set n) (bits_from set (8 * n) 8 ∷ []) 0 k (omega (arith, bytes-length set n))
+        get_or-append (bytes_up_to set n) (bits_from set (8 * n) 8 ∷ []) 0 k (omega (arith, bytes_length set n))
         ∙ ih (omega arith)
 
 -- zeros that the states of a set joined
-pub from-zeros : (n : ℕ) (after : List ℕ) (set : ℕ → Bool) → Added (replicate n 0) after set → after ≡ bytes_up_to set n
-from-zeros n after set added =
+pub from_zeros : (n : ℕ) (after : List ℕ) (set : ℕ → Bool) → Added (replicate n 0) after set → after ≡ bytes_up_to set n
+from_zeros n after set added =
     let long : length after ≡ n = added.size ∙ length-replicate {A = ℕ} n 0 in
-    ext_get_or 0 after (bytes_up_to set n) (long ∙ sym (bytes-length set n)) (λ k l. at k (omega arith))
+    ext_get_or 0 after (bytes_up_to set n) (long ∙ sym (bytes_length set n)) (λ k l. at k (omega arith))
   where
     at : (k : ℕ) → k < n → get_or after k 0 ≡ get_or (bytes_up_to set n) k 0
     at k l =
         added.bytes k (omega (arith, length-replicate {A = ℕ} n 0))
         ∙ ap (λ (b : ℕ). bit_or b (bits_from set (8 * k) 8)) (get_or-replicate n k 0 0 l)
-        ∙ sym (bytes-at set n k l)
+        ∙ sym (bytes_at set n k l)
 
 -- what is packed is in the set, and nothing else is
-pub packed-has : (before : List ℕ) (set : ℕ → Bool) (q : ℕ) → q < max_states
+pub packed_has : (before : List ℕ) (set : ℕ → Bool) (q : ℕ) → q < max_states
     → in_set (filled before (packed set)) q ≡ set q
-packed-has before set q l =
+packed_has before set q l =
     let k : q / 8 < set_bytes = omega arith in
     let e : 8 * (q / 8) + q % 8 ≡ q = omega arith in
     ap (λ (b : ℕ). has b (q % 8))
-    (get_or-append (packed set) _ 0 (q / 8) (omega (arith, bytes-length set set_bytes))
-    ∙ bytes-at set set_bytes (q / 8) k)
+    (get_or-append (packed set) _ 0 (q / 8) (omega (arith, bytes_length set set_bytes))
+    ∙ bytes_at set set_bytes (q / 8) k)
     ∙ bits_has set 8 (8 * (q / 8)) (q % 8) (omega arith) ∙ ap set e

@@ -20,12 +20,12 @@ use Rattle.automaton.proofs.InRange.{InRange, step_from}
 use Rattle.image.specs.Reader.{read_image}
 use Rattle.image.specs.Lookup.{image_automaton}
 use Rattle.image.proofs.Contents.{read_of}
-use Rattle.image.proofs.Lookup.{automaton-states}
+use Rattle.image.proofs.Lookup.{automaton_states}
 use Rattle.image.proofs.Accepted.{readable, readable_in_range}
 use Rattle.field.specs.Watch.{Current, NoneCurrent}
 use Rattle.field.specs.Sets.{set_bytes, in_set, packed, begun, leads_to, moves_to, moved, is_empty}
 use Rattle.field.specs.Calls.{Watch, left, begins, advances, watchable, started, stepped, after_steps}
-use Rattle.field.proofs.Packing.{bytes-length, packed-has}
+use Rattle.field.proofs.Packing.{bytes_length, packed_has}
 
 -- ---- an automaton whose targets and initial numbers are states
 module _ (a : Automaton) (range : InRange a) (few : length a.states ≤ max_states) where
@@ -68,7 +68,7 @@ module _ (a : Automaton) (range : InRange a) (few : length a.states ≤ max_stat
       go false e = refl
       go true e =
           let (q, l, f) = (below_iff after (length a.states)).0 e in
-          let moves = sym (packed-has set (moved a (in_set set) x) q (omega arith)) ∙ f in
+          let moves = sym (packed_has set (moved a (in_set set) x) q (omega arith)) ∙ f in
           let (p, m, g) = (below_iff (moves_to a (in_set set) x q) (length a.states)).0 moves in
           let some = (below_iff (in_set set) (length a.states)).1 (p, m, ((moves_iff (in_set set) x q p).0 g).0) in
           absurd (true≢false (sym some ∙ not-true (any_below (in_set set) (length a.states)) none))
@@ -84,12 +84,12 @@ module _ (a : Automaton) (range : InRange a) (few : length a.states ≤ max_stat
       pub states : (q : ℕ) → q < length a.states → in_set bytes q ≡ true ↔ Current a w i q
 
     room_filled : (set : List ℕ) (test : ℕ → Bool) → set_bytes ≤ length set → set_bytes ≤ length (filled set (packed test))
-    room_filled set test l = omega (arith, length-append (packed test) (replicate (length set - length (packed test)) 0), bytes-length test set_bytes)
+    room_filled set test l = omega (arith, length-append (packed test) (replicate (length set - length (packed test)) 0), bytes_length test set_bytes)
 
     holds_begin : (set : List ℕ) → set_bytes ≤ length set → Holds (filled set (packed (begun a))) 0
     holds_begin set l = record {
       room = room_filled set (begun a) l;
-      states = λ q m. subst (λ (b : Bool). b ≡ true ↔ In q a.initial) (sym (packed-has set (begun a) q (omega arith))) (begun_iff q);
+      states = λ q m. subst (λ (b : Bool). b ≡ true ↔ In q a.initial) (sym (packed_has set (begun a) q (omega arith))) (begun_iff q);
     }
 
     holds_step : (set : List ℕ) (i : ℕ) → Holds set i → Holds (filled set (packed (moved a (in_set set) (w i)))) (suc i)
@@ -97,7 +97,7 @@ module _ (a : Automaton) (range : InRange a) (few : length a.states ≤ max_stat
     holds_step set i h = record {
       room = room_filled set (moved a (in_set set) (w i)) h.room;
       states = λ q m.
-          subst (λ (b : Bool). b ≡ true ↔ Current a w (suc i) q) (sym (packed-has set (moved a (in_set set) (w i)) q (omega arith)))
+          subst (λ (b : Bool). b ≡ true ↔ Current a w (suc i) q) (sym (packed_has set (moved a (in_set set) (w i)) q (omega arith)))
           (there q, back q);
     }
       where
@@ -138,7 +138,7 @@ module _ (image : List ℕ) (a : Automaton) (read : read_image image ≡ accepte
   range = subst InRange (sym same) (readable_in_range image (readable (read_of image a read)))
 
   pub few : length a.states ≤ max_states
-  few = omega (arith, ap (λ (b : Automaton). length b.states) same, automaton-states image, (readable (read_of image a read)).few)
+  few = omega (arith, ap (λ (b : Automaton). length b.states) same, automaton_states image, (readable (read_of image a read)).few)
 
   starts : (set : List ℕ) → set_bytes ≤ length set → started image set ≡ begins a set
   unfolding started watchable
@@ -149,9 +149,9 @@ module _ (image : List ℕ) (a : Automaton) (read : read_image image ≡ accepte
   steps set x l = rw (le-leb set_bytes (length set) l, read) refl
 
   -- R-10 of one call, on any bytes: with no state of the image in the set the alarm stays raised
-  pub any-set-stays-raised : (set : List ℕ) (x : ℕ) → set_bytes ≤ length set → is_empty a (in_set set) ≡ true
+  pub any_set_stays_raised : (set : List ℕ) (x : ℕ) → set_bytes ≤ length set → is_empty a (in_set set) ≡ true
       → (stepped image set x).answer ≡ accepted true
-  any-set-stays-raised set x l none = ap (λ (v : Watch). v.answer) (steps set x l) ∙ go (remains x)
+  any_set_stays_raised set x l none = ap (λ (v : Watch). v.answer) (steps set x l) ∙ go (remains x)
     where
       go : (b : Bool) → ◌≡◌ {A = Result Bool}
           (accepted (is_empty a (in_set (cond b (filled set (packed (moved a (in_set set) x))) set)))) (accepted true)

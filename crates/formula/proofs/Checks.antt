@@ -14,7 +14,7 @@ use Rattle.formula.specs.Rule.{kind_at, left_byte_fits, right_byte_fits, left_ch
 use Rattle.formula.specs.Rule.{node_count, root, node_check, ChildrenBelow, places, place_check, length_check}
 use Rattle.formula.specs.Rule.{syntax_check, until_check, checked}
 use Rattle.answer.proofs.Lowest.{lowest_each}
-use Rattle.answer.proofs.Results.{require-fine, required}
+use Rattle.answer.proofs.Results.{require_fine, required}
 
 -- a test of the code, by what it reads of the rule
 pub read_test : (operandOf : ℕ → Operand) (test : Operand → ℕ → Bool) {kind k byte b : ℕ} {operand : Operand} {passes t : Bool} → kind ≡ k → byte ≡ b
@@ -56,9 +56,9 @@ module _ (rule : List ℕ) (k : ℕ) where
   abbrev count : ℕ
   count = places rule (node_count rule) k
 
-  pub place-root : count ≡ 0 → k ≡ root rule → fine ≡ place_check rule k
+  pub place_root : count ≡ 0 → k ≡ root rule → fine ≡ place_check rule k
   unfolding place_check
-  place-root none last = rw (eq-eqb k (root rule) last, lt-leb 2 count (omega arith), and-false (ltb 3 (kind_at rule k)))
+  place_root none last = rw (eq-eqb k (root rule) last, lt-leb 2 count (omega arith), and-false (ltb 3 (kind_at rule k)))
 
   pub place_none : count ≡ 0 → (k ≡ root rule → ⊥) → refused 6 k ≡ place_check rule k
   unfolding place_check
@@ -94,9 +94,9 @@ module _ (highest : ℕ) (rule : List ℕ) where
     broken e = rw (le-leb (length rule) rule_bytes fits, ne_eqb (length rule % 3) 0 e, and-false (ltb 0 (length rule)))
 
     module _ (some : length rule ≡ 0 → ⊥) (whole : length rule % 3 ≡ 0) where
-      length-fine : length_check rule ≡ fine
+      length_fine : length_check rule ≡ fine
       unfolding length_check
-      length-fine =
+      length_fine =
           rw (
             le-leb (length rule) rule_bytes fits,
             lt-ltb 0 (length rule) (omega arith),
@@ -106,12 +106,12 @@ module _ (highest : ℕ) (rule : List ℕ) where
       pub node_refused : {number place : ℕ} → refused number place ≡ lowest (node_check highest rule) (node_count rule)
           → refused number place ≡ syntax_check highest rule
       unfolding syntax_check
-      node_refused e = rw (length-fine, ← e)
+      node_refused e = rw (length_fine, ← e)
 
-      pub places-left : lowest (node_check highest rule) (node_count rule) ≡ fine
+      pub places_left : lowest (node_check highest rule) (node_count rule) ≡ fine
           → lowest (place_check rule) (node_count rule) ≡ syntax_check highest rule
       unfolding syntax_check
-      places-left e = rw (length-fine, e)
+      places_left e = rw (length_fine, e)
 
 -- the whole rule by the answers of 1 to 6 and of 7
 module _ (rule : List ℕ) where
@@ -120,16 +120,16 @@ module _ (rule : List ℕ) where
   unfolding checked
   syntax_refused e = rw (← e)
 
-  pub untils-left : syntax_check release_kind rule ≡ fine → until_check rule ≡ checked rule
+  pub untils_left : syntax_check release_kind rule ≡ fine → until_check rule ≡ checked rule
   unfolding checked
-  untils-left e = rw e
+  untils_left e = rw e
 
 -- what a fine check says of node n
 pub record Tested (rule : List ℕ) (n : ℕ) : Type 0 where
   pub left_fits : left_byte_fits rule n ≡ true
   pub right_fits : right_byte_fits rule n ≡ true
   pub left_below : left_child_fits rule n ≡ true
-  pub right-below : right_child_fits rule n ≡ true
+  pub right_below : right_child_fits rule n ≡ true
 
 pub tested : (highest : ℕ) (rule : List ℕ) (n : ℕ) → node_check highest rule n ≡ fine → Tested rule n
 unfolding node_check
@@ -137,12 +137,12 @@ tested highest rule n e =
     let k = required (leb (kind_at rule n) highest) 3 n _ e in
     let b = required _ 4 n _ k.1 in
     let bytes = (and-eq-true_iff _ _).0 b.0 in
-    let children = (and-eq-true_iff _ _).0 (require-fine _ 5 n b.1) in
+    let children = (and-eq-true_iff _ _).0 (require_fine _ 5 n b.1) in
     record {
       left_fits = bytes.0;
       right_fits = bytes.1;
       left_below = children.0;
-      right-below = children.1;
+      right_below = children.1;
     }
 
 -- and what fine checks say of the children of n nodes
@@ -151,4 +151,4 @@ pub children_below : (highest : ℕ) (rule : List ℕ) (n : ℕ) → lowest (nod
 children_below highest rule n all =
     let node : (i : ℕ) → i < n → Tested rule i =
     λ i lt. tested highest rule i (lowest_each (node_check highest rule) n all i lt) in
-    record { lefts = λ i lt. (node i lt).left_below; rights = λ i lt. (node i lt).right-below }
+    record { lefts = λ i lt. (node i lt).left_below; rights = λ i lt. (node i lt).right_below }

@@ -16,9 +16,9 @@ module _ (kind : ℕ) where
   unfolding left_operand
   left_proposition le lt = rw (le-ltb kind 2 le, lt-ltb kind 4 lt)
 
-  pub left-child : 4 ≤ kind → Child ≡ left_operand kind
+  pub left_child : 4 ≤ kind → Child ≡ left_operand kind
   unfolding left_operand
-  left-child le = rw (le-ltb kind 2 (omega arith), le-ltb kind 4 le)
+  left_child le = rw (le-ltb kind 2 (omega arith), le-ltb kind 4 le)
 
   pub right_unused : kind < 4 → Unused ≡ right_operand kind
   unfolding right_operand

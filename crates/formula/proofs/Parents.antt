@@ -14,7 +14,7 @@ use Rattle.formula.specs.declared.Operand.TheVariants.{Child}
 use Rattle.formula.specs.Rule.{node_count, root, kind_at, left_at, right_at, left_operand, one_child, right_operand}
 use Rattle.formula.specs.Rule.{is_child, places, checked}
 use Rattle.answer.proofs.Lowest.{not_fine}
-use Rattle.formula.proofs.Operands.{left_unused, left_proposition, left-child, right_unused}
+use Rattle.formula.proofs.Operands.{left_unused, left_proposition, left_child, right_unused}
 use Rattle.formula.proofs.Operands.{right_absent, right_child, two_no_next}
 use Rattle.formula.proofs.Checks.{place_none}
 use Rattle.formula.proofs.Accepted.{Node, accepted_fine}
@@ -36,7 +36,7 @@ module _ (rule : List ℕ) (n k : ℕ) where
   left_parent counted = pick (dec_lt 3 (kind_at rule n)) (dec_lt 1 (kind_at rule n))
     where
       pick : Dec (3 < kind_at rule n) → Dec (1 < kind_at rule n) → Parent rule n k
-      pick (yes inner) d = by_left inner (child_is (left_at rule n) k (left-child (kind_at rule n) (omega arith)) counted)
+      pick (yes inner) d = by_left inner (child_is (left_at rule n) k (left_child (kind_at rule n) (omega arith)) counted)
       pick (no leaf) (yes proposition) =
           absurd (counted (rw (← left_proposition (kind_at rule n) (omega arith) (omega arith)) refl))
       pick (no leaf) (no constant) = absurd (counted (rw (← left_unused (kind_at rule n) (omega arith)) refl))

@@ -10,7 +10,7 @@ use lib.Dec.{eqb}
 use lib.ListN.{get_or, length, set, replicate}
 use lib.Seq.{get_or-set_same, get_or-set_other}
 use borrow.Author.Tests.{eq-eqb, ne_eqb, ltb-true, lt-ltb}
-use Rattle.answer.proofs.Zeros.{zeros-at}
+use Rattle.answer.proofs.Zeros.{zeros_at}
 use Rattle.formula.specs.declared.Operand.{Operand}
 use Rattle.formula.specs.declared.Operand.TheVariants.{Unused, Proposition, Child}
 use Rattle.formula.specs.Limits.{max_nodes}
@@ -35,16 +35,16 @@ places_most rule (suc n) k =
     omega (arith, places_most rule n k, is_child_most (left_operand (kind_at rule n)) (left_at rule n) k, is_child_most (right_operand (kind_at rule n)) (right_at rule n) k)
 
 -- a child below a node is below all that is above the node
-child-widens : (operand : Operand) (byte parent most : ℕ) → parent ≤ most → child_fits operand byte parent ≡ true
+child_widens : (operand : Operand) (byte parent most : ℕ) → parent ≤ most → child_fits operand byte parent ≡ true
     → child_fits operand byte most ≡ true
-child-widens Unused byte parent most le e = refl
-child-widens Proposition byte parent most le e = refl
-child-widens Child byte parent most le e = lt-ltb byte most (omega (arith, ltb-true byte parent e))
+child_widens Unused byte parent most le e = refl
+child_widens Proposition byte parent most le e = refl
+child_widens Child byte parent most le e = lt-ltb byte most (omega (arith, ltb-true byte parent e))
 
 -- a byte that is a child
 module _ (operand : Operand) (child : operand ≡ Child) (byte : ℕ) where
-  pub child-below : (most : ℕ) → child_fits operand byte most ≡ true → byte < most
-  child-below most e = ltb-true byte most (rw child at e)
+  pub child_below : (most : ℕ) → child_fits operand byte most ≡ true → byte < most
+  child_below most e = ltb-true byte most (rw child at e)
 
   -- one more at its place, and at no other
   pub one_more : (counts : List ℕ) → child_fits operand byte (length counts) ≡ true → (k : ℕ)
@@ -53,7 +53,7 @@ module _ (operand : Operand) (child : operand ≡ Child) (byte : ℕ) where
     where
       pick : Dec (k ≡ byte)
           → get_or (set counts byte (get_or counts byte 0 + 1)) k 0 ≡ get_or counts k 0 + is_child Child byte k
-      pick (yes e) = rw (e, eq-eqb byte byte refl) (get_or-set_same counts byte _ 0 (child-below (length counts) fits))
+      pick (yes e) = rw (e, eq-eqb byte byte refl) (get_or-set_same counts byte _ 0 (child_below (length counts) fits))
       pick (no e) =
           let other = get_or-set_other counts byte k (get_or counts byte 0 + 1) 0 e in
           rw (ne_eqb byte k (λ f. e (sym f))) (omega arith)
@@ -64,9 +64,9 @@ pub record Counting (rule : List ℕ) (n : ℕ) (counts : List ℕ) (i : ℕ) : 
   pub size : length counts ≡ max_nodes
   pub counted : (k : ℕ) → get_or counts k 0 ≡ places rule i k
 
-pub count-begins : (rule : List ℕ) (n : ℕ) → Counting rule n (replicate max_nodes 0) 0
+pub count_begins : (rule : List ℕ) (n : ℕ) → Counting rule n (replicate max_nodes 0) 0
 unfolding places
-count-begins rule n = record { within = omega arith; size = refl; counted = zeros-at max_nodes }
+count_begins rule n = record { within = omega arith; size = refl; counted = zeros_at max_nodes }
 
 pub count_ends : (rule : List ℕ) (n : ℕ) (counts : List ℕ) (i : ℕ) → n ≤ i → Counting rule n counts i → (k : ℕ)
     → get_or counts k 0 ≡ places rule n k
@@ -81,7 +81,7 @@ module _ (rule : List ℕ) (n : ℕ) (few : n ≤ max_nodes) (below : ChildrenBe
   module _ {left : Operand} (eo : left ≡ left_operand kind) {l : ℕ} (el : l ≡ left_at rule i) where
     pub left_fits : (child_fits left l (length counts) ≡ true) × ((k : ℕ) → get_or counts k 0 < 255)
     left_fits =
-        (rw (inv.size, eo, el, ek) (child-widens (left_operand (kind_at rule i)) (left_at rule i) i max_nodes (omega arith) (below.lefts i lt)), λ k. omega (arith, inv.counted k, places_most rule i k))
+        (rw (inv.size, eo, el, ek) (child_widens (left_operand (kind_at rule i)) (left_at rule i) i max_nodes (omega arith) (below.lefts i lt)), λ k. omega (arith, inv.counted k, places_most rule i k))
 
     -- and then of the right byte
     module _ (more : List ℕ) (same : length more ≡ length counts)
@@ -89,7 +89,7 @@ module _ (rule : List ℕ) (n : ℕ) (few : n ≤ max_nodes) (below : ChildrenBe
         (eq : right ≡ right_operand kind) {r : ℕ} (er : r ≡ right_at rule i) where
       pub right_fits : (child_fits right r (length more) ≡ true) × ((k : ℕ) → get_or more k 0 < 255)
       right_fits =
-          (rw (same, inv.size, eq, er, ek) (child-widens (right_operand (kind_at rule i)) (right_at rule i) i max_nodes (omega arith) (below.rights i lt)), λ k. omega (arith, step k, inv.counted k, places_most rule i k, is_child_most left l k))
+          (rw (same, inv.size, eq, er, ek) (child_widens (right_operand (kind_at rule i)) (right_at rule i) i max_nodes (omega arith) (below.rights i lt)), λ k. omega (arith, step k, inv.counted k, places_most rule i k, is_child_most left l k))
 
       pub count_steps : (last : List ℕ) → length last ≡ length more
           → ((k : ℕ) → get_or last k 0 ≡ get_or more k 0 + is_child right r k) → Counting rule n last (i + 1)

@@ -81,8 +81,8 @@ module _ (rule : List ℕ) (n : ℕ) (inside : n < node_count rule) (node : Node
     pub left_below : (l : ℕ) → l ≡ left_at rule n → l < n
     left_below l e = omega (arith, node.left (omega arith))
 
-    pub right-below : (r : ℕ) → r ≡ right_at rule n → r < n
-    right-below r e = omega (arith, node.right (omega arith))
+    pub right_below : (r : ℕ) → r ≡ right_at rule n → r < n
+    right_below r e = omega (arith, node.right (omega arith))
 
   -- P is what is said of a node's tree
   module _ (P : Formula → Type 0) (k : ℕ) (ek : k ≡ kind_at rule n) where

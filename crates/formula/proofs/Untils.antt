@@ -56,8 +56,8 @@ module _ (rule : List ℕ) (n : ℕ) where
         counted = rw (add-one i) (omega (arith, untils_more rule i));
       }
 
-  pub untils-end : (count i : ℕ) → n ≤ i → CountingUntils rule n count i → count ≡ length (untils rule n)
-  untils-end count i le inv =
+  pub untils_end : (count i : ℕ) → n ≤ i → CountingUntils rule n count i → count ≡ length (untils rule n)
+  untils_end count i le inv =
       let e : n ≡ i = omega arith in
       rw e inv.counted
 

@@ -27,9 +27,9 @@ pub record Covering (cs : List ℕ) (sets : Terms) (states : List ℕ) (i : ℕ)
   pub room : length states ≡ max_generalized_states
   pub listed : take i states ≡ map obligations_n (take i sets.items)
 
-pub cover-begins : {cs : List ℕ} {sets : Terms} {states : List ℕ} → IsCover sets cs → length cs ≤ max_terms
+pub cover_begins : {cs : List ℕ} {sets : Terms} {states : List ℕ} → IsCover sets cs → length cs ≤ max_terms
     → length states ≡ max_generalized_states → Covering cs sets states 0
-cover-begins {cs} {sets} is few room =
+cover_begins {cs} {sets} is few room =
     let fits : sets.count ≤ max_terms = omega (arith, is.count, length-map cs pack_set) in
     record { within = omega arith; few = fits; is = carried is fits; room = room; listed = refl }
 

@@ -14,8 +14,8 @@ use Rattle.answer.proofs.Results.{never_both, then_accepted}
 use Rattle.sets.specs.Sets.{In}
 use Rattle.sets.proofs.Members.{All, all_one, at_in, in_append, append_in}
 use Rattle.generalized.specs.Explore.{find, meet, Numbering, meet_all, Walk, explore, walked}
-use Rattle.generalized.proofs.Numbers.{find-stays, find-next}
-use Rattle.generalized.proofs.Exploring.{meet_seen, meet-next, meet_full, explore_is, explore_ends}
+use Rattle.generalized.proofs.Numbers.{find_stays, find_next}
+use Rattle.generalized.proofs.Exploring.{meet_seen, meet_next, meet_full, explore_is, explore_ends}
 
 -- ys are xs and more after them
 pub record Extends {A : Type 0} (xs ys : List A) : Type 0 where
@@ -81,10 +81,10 @@ once_more same none x xs self new once i lt = pick (dec_lt i (length xs))
     pick (yes l) =
         let here = once i l in
         rw (get_or-append xs (x ∷ []) none i l)
-        (find-stays same (get_or xs i none) xs (x ∷ []) (rw here l) ∙ here)
+        (find_stays same (get_or xs i none) xs (x ∷ []) (rw here l) ∙ here)
     pick (no ge) =
         let last : i ≡ length xs + 0 = omega (arith, length-append xs (x ∷ [])) in
-        let number = find-next same x xs self new in
+        let number = find_next same x xs self new in
         rw (last, get_or-append-add xs (x ∷ []) 0 none) (omega (arith, number))
 
 module _ {A : Type 0} (n : Numbering A) where
@@ -113,7 +113,7 @@ module _ {A : Type 0} (n : Numbering A) where
             once = λ self none all. all;
           })
       pick (no g) (yes l) =
-          let next = meet-next n.same n.limit n.full place x xs (omega arith) l in
+          let next = meet_next n.same n.limit n.full place x xs (omega arith) l in
           let z : xs ++ (x ∷ []) ≡ ys = cc in
           subst (Grows (x ∷ []) xs) z (record {
             extends = record { more = x ∷ []; are = refl };

@@ -11,7 +11,7 @@ use lib.Seq.{length-take-le}
 use borrow.Author.Tests.{lt-ltb, le-ltb}
 use Rattle.answer.specs.Result.{Result, accepted, refused, and_then, Check, fine}
 use Rattle.generalized.specs.Explore.{find, meet, Numbering, meet_all, Walk, explore}
-use Rattle.generalized.proofs.Lists.{drop-next}
+use Rattle.generalized.proofs.Lists.{drop_next}
 
 and_then_on : {A : Type 0} (a : Check) (b : Result A) (next : A → Result A)
     → and_then a (λ _. and_then b next) ≡ and_then (and_then a (λ _. b)) next
@@ -40,14 +40,14 @@ module _ {A : Type 0} (same : A → A → Bool) where
       pub seek_finds : same x (get_or xs i d) ≡ true → i ≡ find same x (take n xs)
       unfolding find
       seek_finds e =
-          let here : find same x (drop i (take n xs)) ≡ 0 = rw (drop-next d xs n i le lt, e, find) in
+          let here : find same x (drop i (take n xs)) ≡ 0 = rw (drop_next d xs n i le lt, e, find) in
           omega (arith, inv.left)
 
       pub seek_steps : same x (get_or xs i d) ≡ false → Seeking x xs n (i + 1)
       unfolding find
       seek_steps e =
           let later : find same x (drop i (take n xs)) ≡ suc (find same x (drop (suc i) (take n xs))) =
-          rw (drop-next d xs n i le lt, e, find) in
+          rw (drop_next d xs n i le lt, e, find) in
           record { within = omega arith; left = rw add-one (omega (arith, inv.left)) }
 
   module _ (limit full place : ℕ) (x : A) (xs : List A) where
@@ -58,18 +58,18 @@ module _ {A : Type 0} (same : A → A → Bool) where
     unfolding meet
     meet_seen lt = rw (lt-ltb (find same x xs) (length xs) lt, meet)
 
-    pub meet-next : length xs ≤ find same x xs → length xs < limit → met ≡ accepted (xs ++ (x ∷ []))
+    pub meet_next : length xs ≤ find same x xs → length xs < limit → met ≡ accepted (xs ++ (x ∷ []))
     unfolding meet
-    meet-next le lt = rw (le-ltb (find same x xs) (length xs) le, lt-ltb (length xs) limit lt, meet)
+    meet_next le lt = rw (le-ltb (find same x xs) (length xs) le, lt-ltb (length xs) limit lt, meet)
 
     pub meet_full : length xs ≤ find same x xs → limit ≤ length xs → met ≡ refused full place
     unfolding meet
     meet_full le l = rw (le-ltb (find same x xs) (length xs) le, le-ltb (length xs) limit l, meet)
 
 module _ {A : Type 0} (n : Numbering A) where
-  pub all-met : (place count : ℕ) (xs : List A) → meet_all n place [] count xs ≡ accepted xs
+  pub all_met : (place count : ℕ) (xs : List A) → meet_all n place [] count xs ≡ accepted xs
   unfolding meet_all
-  all-met place count xs = refl
+  all_met place count xs = refl
 
   -- the targets of a state, of which y is the next
   module _ (place : ℕ) (y : A) (ys : List A) (count : ℕ) (xs : List A) where
@@ -87,10 +87,10 @@ module _ {A : Type 0} (n : Numbering A) where
     unfolding meet_all
     all_full e f = rw (e, f)
 
-    pub all-next : {more : List A} → n.each place count ≡ fine → first ≡ accepted more
+    pub all_next : {more : List A} → n.each place count ≡ fine → first ≡ accepted more
         → all ≡ meet_all n place ys (suc count) more
     unfolding meet_all
-    all-next e f = rw (e, f)
+    all_next e f = rw (e, f)
 
 module _ {A : Type 0} (w : Walk A) where
   pub explore_ends : (fuel place count : ℕ) (xs : List A) → length xs ≤ place
@@ -114,9 +114,9 @@ module _ {A : Type 0} (w : Walk A) where
     unfolding explore
     explore_is lt = rw (lt-ltb place (length xs) lt, explore) (and_then_on (w.before place here) _ _)
 
-    pub explore-next : {ys : List A} → place < length xs → taken ≡ accepted ys
+    pub explore_next : {ys : List A} → place < length xs → taken ≡ accepted ys
         → explore w (suc fuel) place count xs ≡ rest ys
-    explore-next lt e = explore_is lt ∙ rw e
+    explore_next lt e = explore_is lt ∙ rw e
 
     pub explore_refused : {number at : ℕ} → place < length xs → taken ≡ refused number at
         → explore w (suc fuel) place count xs ≡ refused number at

@@ -11,21 +11,21 @@ use Rattle.sets.specs.Sets.{In}
 use Rattle.sets.proofs.Members.{append_in}
 use Rattle.term.specs.Term.{Term}
 use Rattle.term.specs.Size.{sizes_checked}
-use Rattle.term.proofs.Sizes.{bytes-fine}
+use Rattle.term.proofs.Sizes.{bytes_fine}
 use Rattle.term.proofs.Packing.{Bytes}
 use Rattle.acceptance.specs.Acceptance.{fulfilment}
-use Rattle.acceptance.proofs.Bits.{fulfilment-byte}
+use Rattle.acceptance.proofs.Bits.{fulfilment_byte}
 use Rattle.generalized.specs.Explore.{find}
 use Rattle.generalized.specs.Generalized.{transitions}
 use Rattle.generalized.specs.Memory.{kept, kept_target, kept_untils, kept_must, kept_must_not, all_transitions}
-use Rattle.generalized.proofs.Sifting.{transitions-bytes}
+use Rattle.generalized.proofs.Sifting.{transitions_bytes_lem}
 
-all-bytes : (rule : List ℕ) → sizes_checked rule ≡ fine → (xs : List ℕ) (t : Term) → In t (all_transitions rule xs)
+all_bytes : (rule : List ℕ) → sizes_checked rule ≡ fine → (xs : List ℕ) (t : Term) → In t (all_transitions rule xs)
     → Bytes t
 unfolding all_transitions
-all-bytes rule passed [] t h = absurd h
-all-bytes rule passed (x ∷ xs) t h =
-    ⊎_elim (transitions-bytes rule passed x t) (all-bytes rule passed xs t)
+all_bytes rule passed [] t h = absurd h
+all_bytes rule passed (x ∷ xs) t h =
+    ⊎_elim (transitions_bytes_lem rule passed x t) (all_bytes rule passed xs t)
     (append_in t (transitions rule x) (all_transitions rule xs) h)
 
 pub record Parts (rule states : List ℕ) (t : Term) : Type 0 where
@@ -38,8 +38,8 @@ pub record Parts (rule states : List ℕ) (t : Term) : Type 0 where
 pub kept_parts : (rule : List ℕ) → sizes_checked rule ≡ fine → (xs states : List ℕ) (t : Term)
     → In t (all_transitions rule xs) → Parts rule states t
 kept_parts rule passed xs states t h =
-    let small = all-bytes rule passed xs t h in
-    let byte = fulfilment-byte rule (bytes-fine rule passed) t in
+    let small = all_bytes rule passed xs t h in
+    let byte = fulfilment_byte rule (bytes_fine rule passed) t in
     record {
       target = omega (arith, small.must, small.must_not, byte);
       untils = omega (arith, small.must, small.must_not, byte);

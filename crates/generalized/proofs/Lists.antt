@@ -7,6 +7,6 @@ use lib.ListN.{length, get_or, take, drop}
 use lib.Seq.{length-take-le, drop-cons, get_or-take}
 
 -- what is left at i of the first n of xs
-pub drop-next : {A : Type 0} (d : A) (xs : List A) (n i : ℕ) → n ≤ length xs → i < n
+pub drop_next : {A : Type 0} (d : A) (xs : List A) (n i : ℕ) → n ≤ length xs → i < n
     → drop i (take n xs) ≡ get_or xs i d ∷ drop (suc i) (take n xs)
-drop-next d xs n i le lt = drop-cons (take n xs) i d (rw (length-take-le n xs le) lt) ∙ rw (get_or-take n xs i d lt)
+drop_next d xs n i le lt = drop-cons (take n xs) i d (rw (length-take-le n xs le) lt) ∙ rw (get_or-take n xs i d lt)

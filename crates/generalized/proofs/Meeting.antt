@@ -24,10 +24,10 @@ use Rattle.generalized.specs.Explore.{find, meet}
 use Rattle.generalized.specs.Generalized.{transition_check, state_numbering}
 use Rattle.generalized.specs.Memory.{kept_n, kept, ListedKept, OwnNumber, NumberedState, MeetsState}
 use Rattle.generalized.specs.Memory.{WalkRoom, meet_targets, Told, MeetsAll}
-use Rattle.generalized.proofs.Lists.{drop-next}
-use Rattle.generalized.proofs.Exploring.{all_refused, all_full, all-next, all-met}
+use Rattle.generalized.proofs.Lists.{drop_next}
+use Rattle.generalized.proofs.Exploring.{all_refused, all_full, all_next, all_met}
 use Rattle.generalized.proofs.Explored.{find_at}
-use Rattle.generalized.proofs.Numbers.{listed_on, listed-none, listed-one, listed_both}
+use Rattle.generalized.proofs.Numbers.{listed_on, listed_none, listed_one, listed_both}
 
 -- a loop over the first count of ts that stands at i: the rest of them, met now, comes to what all come to, and those
 -- before i are in the table behind the total that were there before; last is the number of the one met last
@@ -50,9 +50,9 @@ own_first (suc n) [] lt = refl
 own_first (suc n) (x ∷ xs) lt = rw (eq-eqb x x refl, find)
 
 -- the number with which x was met
-own-met : (x : ℕ) {xs : List ℕ} {met : Result (List ℕ)} (number n : ℕ) (items : List ℕ)
+own_met : (x : ℕ) {xs : List ℕ} {met : Result (List ℕ)} (number n : ℕ) (items : List ℕ)
     → NumberedState x xs met number n items → OwnNumber number n items
-own-met x number n items m lt =
+own_met x number n items m lt =
     let here : length (take n items) ≡ n = length-take-le n items m.fits in
     let found = find_at eqb eqb-true 0 x (take n items) (omega (arith, here, m.found, m.inside)) in
     let is : get_or items number 0 ≡ x = sym (get_or-take n items number 0 lt) ∙ rw m.found found in
@@ -67,7 +67,7 @@ meeting_begins {before = before} {states₀ = states₀} room = record {
   own = own_first before.states states₀;
   left = rw add-zero;
   same = refl;
-  listed = λ rule told. listed-none;
+  listed = λ rule told. listed_none;
 }
 
 module _ {ts bytes : List ℕ} {count place : ℕ} {before : Extent}
@@ -92,7 +92,7 @@ module _ {ts bytes : List ℕ} {count place : ℕ} {before : Extent}
       let left = rw none at inv.left in
       let all : length (map unpack (take count ts)) ≡ count = length-map (take count ts) unpack ∙ size in
       record {
-        are = sym left ∙ all-met state_numbering place (total + i) (take seen states);
+        are = sym left ∙ all_met state_numbering place (total + i) (take seen states);
         few = inv.room.few;
         counted = rw all;
         fits = omega (arith, inv.room.fits);
@@ -106,7 +106,7 @@ module _ {ts bytes : List ℕ} {count place : ℕ} {before : Extent}
 
     left_is : meet_targets place (unpack t ∷ map unpack (drop (suc i) (take count ts))) (total + i) (take seen states)
         ≡ whole
-    left_is = rw (drop-next 0 ts count i few lt) at inv.left
+    left_is = rw (drop_next 0 ts count i few lt) at inv.left
 
     pub meeting_late : max_generalized_transitions ≤ total + i → whole ≡ refused 22 place
     meeting_late ge =
@@ -163,14 +163,14 @@ module _ {ts bytes : List ℕ} {count place : ℕ} {before : Extent}
                   transitions_room = length-set transitions (total + i) x ∙ inv.room.transitions_room;
                   fits = omega arith;
                 };
-                own = own-met (obligations_n t) target more after met;
+                own = own_met (obligations_n t) target more after met;
                 left = rw (up, add-one)
-                    (sym (all-next state_numbering place _ _ _ _ in_time known) ∙ left_is);
+                    (sym (all_next state_numbering place _ _ _ _ in_time known) ∙ left_is);
                 same = take-set-le total transitions (total + i) x (omega arith) ∙ inv.same;
                 listed = λ rule told.
                     let is : x ≡ kept rule (take more after) (unpack t) =
                     e ∙ rw (met.found, byte_is bytes-few rule told) in
-                    let one = listed-one {rule = rule} {xs = take more after} (unpack t)
+                    let one = listed_one {rule = rule} {xs = take more after} (unpack t)
                     (omega (arith, here, met.found, met.inside)) in
                     let taken = take-suc ts i 0 (omega arith) in
                     let both = map-append unpack (take i ts) (t ∷ []) in

@@ -16,10 +16,10 @@ use Rattle.generalized.specs.Memory.{kept, ListedKept}
 
 module _ {A : Type 0} (same : A → A → Bool) where
   -- one that is found stays where it is
-  pub find-stays : (x : A) (xs ys : List A) → find same x xs < length xs → find same x (xs ++ ys) ≡ find same x xs
+  pub find_stays : (x : A) (xs ys : List A) → find same x xs < length xs → find same x (xs ++ ys) ≡ find same x xs
   unfolding find
-  find-stays x [] ys lt = absurd (omega arith)
-  find-stays x (y ∷ xs) ys lt = go (same x y) lt (λ l. find-stays x xs ys l)
+  find_stays x [] ys lt = absurd (omega arith)
+  find_stays x (y ∷ xs) ys lt = go (same x y) lt (λ l. find_stays x xs ys l)
     where
       place : Bool → ℕ → ℕ
       place b k = elim b [ true ↦ 0 | false ↦ suc k ]
@@ -31,11 +31,11 @@ module _ {A : Type 0} (same : A → A → Bool) where
       go false l stays = ap suc (stays (omega arith))
 
   -- an unseen one takes the next number
-  pub find-next : (x : A) (xs : List A) → same x x ≡ true → length xs ≤ find same x xs
+  pub find_next : (x : A) (xs : List A) → same x x ≡ true → length xs ≤ find same x xs
       → find same x (xs ++ (x ∷ [])) ≡ length xs
   unfolding find
-  find-next x [] self le = rw (self, find)
-  find-next x (y ∷ xs) self le = go (same x y) le (λ l. find-next x xs self l)
+  find_next x [] self le = rw (self, find)
+  find_next x (y ∷ xs) self le = go (same x y) le (λ l. find_next x xs self l)
     where
       go : (b : Bool) → suc (length xs) ≤ elim b [ true ↦ 0 | false ↦ suc (find same x xs) ]
           → (length xs ≤ find same x xs → find same x (xs ++ (x ∷ [])) ≡ length xs)
@@ -49,7 +49,7 @@ module _ (xs ys : List ℕ) (first : take (length xs) ys ≡ xs) where
   parts = sym (take-append-drop (length xs) ys) ∙ rw first
 
   same_number : (x : ℕ) → find eqb x xs < length xs → find eqb x ys ≡ find eqb x xs
-  same_number x lt = ap (find eqb x) parts ∙ find-stays eqb x xs (drop (length xs) ys) lt
+  same_number x lt = ap (find eqb x) parts ∙ find_stays eqb x xs (drop (length xs) ys) lt
 
   kept_same : (rule : List ℕ) (ts : List Term)
       → ((t : Term) → In t ts → find eqb t.obligations xs < length xs)
@@ -67,12 +67,12 @@ module _ (xs ys : List ℕ) (first : take (length xs) ys ≡ xs) where
   }
 
 module _ {rule xs : List ℕ} where
-  pub listed-none : ListedKept rule xs [] []
-  listed-none = record { numbers = refl; found = λ t h. absurd h }
+  pub listed_none : ListedKept rule xs [] []
+  listed_none = record { numbers = refl; found = λ t h. absurd h }
 
-  pub listed-one : (t : Term) → find eqb t.obligations xs < length xs
+  pub listed_one : (t : Term) → find eqb t.obligations xs < length xs
       → ListedKept rule xs (t ∷ []) (kept rule xs t ∷ [])
-  listed-one t lt = record {
+  listed_one t lt = record {
     numbers = refl;
     found = all_one (λ (u : Term). find eqb u.obligations xs < length xs) t lt;
   }

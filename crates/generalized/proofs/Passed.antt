@@ -8,7 +8,7 @@ use lib.ListN.{length}
 use borrow.Author.Tests.{leb-true}
 use Rattle.answer.specs.Result.{fine}
 use Rattle.answer.proofs.Lowest.{lowest_each}
-use Rattle.answer.proofs.Results.{require-fine}
+use Rattle.answer.proofs.Results.{require_fine}
 use Rattle.formula.specs.Limits.{max_nodes}
 use Rattle.formula.specs.Rule.{node_count, root}
 use Rattle.formula.specs.Formula.{tree, formula, InRange}
@@ -17,7 +17,7 @@ use Rattle.formula.proofs.Trees.{accepted_in_range}
 use Rattle.term.specs.Limits.{max_terms}
 use Rattle.term.specs.Term.{cover}
 use Rattle.term.specs.Size.{size_check, sizes_checked}
-use Rattle.term.proofs.Sizes.{Few, few_fine, bytes-fine, sizes-fine}
+use Rattle.term.proofs.Sizes.{Few, few_fine, bytes_fine, sizes_fine}
 use Rattle.domination.specs.Domination.{dominates, stays}
 use Rattle.domination.proofs.Undominated.{sift_short}
 use Rattle.generalized.specs.Limits.{max_product}
@@ -25,17 +25,17 @@ use Rattle.generalized.specs.Generalized.{partial_product, state_terms, transiti
 
 module _ (rule : List ℕ) (passed : sizes_checked rule ≡ fine) where
   pub some_nodes : 0 < node_count rule
-  some_nodes = (accepted_fine rule (bytes-fine rule passed)).some
+  some_nodes = (accepted_fine rule (bytes_fine rule passed)).some
 
   pub most_nodes : node_count rule ≤ max_nodes
-  most_nodes = omega (arith, (accepted_fine rule (bytes-fine rule passed)).most)
+  most_nodes = omega (arith, (accepted_fine rule (bytes_fine rule passed)).most)
 
   module _ (k : ℕ) (lt : k < node_count rule) where
     pub few : Few rule k
-    few = few_fine rule k (lowest_each (size_check rule) (node_count rule) (sizes-fine rule passed) k lt)
+    few = few_fine rule k (lowest_each (size_check rule) (node_count rule) (sizes_fine rule passed) k lt)
 
     pub in_range : InRange (tree rule k)
-    in_range = accepted_in_range rule (bytes-fine rule passed) k lt
+    in_range = accepted_in_range rule (bytes_fine rule passed) k lt
 
   -- the root's cover, with which the walk begins
   pub initial_few : length (cover (formula rule)) ≤ max_terms
@@ -48,7 +48,7 @@ module _ (rule : List ℕ) (passed : sizes_checked rule ≡ fine) where
   unfolding product_check transitions
   few_transitions place state e =
       let last : suc (root rule) ≡ node_count rule = omega (arith, some_nodes) in
-      let fits = require-fine _ 21 place (lowest_each _ (node_count rule) e (root rule) (omega (arith, some_nodes))) in
+      let fits = require_fine _ 21 place (lowest_each _ (node_count rule) e (root rule) (omega (arith, some_nodes))) in
       let terms : length (state_terms rule state) ≤ max_product =
       rw (← last) (leb-true (length (partial_product rule state (suc (root rule)))) max_product fits) in
       omega (arith, sift_short (stays (dominates rule) (state_terms rule state)) (state_terms rule state))

@@ -24,9 +24,9 @@ use Rattle.sets.proofs.Rising.{Rising, Consistent, product_rises}
 use Rattle.term.specs.Term.{Term, terms}
 use Rattle.term.specs.Size.{sizes_checked}
 use Rattle.term.specs.Memory.{pack, row_of, TermRow, TermTable}
-use Rattle.term.proofs.Packing.{Numbers, of-terms, numbers_are, canonical}
-use Rattle.term.proofs.Packing.{product-numbers, conflicts-numbers, owing_numbers, terms-numbers}
-use Rattle.term.proofs.Rising.{terms_rise, product-one, product-one_apart}
+use Rattle.term.proofs.Packing.{Numbers, of_terms, numbers_are, canonical}
+use Rattle.term.proofs.Packing.{product_numbers, conflicts_numbers, owing_numbers, terms_numbers}
+use Rattle.term.proofs.Rising.{terms_rise, product_one, product_one_apart}
 use Rattle.term.proofs.Rows.{row_is, row_fits}
 use Rattle.generalized.specs.Limits.{max_product}
 use Rattle.generalized.specs.Generalized.{times, partial_product, partial_conflicts, product_check}
@@ -35,25 +35,25 @@ use Rattle.generalized.proofs.Passed.{few, in_range}
 
 -- ts are terms whose must and mustNot are bytes
 abbrev pub Packed : List Term → Type 0
-Packed ts = Numbers of-terms ts (map pack ts)
+Packed ts = Numbers of_terms ts (map pack ts)
 
-times-packed : (b : Bool) {ts us : List Term} → Packed ts → Packed us → Packed (times b ts us)
-times-packed true p t = canonical of-terms (product-numbers of-terms p t)
-times-packed false p t = p
+times_packed : (b : Bool) {ts us : List Term} → Packed ts → Packed us → Packed (times b ts us)
+times_packed true p t = canonical of_terms (product_numbers of_terms p t)
+times_packed false p t = p
 
 pub partial_packed : (rule : List ℕ) (state n : ℕ) → ((k : ℕ) → k < n → InRange (tree rule k))
     → Packed (partial_product rule state n)
 unfolding partial_product
 partial_packed rule state zero ranges = owing_numbers (0 ∷ [])
 partial_packed rule state (suc n) ranges =
-    times-packed (has state n) (partial_packed rule state n (λ k lt. ranges k (omega arith)))
-    (terms-numbers (tree rule n) (ranges n (omega arith)))
+    times_packed (has state n) (partial_packed rule state n (λ k lt. ranges k (omega arith)))
+    (terms_numbers (tree rule n) (ranges n (omega arith)))
 
 -- their numbers rise
 times_rises : (b : Bool) {ts us : List Term} → Packed ts → Packed us → Rising Consistent 0 (map pack ts)
     → Rising Consistent 0 (map pack us) → Rising Consistent 0 (map pack (times b ts us))
 times_rises true p t rise own =
-    rw (← (numbers_are of-terms (product-numbers of-terms p t)))
+    rw (← (numbers_are of_terms (product_numbers of_terms p t)))
     (product_rises Consistent (λ x y c d e. e) 0 0 _ _ _ rise own tt)
 times_rises false p t rise own = rise
 
@@ -63,7 +63,7 @@ unfolding partial_product
 partial_rises rule state zero ranges = (omega arith, refl, tt)
 partial_rises rule state (suc n) ranges =
     times_rises (has state n) (partial_packed rule state n (λ k lt. ranges k (omega arith)))
-    (terms-numbers (tree rule n) (ranges n (omega arith)))
+    (terms_numbers (tree rule n) (ranges n (omega arith)))
     (partial_rises rule state n (λ k lt. ranges k (omega arith)))
     (terms_rise (tree rule n) (ranges n (omega arith)))
 
@@ -73,8 +73,8 @@ pub factor_of : (rule table : List ℕ) (k : ℕ) → sizes_checked rule ≡ fin
 factor_of rule table k passed is lt = record {
   inside = omega (arith, row_fits is k lt);
   few = omega (arith, (is.rows k lt).count, (few rule passed k lt).terms);
-  alone = rw (row_is (is.rows k lt)) (product-one (tree rule k) (in_range rule passed k lt));
-  apart = rw (row_is (is.rows k lt)) (product-one_apart (tree rule k) (in_range rule passed k lt));
+  alone = rw (row_is (is.rows k lt)) (product_one (tree rule k) (in_range rule passed k lt));
+  apart = rw (row_is (is.rows k lt)) (product_one_apart (tree rule k) (in_range rule passed k lt));
 }
 
 -- 21 for the product over the obligations up to n
@@ -154,21 +154,21 @@ module _ {rule : List ℕ} {state n : ℕ} {items next : List ℕ} {count droppe
       before = partial_packed rule state k (λ j l. ranges j (omega arith))
 
       factor : Packed (terms (tree rule k))
-      factor = terms-numbers (tree rule k) (ranges k lt)
+      factor = terms_numbers (tree rule k) (ranges k lt)
 
       next_is : Stores after r.count (map pack further)
       unfolding partial_product
       next_is =
-          rw (own, ← numbers_are of-terms (product-numbers of-terms before factor), ← inv.are, ← row_is row)
+          rw (own, ← numbers_are of_terms (product_numbers of_terms before factor), ← inv.are, ← row_is row)
           turn.stores
 
-      next-conflicts : bit_or dropped r.conflicts ≡ partial_conflicts rule state (suc k)
+      next_conflicts : bit_or dropped r.conflicts ≡ partial_conflicts rule state (suc k)
       unfolding partial_conflicts
-      next-conflicts =
-          rw (own, ← conflicts-numbers before factor, ← inv.are, ← row_is row, inv.conflicts, turn.conflicts)
+      next_conflicts =
+          rw (own, ← conflicts_numbers before factor, ← inv.are, ← row_is row, inv.conflicts, turn.conflicts)
 
-      next-count : r.count ≡ min (suc max_product) (length further)
-      next-count = omega (arith, next_is.count, size, inv.room.room, length-map further pack)
+      next_count : r.count ≡ min (suc max_product) (length further)
+      next_count = omega (arith, next_is.count, size, inv.room.room, length-map further pack)
 
       pub multiply_steps : {beside : List ℕ} → length beside ≡ length next → r.count ≤ max_product
           → Multiplying rule state n after beside r.count (bit_or dropped r.conflicts) (k + 1)
@@ -178,8 +178,8 @@ module _ {rule : List ℕ} {state n : ℕ} {items next : List ℕ} {count droppe
         room = record { room = size ∙ inv.room.room; beside = same ∙ inv.room.beside };
         fits = le;
         are = rw add-one (items_are next_is (omega (arith, size, inv.room.room)));
-        conflicts = rw add-one next-conflicts;
-        passed = passed_on (omega (arith, next-count));
+        conflicts = rw add-one next_conflicts;
+        passed = passed_on (omega (arith, next_count));
       }
 
       pub multiply_over : n ≡ node_count rule → max_product < r.count → StateProduct rule state after r
@@ -190,7 +190,7 @@ module _ {rule : List ℕ} {state n : ℕ} {items next : List ℕ} {count droppe
           terms = λ le. absurd (omega arith);
           over = λ _ place. rw (← e)
               (sym (pass_fails (partial_check rule state place) n k lt (inv.passed place)
-              (rw (lt-leb (length further) max_product (omega (arith, next-count))))));
+              (rw (lt-leb (length further) max_product (omega (arith, next_count))))));
         };
         conflicts = λ le. absurd (omega arith);
       }

@@ -14,13 +14,13 @@ use Rattle.sets.proofs.Rising.{Consistent, rising_at}
 use Rattle.term.specs.Term.{Term}
 use Rattle.term.specs.Size.{sizes_checked}
 use Rattle.term.specs.Memory.{unpack}
-use Rattle.term.proofs.Packing.{Bytes, numbers-bytes}
-use Rattle.term.proofs.Unpacking.{unpack-all}
+use Rattle.term.proofs.Packing.{Bytes, numbers_bytes}
+use Rattle.term.proofs.Unpacking.{unpack_all}
 use Rattle.acceptance.specs.Acceptance.{fulfilment}
 use Rattle.domination.specs.Domination.{dominates, stays}
 use Rattle.domination.specs.Memory.{Sorted, Sifted, Drops}
 use Rattle.domination.proofs.Undominated.{sift_in}
-use Rattle.domination.proofs.Packed.{untils_n, undominated-packed}
+use Rattle.domination.proofs.Packed.{untils_n, undominated_packed}
 use Rattle.generalized.specs.Limits.{max_product}
 use Rattle.generalized.specs.Generalized.{state_terms, transitions}
 use Rattle.generalized.specs.Memory.{Product, Told}
@@ -28,18 +28,18 @@ use Rattle.generalized.proofs.Passed.{in_range}
 use Rattle.generalized.proofs.Products.{partial_packed, partial_rises}
 
 -- a state's transitions are terms of it
-pub transitions-terms : (rule : List ℕ) (state : ℕ) (t : Term) → In t (transitions rule state)
+pub transitions_terms : (rule : List ℕ) (state : ℕ) (t : Term) → In t (transitions rule state)
     → In t (state_terms rule state)
 unfolding transitions
-transitions-terms rule state t m =
+transitions_terms rule state t m =
     (sift_in (stays (dominates rule) (state_terms rule state)) t (state_terms rule state) m).0
 
 module _ (rule : List ℕ) (passed : sizes_checked rule ≡ fine) (state : ℕ) where
-  terms-bytes : All Bytes (state_terms rule state)
-  terms-bytes = numbers-bytes (partial_packed rule state (node_count rule) (in_range rule passed))
+  terms_bytes : All Bytes (state_terms rule state)
+  terms_bytes = numbers_bytes (partial_packed rule state (node_count rule) (in_range rule passed))
 
-  pub transitions-bytes : All Bytes (transitions rule state)
-  transitions-bytes t m = terms-bytes t (transitions-terms rule state t m)
+  pub transitions_bytes_lem : All Bytes (transitions rule state)
+  transitions_bytes_lem t m = terms_bytes t (transitions_terms rule state t m)
 
   module _ {items bytes : List ℕ} {count : ℕ} (product : Product rule state items count) (le : count ≤ max_product) where
     pub terms_sorted : count ≤ length items → count ≤ length bytes → Sorted items bytes count
@@ -61,8 +61,8 @@ module _ (rule : List ℕ) (passed : sizes_checked rule ≡ fine) (state : ℕ) 
       pub left_are : map unpack (take n items') ≡ transitions rule state
       unfolding transitions
       left_are =
-          rw (sifted.are, product.terms le, undominated-packed rule (state_terms rule state) terms-bytes)
-          (unpack-all (transitions rule state) transitions-bytes)
+          rw (sifted.are, product.terms le, undominated_packed rule (state_terms rule state) terms_bytes)
+          (unpack_all (transitions rule state) transitions_bytes_lem)
 
-      pub left-told : Told rule items' bytes' n
-      left-told = sifted.told ∙ sym (map-map (fulfilment rule) unpack (take n items'))
+      pub left_told : Told rule items' bytes' n
+      left_told = sifted.told ∙ sym (map-map (fulfilment rule) unpack (take n items'))

@@ -27,10 +27,10 @@ use Rattle.generalized.specs.Generalized.{transitions, product_check, targets, s
 use Rattle.generalized.specs.Generalized.{state_conflicts, walk_conflicts}
 use Rattle.generalized.specs.Memory.{ProductRoom, Product, ListedKept, WalkRoom, meet_targets, Added, AddsTransitions, Told}
 use Rattle.generalized.specs.Memory.{MeetsAll, all_transitions, WalkPlaces, Walks}
-use Rattle.generalized.proofs.Exploring.{explore-next, explore_refused, explore_ends}
+use Rattle.generalized.proofs.Exploring.{explore_next, explore_refused, explore_ends}
 use Rattle.generalized.proofs.Explored.{Extends, extends_longer, all_grows}
-use Rattle.generalized.proofs.Sifting.{left_are, left-told}
-use Rattle.generalized.proofs.Numbers.{listed_on, listed-none, listed_both}
+use Rattle.generalized.proofs.Sifting.{left_are, left_told}
+use Rattle.generalized.proofs.Numbers.{listed_on, listed_none, listed_both}
 
 -- the transitions of the state at place among xs
 abbrev transitions_of : (rule xs : List ℕ) (place : ℕ) → List Term
@@ -58,7 +58,7 @@ module _ (rule states : List ℕ) (place : ℕ) (before : Extent) (lt : place < 
         (walk_state rule place before.transitions (take before.states states)) step states' transitions'
     state_adds transitions₀ step states' transitions' turn =
         let are = left_are rule passed (get_or states place 0) product le told drops in
-        let own = left-told rule passed (get_or states place 0) product le told drops in
+        let own = left_told rule passed (get_or states place 0) product le told drops in
         rw (get_or-take before.states states place 0 lt, product.checked le place) (rw are at (turn rule own))
 
 -- the walk of a state only adds states
@@ -135,7 +135,7 @@ walk_begins states transitions ends n is le room = record {
   ends_room = room.ends_room;
   counted = refl;
   left = rw is;
-  listed = listed-none;
+  listed = listed_none;
   ending = λ k lt. absurd (omega arith);
   conflicts = refl;
 }
@@ -184,8 +184,8 @@ module _ {rule : List ℕ} {initial : ℕ} {states transitions ends : List ℕ} 
         ∙ rw fuel
         (explore_refused (state_walk rule) (max_generalized_states - suc place) place total xs inside e)
 
-    pub walk-over : max_product < many → generalized rule ≡ refused 21 place
-    walk-over over = refused_here (state_refused rule states place size lt items many product over)
+    pub walk_over : max_product < many → generalized rule ≡ refused 21 place
+    walk_over over = refused_here (state_refused rule states place size lt items many product over)
 
     module _ (passed : sizes_checked rule ≡ fine) (le : many ≤ max_product) {bytes : List ℕ}
         (told : Told rule items bytes many) {items' bytes' : List ℕ} {n : ℕ}
@@ -236,7 +236,7 @@ module _ {rule : List ℕ} {initial : ℕ} {states transitions ends : List ℕ} 
         left_now : generalized rule ≡ rest rule (suc place) end ys
         unfolding targets
         left_now =
-            let next = explore-next (state_walk rule) (max_generalized_states - suc place) place total xs inside added.are in
+            let next = explore_next (state_walk rule) (max_generalized_states - suc place) place total xs inside added.are in
             inv.left ∙ rw (fuel, next, get_or-take size.states states place 0 lt, count_is)
 
         listed_now : ListedKept rule ys (all_transitions rule (take (suc place) ys)) (take end transitions')

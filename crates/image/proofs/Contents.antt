@@ -7,7 +7,7 @@ use lib.ListN.{length, take, drop}
 use lib.Dec.{leb}
 use borrow.Author.Tests.{eqb-true}
 use Rattle.answer.specs.Result.{Result, accepted, refused, and_then, Check, fine}
-use Rattle.answer.proofs.Results.{never_both, require-fine}
+use Rattle.answer.proofs.Results.{never_both, require_fine}
 use Rattle.automaton.specs.Automaton.{Automaton}
 use Rattle.automaton.specs.Tables.{Counts, counts}
 use Rattle.answer.specs.Bytes.{number_at}
@@ -18,7 +18,7 @@ use Rattle.image.specs.Lookup.{image_automaton}
 use Rattle.image.specs.Calls.{checks}
 use Rattle.image.specs.Memory.{Small, Sized}
 use Rattle.image.proofs.Before.{follows, Passes, refuses}
-use Rattle.image.proofs.Stores.{part-whole}
+use Rattle.image.proofs.Stores.{part_whole}
 use Rattle.image.proofs.Tests.{counts_small}
 use Rattle.image.proofs.Tables.{counts_back}
 
@@ -33,10 +33,10 @@ pub record Contents (image : List ℕ) : Type 0 where
   pub offset₃ : number_at image 16 ≡ initial_at (counts_at image)
   pub size : length image ≡ image_length (counts_at image)
 
-pub contents-fine : (image : List ℕ) → contents_check image ≡ fine → Contents image
+pub contents_fine : (image : List ℕ) → contents_check image ≡ fine → Contents image
 unfolding contents_check
-contents-fine image e =
-    let long = (and-eq-true_iff (leb contents_bytes (length image)) _).0 (require-fine _ 10 0 e) in
+contents_fine image e =
+    let long = (and-eq-true_iff (leb contents_bytes (length image)) _).0 (require_fine _ 10 0 e) in
     let kinds = (and-eq-true_iff _ _).0 long.1 in
     let kind = (and-eq-true_iff _ _).0 kinds.0 in
     let last = (and-eq-true_iff _ _).0 kind.1 in
@@ -58,12 +58,12 @@ contents-fine image e =
 -- parts that go to the end are what is left there
 pub parts_whole : (c : Counts) (image : List ℕ) (a b d : ℕ) {r : Check} → r ≡ records_check c (take (length image - a) (drop a image)) (take (length image - b) (drop b image)) (take (length image - d) (drop d image))
     → r ≡ records_check c (drop a image) (drop b image) (drop d image)
-parts_whole c image a b d e = rw (part-whole image a, part-whole image b, part-whole image d) at e
+parts_whole c image a b d e = rw (part_whole image a, part_whole image b, part_whole image d) at e
 
 -- what the code knows of an image that 10 does not refuse
 pub sized : {c : Counts} {image : List ℕ} → Passes (contents_check image) c (counts_at image) → Sized c image
 sized {c} {image} contents =
-    let fits = contents-fine image contents.passed in
+    let fits = contents_fine image contents.passed in
     rw contents.same (record { small = fits.small; size = fits.size })
 
 -- what decides on an image, in the order of the checks
@@ -111,9 +111,9 @@ pub record Checks (image : List ℕ) (c : Counts) : Type 0 where
   pub read : read_image image ≡ accepted automaton
   pub same : c ≡ counts_at image
 
-pub checks-of : (image : List ℕ) (c : Counts) → accepted c ≡ checks image → Checks image c
+pub checks_of : (image : List ℕ) (c : Counts) → accepted c ≡ checks image → Checks image c
 unfolding checks
-checks-of image c e = go (read_image image) refl e
+checks_of image c e = go (read_image image) refl e
   where
     go : (r : Result Automaton) → read_image image ≡ r → accepted c ≡ and_then r (λ a. accepted (counts a)) → Checks image c
     go (accepted a) p e =
@@ -123,9 +123,9 @@ checks-of image c e = go (read_image image) refl e
         record { automaton = a; read = p; same = counted ∙ ap counts parts.automaton ∙ back }
     go (refused number place) p e = never_both (sym e)
 
-pub checks-sized : (image : List ℕ) (c : Counts) → accepted c ≡ checks image → Sized c image
-checks-sized image c e =
-    let found = checks-of image c e in
+pub checks_sized : (image : List ℕ) (c : Counts) → accepted c ≡ checks image → Sized c image
+checks_sized image c e =
+    let found = checks_of image c e in
     sized (record { passed = (read_of image found.automaton found.read).contents; same = found.same })
 
 pub checks_refused : (image : List ℕ) {number place : ℕ} → refused number place ≡ checks image → read_image image ≡ refused number place

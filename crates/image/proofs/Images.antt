@@ -18,7 +18,7 @@ use Rattle.image.specs.Image.{states_body, transitions_body, initial_body}
 use Rattle.image.specs.Reader.{counts_at, counts_fit, contents_check, read_tables, read_bodies, read_image}
 use Rattle.image.specs.Memory.{joined_bodies}
 use Rattle.image.proofs.Contents.{Contents}
-use Rattle.image.proofs.Sizes.{row-size}
+use Rattle.image.proofs.Sizes.{row_size}
 use Rattle.image.proofs.ReadRecords.{number_read}
 use Rattle.image.proofs.Tables.{Bytes, two_back, Passed}
 use Rattle.image.proofs.Agree.{front_agrees, tables_agree}
@@ -28,13 +28,13 @@ module _ (c : Counts) (s t i : List ℕ) where
   abbrev row : List ℕ
   row = contents c ++ (s ++ (t ++ i))
 
-  counts-again : counts_at row ≡ c
+  counts_again : counts_at row ≡ c
   unfolding contents entry two_bytes
-  counts-again = rw (number_read c.states, number_read c.transitions, number_read c.initial)
+  counts_again = rw (number_read c.states, number_read c.transitions, number_read c.initial)
 
-  contents-again : counts_fit c ≡ true → length row ≡ image_length c → contents_check row ≡ fine
+  contents_again : counts_fit c ≡ true → length row ≡ image_length c → contents_check row ≡ fine
   unfolding contents_check contents entry two_bytes
-  contents-again fit size =
+  contents_again fit size =
       let at₂ = eq-eqb (transitions_at c) (transitions_at c) refl in
       let at₃ = eq-eqb (initial_at c) (initial_at c) refl in
       let long = le-leb contents_bytes (length row) (rw size (omega arith)) in
@@ -47,31 +47,31 @@ module _ (c : Counts) (s t i : List ℕ) where
   bodies_again = refl
 
   module _ (es : length s ≡ 4 * c.states) (et : length t ≡ 4 * c.transitions) (ei : length i ≡ 2 * c.initial) where
-    transitions-again : drop (transitions_at c) row ≡ t ++ i
-    transitions-again =
+    transitions_again : drop (transitions_at c) row ≡ t ++ i
+    transitions_again =
         sym (drop-drop (4 * c.states) contents_bytes row)
         ∙ ap (drop (4 * c.states)) bodies_again
         ∙ drop_at s (t ++ i) (4 * c.states) es
 
-    initial-again : drop (initial_at c) row ≡ i
-    initial-again =
+    initial_again : drop (initial_at c) row ≡ i
+    initial_again =
         sym (drop-drop (4 * c.transitions) (transitions_at c) row)
-        ∙ ap (drop (4 * c.transitions)) transitions-again
+        ∙ ap (drop (4 * c.transitions)) transitions_again
         ∙ drop_at t i (4 * c.transitions) et
 
     -- are read as tables, each with what stands behind it
     pub row_read : counts_fit c ≡ true → read_image row ≡ read_tables c (s ++ (t ++ i)) (t ++ i) i
     unfolding read_image
-    row_read fit = rw (contents-again fit (row-size c s t i es et ei)) (same (counts_at row) counts-again)
+    row_read fit = rw (contents_again fit (row_size c s t i es et ei)) (same (counts_at row) counts_again)
       where
         same : (d : Counts) → d ≡ c → read_bodies d row ≡ read_tables c (s ++ (t ++ i)) (t ++ i) i
-        same d e = rw (e, bodies_again, transitions-again, initial-again)
+        same d e = rw (e, bodies_again, transitions_again, initial_again)
 
 -- contents and used bytes in a row are read as the tables are
 module _ (c : Counts) (s t i : List ℕ) (passed : Passed c s t i) where
-  pub joined-read : (a : Automaton) → counts_fit c ≡ true → read_tables c s t i ≡ accepted a
+  pub joined_read : (a : Automaton) → counts_fit c ≡ true → read_tables c s t i ≡ accepted a
       → read_image (joined_bodies c s t i) ≡ accepted a
-  joined-read a fit e =
+  joined_read a fit e =
       let us = take (4 * c.states) s in
       let vs = take (4 * c.transitions) t in
       let ws = take (2 * c.initial) i in

@@ -22,16 +22,16 @@ use Rattle.image.specs.Calls.{written, writes, loaded, read_into, checks}
 use Rattle.answer.specs.Buffer.{Buffer, buffer}
 use Rattle.image.specs.Memory.{joined_over, HasRecords, Loads, Small}
 use Rattle.image.proofs.Tests.{small_fits}
-use Rattle.image.proofs.Tables.{Bytes, drop-bytes, Passed, counts_back, states_back, transitions_back, initial_back, image_back, image_length_lem}
-use Rattle.image.proofs.Contents.{Contents, contents-fine, read_of, checks-of, checks_refused}
+use Rattle.image.proofs.Tables.{Bytes, drop_bytes, Passed, counts_back, states_back, transitions_back, initial_back, image_back, image_length_lem}
+use Rattle.image.proofs.Contents.{Contents, contents_fine, read_of, checks_of, checks_refused}
 
 module _ (s t i : List ℕ) where
   -- such tables have room for the records of counts that fit
   pub room_passed : (c : Counts) → Small c → TablesRoom s t i → Bytes s → Bytes t → Bytes i → records_check c s t i ≡ fine → Passed c s t i
   room_passed c small room bs bt bi checked = record {
-    state-bytes = bs;
-    transition-bytes = bt;
-    initial-bytes = bi;
+    state_bytes_lem = bs;
+    transition_bytes_lem = bt;
+    initial_bytes_lem = bi;
     state_room = omega (arith, small.states, room.states);
     transition_room = omega (arith, small.transitions, room.transitions);
     initial_room = omega (arith, small.initial, room.initial);
@@ -62,8 +62,8 @@ pub record Ready (c : Counts) (s t i image : List ℕ) : Type 0 where
   pub room : largest_image ≤ length image
 
 module _ {c : Counts} {s t i image : List ℕ} (ready : Ready c s t i image) where
-  pub has-records : HasRecords c s t i
-  has-records =
+  pub has_records : HasRecords c s t i
+  has_records =
       let small = ready.small in
       let tables = ready.tables in
       (small.states, omega arith, omega arith, omega arith)
@@ -93,11 +93,11 @@ pub record Writes (r : Result Automaton) (n : ℕ) (before after : List ℕ) : T
   pub size : n ≡ length (image_bytes automaton)
   pub bytes : after ≡ image_bytes automaton ++ drop (length (image_bytes automaton)) before
 
-pub writes-of : (r : Result Automaton) (n : ℕ) (before after : List ℕ) → written r before ≡ buffer (accepted n) after → Writes r n before after
-writes-of (accepted a) n before after e =
+pub writes_of : (r : Result Automaton) (n : ℕ) (before after : List ℕ) → written r before ≡ buffer (accepted n) after → Writes r n before after
+writes_of (accepted a) n before after e =
     let same : accepted (length (image_bytes a)) ≡ accepted n = ap (λ (b : Buffer). b.answer) e in
     record { automaton = a; answer = refl; size = cc; bytes = sym (ap (λ (b : Buffer). b.bytes) e) }
-writes-of (refused number place) n before after e = never_both (ap (λ (b : Buffer). b.answer) e)
+writes_of (refused number place) n before after e = never_both (ap (λ (b : Buffer). b.answer) e)
 
 pub written_front : {r : Result Automaton} {n : ℕ} {before after : List ℕ} (done : Writes r n before after) → take n after ≡ image_bytes done.automaton
 written_front {before = before} done =
@@ -133,9 +133,9 @@ pub body_passed : (image : List ℕ) → Contents image → Bytes image → bodi
 body_passed image contents bytes checked =
     let size = contents.size in
     record {
-      state-bytes = drop-bytes contents_bytes image bytes;
-      transition-bytes = drop-bytes (transitions_at (counts_at image)) image bytes;
-      initial-bytes = drop-bytes (initial_at (counts_at image)) image bytes;
+      state_bytes_lem = drop_bytes contents_bytes image bytes;
+      transition_bytes_lem = drop_bytes (transitions_at (counts_at image)) image bytes;
+      initial_bytes_lem = drop_bytes (initial_at (counts_at image)) image bytes;
       state_room = rw (length-drop contents_bytes image) (omega arith);
       transition_room = rw (length-drop (transitions_at (counts_at image)) image) (omega arith);
       initial_room = rw (length-drop (initial_at (counts_at image)) image) (omega arith);
@@ -159,9 +159,9 @@ module _ (image s t i : List ℕ) where
         → Loads image c s t i s₁ t₁ i₁ → outcome (accepted c) s₁ t₁ i₁ ≡ read_into image s t i
     unfolding read_into
     read_accepted {c} bytes e loads =
-        let found = checks-of image c e in
+        let found = checks_of image c e in
         let parts = read_of image found.automaton found.read in
-        let passed = body_passed image (contents-fine image parts.contents) bytes parts.bodies in
+        let passed = body_passed image (contents_fine image parts.contents) bytes parts.bodies in
         rw (loads.states_are, loads.transitions_are, loads.initial_are, fine_room s t i tables, found.read)
         (rw (parts.automaton, counts_back _ _ _ _ parts.bodies, states_back _ _ _ _ passed)
         (rw (transitions_back _ _ _ _ passed, initial_back _ _ _ _ passed, found.same)))

@@ -4,8 +4,8 @@ use mathlib.Core.List.{List}
 use Prim.Native.Nat.{ℕ, ◌<◌}
 use borrow.Author.Tests.{eqb-true, eq-eqb}
 use Rattle.answer.specs.Result.{Check, fine, lowest}
-use Rattle.answer.proofs.Lowest.{fine-first, fine_second, lowest_each, lowest-all}
-use Rattle.answer.proofs.Results.{then_accepted, require-fine}
+use Rattle.answer.proofs.Lowest.{fine_first, fine_second, lowest_each, lowest_all}
+use Rattle.answer.proofs.Results.{then_accepted, require_fine}
 use Rattle.automaton.specs.Tables.{Counts}
 use Rattle.image.specs.Reader.{state_check, state_pass, sum_check, states_check, transition_record_check, initial_check}
 use Rattle.image.specs.Reader.{count_sum, states_from, rest_check, rests_check, records_check}
@@ -26,7 +26,7 @@ states_fit c s e =
     (sym summed ∙ one_pass s c.states) in
     record {
       each = lowest_each (state_check s) c.states pass.passed;
-      sum = sym pass.same ∙ eqb-true sum c.transitions (require-fine _ 11 c.states agrees);
+      sum = sym pass.same ∙ eqb-true sum c.transitions (require_fine _ 11 c.states agrees);
     }
 
 pub record RecordsFit (c : Counts) (s t i : List ℕ) : Type 0 where
@@ -47,14 +47,14 @@ module _ (c : Counts) (s t i : List ℕ) where
   pub fine_fit : records_check c s t i ≡ fine → RecordsFit c s t i
   unfolding records_check rests_check
   fine_fit e =
-      let fit = states_fit c s (fine-first (states_check c s) _ e) in
+      let fit = states_fit c s (fine_first (states_check c s) _ e) in
       let after-states = fine_second (states_check c s) _ e in
       let after-rests = fine_second (lowest rest c.states) _ after-states in
       record {
         states = fit.each;
         sum = fit.sum;
-        rests = lowest_each rest c.states (fine-first _ _ after-states);
-        transitions = lowest_each transition c.transitions (fine-first _ _ after-rests);
+        rests = lowest_each rest c.states (fine_first _ _ after-states);
+        transitions = lowest_each transition c.transitions (fine_first _ _ after-rests);
         initial = lowest_each (initial_check c.states i) c.initial
             (fine_second (lowest transition c.transitions) _ after-rests);
       }
@@ -65,8 +65,8 @@ module _ (c : Counts) (s t i : List ℕ) where
   fit_fine fit =
       rw (
         one_pass s c.states,
-        lowest-all (state_check s) c.states fit.states,
+        lowest_all (state_check s) c.states fit.states,
         eq-eqb (count_sum s c.states) c.transitions fit.sum,
-        lowest-all rest c.states fit.rests,
-        lowest-all transition c.transitions fit.transitions,
-      ) (lowest-all (initial_check c.states i) c.initial fit.initial)
+        lowest_all rest c.states fit.rests,
+        lowest_all transition c.transitions fit.transitions,
+      ) (lowest_all (initial_check c.states i) c.initial fit.initial)

@@ -18,7 +18,7 @@ use Rattle.automaton.specs.Automaton.{free_to, at_rest}
 use Rattle.image.specs.Reader.{transitions_from, count_sum, states_from, rest_check}
 use Rattle.image.specs.Lookup.{record_at}
 use Rattle.image.specs.Memory.{state_at}
-use Rattle.image.proofs.Lookup.{record_drop, state-at, count-up}
+use Rattle.image.proofs.Lookup.{record_drop, state_at_lem, count_up}
 use Rattle.answer.proofs.InARow.{first_differs, second_differs, third_agrees}
 
 -- ---- a state's transition records
@@ -73,28 +73,28 @@ pub record Resting (s t : List ℕ) (n at q : ℕ) : Type 0 where
   pub begin : at ≡ 4 * count_sum s q
 
 module _ (s t : List ℕ) (n : ℕ) where
-  pub rest-begins : Resting s t n 0 0
+  pub rest_begins : Resting s t n 0 0
   unfolding count_sum
-  rest-begins = record { passing = pass_begins _ _; begin = omega arith }
+  rest_begins = record { passing = pass_begins _ _; begin = omega arith }
 
   module _ (at q : ℕ) (lt : q < n) (inv : Resting s t n at q) where
     -- the transition records of q are there
     pub records_there : 4 * count_sum s n ≤ length t → at + 4 * number_at s (4 * q) ≤ length t
     unfolding count_sum
-    records_there le = omega (arith, count-up s (suc q) n lt, inv.begin)
+    records_there le = omega (arith, count_up s (suc q) n lt, inv.begin)
 
     module _ {b : ℕ} (right : b ≡ cond (at_rest q (state_at s t q)) 1 0) where
       pub rest_fails : (get_or s (4 * q + 3) 0 ≡ b → ⊥) → refused 11 q ≡ lowest (rest_check (states_from n s t) s) n
       unfolding rest_check
       rest_fails ne =
           pass_fails (rest_check (states_from n s t) s) n q lt inv.passing
-          (rw (state-at n s t q lt, ← right, ne_eqb (get_or s (4 * q + 3) 0) b ne) refl)
+          (rw (state_at_lem n s t q lt, ← right, ne_eqb (get_or s (4 * q + 3) 0) b ne) refl)
 
       pub rest_steps : get_or s (4 * q + 3) 0 ≡ b → (count : ℕ) → count ≡ number_at s (4 * q)
           → Resting s t n (at + 4 * count) (q + 1)
       unfolding rest_check count_sum
       rest_steps e count f = record {
         passing = pass_steps (rest_check (states_from n s t) s) n q lt inv.passing
-            (rw (state-at n s t q lt, ← right, eq-eqb (get_or s (4 * q + 3) 0) b e) refl);
+            (rw (state_at_lem n s t q lt, ← right, eq-eqb (get_or s (4 * q + 3) 0) b e) refl);
         begin = rw add-one (omega (arith, inv.begin));
       }

@@ -14,11 +14,11 @@ use Rattle.answer.specs.Result.{accepted}
 use Rattle.image.specs.Image.{entry, transitions_at, initial_at, image_length, contents, contents_bytes, entry_bytes}
 use Rattle.answer.specs.Buffer.{buffer}
 use Rattle.image.specs.Memory.{joined_bodies, joined_over}
-use Rattle.image.proofs.Sizes.{contents-size, row-size}
+use Rattle.image.proofs.Sizes.{contents_size, row_size}
 
 -- a part that goes to the end is what is left there
-pub part-whole : (xs : List ℕ) (a : ℕ) → mid_of a (length xs - a) xs ≡ drop a xs
-part-whole xs a = take_all (length xs - a) (drop a xs) (rw (length-drop a xs) (omega arith))
+pub part_whole : (xs : List ℕ) (a : ℕ) → mid_of a (length xs - a) xs ≡ drop a xs
+part_whole xs a = take_all (length xs - a) (drop a xs) (rw (length-drop a xs) (omega arith))
 
 -- and the whole, once ys came back in its place
 part_back : (xs ys : List ℕ) (a : ℕ) → put_mid a (length xs - a) xs ys ≡ take a xs ++ ys
@@ -32,48 +32,48 @@ pub part_copied : (xs source ys : List ℕ) (a n : ℕ) → a + n ≤ length xs 
 part_copied xs source ys a n room le e =
     let size : length (take n source) ≡ n = length-take-le n source le in
     let all = sets-eq (take n source) xs a (rw size room) in
-    part_back xs ys a ∙ rw (e, part-whole xs a, drop-drop n a xs, all, size, append_assoc)
+    part_back xs ys a ∙ rw (e, part_whole xs a, drop-drop n a xs, all, size, append_assoc)
 
 -- a copy out of such a part, and zeros in the part behind it
-pub part-loaded : (table image xs ys : List ℕ) (a n : ℕ) → n ≤ length table → a + n ≤ length image
+pub part_loaded : (table image xs ys : List ℕ) (a n : ℕ) → n ≤ length table → a + n ≤ length image
     → xs ≡ take n (mid_of a (length image - a) image) ++ drop n table
     → ys ≡ replicate (length (mid_of n (length xs - n) xs)) 0
     → put_mid n (length xs - n) xs ys ≡ filled table (take n (drop a image))
-part-loaded table image xs ys a n room le e f =
+part_loaded table image xs ys a n room le e f =
     let bytes = take n (drop a image) in
     let size : length bytes ≡ n = length-take-le n (drop a image) (rw (length-drop a image) (omega arith)) in
-    let whole : xs ≡ bytes ++ drop n table = rw (part-whole image a) at e in
+    let whole : xs ≡ bytes ++ drop n table = rw (part_whole image a) at e in
     let front = take_at bytes (drop n table) n size in
     let behind = drop_at bytes (drop n table) n size in
-    part_back xs ys n ∙ rw (f, part-whole xs n, whole, front, behind, length-drop n table, size)
+    part_back xs ys n ∙ rw (f, part_whole xs n, whole, front, behind, length-drop n table, size)
 
 -- a run of stores, and another right behind it
-pub sets-sets : (vs ws xs : List ℕ) (i j : ℕ) → j ≡ i + length vs → sets (sets xs i vs) j ws ≡ sets xs i (vs ++ ws)
-sets-sets [] ws xs i j e =
+pub sets_sets : (vs ws xs : List ℕ) (i j : ℕ) → j ≡ i + length vs → sets (sets xs i vs) j ws ≡ sets xs i (vs ++ ws)
+sets_sets [] ws xs i j e =
     let f : j ≡ i = omega arith in
     rw f
-sets-sets (v ∷ vs) ws xs i j e = sets-sets vs ws (set xs i v) (suc i) j (omega arith)
+sets_sets (v ∷ vs) ws xs i j e = sets_sets vs ws (set xs i v) (suc i) j (omega arith)
 
 -- three runs, each behind the one before
-pub three-stored : (us vs ws xs : List ℕ) (i j k : ℕ) {xs₁ xs₂ xs₃ : List ℕ} → j ≡ i + length us → k ≡ j + length vs
+pub three_stored : (us vs ws xs : List ℕ) (i j k : ℕ) {xs₁ xs₂ xs₃ : List ℕ} → j ≡ i + length us → k ≡ j + length vs
     → xs₁ ≡ sets xs i us → xs₂ ≡ sets xs₁ j vs → xs₃ ≡ sets xs₂ k ws → xs₃ ≡ sets xs i (us ++ (vs ++ ws))
-three-stored us vs ws xs i j k {xs₁} second third e f g =
-    rw (g, f, sets-sets vs ws xs₁ j k third, e, sets-sets us (vs ++ ws) xs i j second)
+three_stored us vs ws xs i j k {xs₁} second third e f g =
+    rw (g, f, sets_sets vs ws xs₁ j k third, e, sets_sets us (vs ++ ws) xs i j second)
 
 -- three numbers are an entry, and three entries the contents
-pub entry-stored : (xs : List ℕ) (at kind count offset : ℕ) {xs₁ xs₂ xs₃ : List ℕ}
+pub entry_stored : (xs : List ℕ) (at kind count offset : ℕ) {xs₁ xs₂ xs₃ : List ℕ}
     → xs₁ ≡ sets xs at (two_bytes kind) → xs₂ ≡ sets xs₁ (at + 2) (two_bytes count)
     → xs₃ ≡ sets xs₂ (at + 4) (two_bytes offset) → xs₃ ≡ sets xs at (entry kind count offset)
 unfolding entry two_bytes
-entry-stored xs at kind count offset e f g =
-    three-stored (two_bytes kind) (two_bytes count) (two_bytes offset) xs at (at + 2) (at + 4) refl (omega arith) e f g
+entry_stored xs at kind count offset e f g =
+    three_stored (two_bytes kind) (two_bytes count) (two_bytes offset) xs at (at + 2) (at + 4) refl (omega arith) e f g
 
-pub contents-stored : (c : Counts) (xs : List ℕ) {xs₁ xs₂ xs₃ : List ℕ}
+pub contents_stored : (c : Counts) (xs : List ℕ) {xs₁ xs₂ xs₃ : List ℕ}
     → xs₁ ≡ sets xs 0 (entry 1 c.states contents_bytes)
     → xs₂ ≡ sets xs₁ entry_bytes (entry 2 c.transitions (transitions_at c))
     → xs₃ ≡ sets xs₂ (2 * entry_bytes) (entry 3 c.initial (initial_at c)) → xs₃ ≡ sets xs 0 (contents c)
 unfolding contents entry two_bytes
-contents-stored c xs e f g = rw (g, f, e)
+contents_stored c xs e f g = rw (g, f, e)
 
 -- and three copies behind them an image over the buffer
 pub image_stored : (c : Counts) (s t i xs : List ℕ) {xs₁ xs₂ xs₃ xs₄ : List ℕ} → 4 * c.states ≤ length s
@@ -89,9 +89,9 @@ image_stored c s t i xs {xs₁} room₁ room₂ room₃ long e f g h =
     let n₁ : length us ≡ 4 * c.states = length-take-le (4 * c.states) s room₁ in
     let n₂ : length vs ≡ 4 * c.transitions = length-take-le (4 * c.transitions) t room₂ in
     let n₃ : length ws ≡ 2 * c.initial = length-take-le (2 * c.initial) i room₃ in
-    let n : length (joined_bodies c s t i) ≡ image_length c = row-size c us vs ws n₁ n₂ n₃ in
-    let bodies = three-stored us vs ws xs₁ contents_bytes (transitions_at c) (initial_at c)
+    let n : length (joined_bodies c s t i) ≡ image_length c = row_size c us vs ws n₁ n₂ n₃ in
+    let bodies = three_stored us vs ws xs₁ contents_bytes (transitions_at c) (initial_at c)
     (omega (arith, n₁)) (omega (arith, n₂)) f g h in
-    let behind = sets-sets (contents c) (us ++ (vs ++ ws)) xs 0 contents_bytes (omega (arith, contents-size c)) in
+    let behind = sets_sets (contents c) (us ++ (vs ++ ws)) xs 0 contents_bytes (omega (arith, contents_size c)) in
     let whole = sets-eq (joined_bodies c s t i) xs 0 (omega arith) in
     rw (bodies, e, behind, whole, n, zero-add (image_length c))

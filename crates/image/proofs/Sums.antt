@@ -10,7 +10,7 @@ use lib.ListN.{get_or}
 use borrow.Author.Tests.{leb-true}
 use Rattle.answer.specs.Result.{accepted, refused, fine}
 use Rattle.answer.proofs.Lowest.{Passing, pass_begins, pass_steps, pass_fails, pass_ends}
-use Rattle.answer.proofs.Results.{require-fine}
+use Rattle.answer.proofs.Results.{require_fine}
 use Rattle.answer.specs.Bytes.{number_at}
 use Rattle.automaton.specs.Limits.{max_of_state}
 use Rattle.image.specs.Reader.{state_check, add_state, state_pass, count_sum}
@@ -22,10 +22,10 @@ pub record StateFits (s : List ℕ) (i : ℕ) : Type 0 where
   pub count : number_at s (4 * i) ≤ max_of_state
   pub flag : get_or s (4 * i + 2) 0 ≤ 1
 
-pub state-fine : (s : List ℕ) (i : ℕ) → state_check s i ≡ fine → StateFits s i
+pub state_fine : (s : List ℕ) (i : ℕ) → state_check s i ≡ fine → StateFits s i
 unfolding state_check
-state-fine s i e =
-    let tests = (and-eq-true_iff _ _).0 (require-fine _ 11 i e) in
+state_fine s i e =
+    let tests = (and-eq-true_iff _ _).0 (require_fine _ 11 i e) in
     record {
       count = leb-true (number_at s (4 * i)) max_of_state tests.0;
       flag = leb-true (get_or s (4 * i + 2) 0) 1 tests.1;
@@ -37,16 +37,16 @@ pub record Summing (s : List ℕ) (n total i : ℕ) : Type 0 where
   pub most : total ≤ max_of_state * i
 
 module _ (s : List ℕ) (n : ℕ) where
-  pub sum-begins : Summing s n 0 0
+  pub sum_begins : Summing s n 0 0
   unfolding count_sum
-  sum-begins = record { passing = pass_begins _ _; sum = refl; most = omega arith }
+  sum_begins = record { passing = pass_begins _ _; sum = refl; most = omega arith }
 
   module _ (i total : ℕ) (lt : i < n) (inv : Summing s n total i) where
     pub sum_steps : (more : ℕ) → accepted more ≡ add_state s i total → Summing s n more (i + 1)
     unfolding count_sum
     sum_steps more e =
         let state = passes (state_check s i) more (total + number_at s (4 * i)) e in
-        let fits = state-fine s i state.passed in
+        let fits = state_fine s i state.passed in
         record {
           passing = pass_steps (state_check s) n i lt inv.passing state.passed;
           sum = rw (add-one, ← inv.sum) state.same;

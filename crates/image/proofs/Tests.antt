@@ -80,9 +80,9 @@ module _ {image : List ℕ} {c : Counts} (read : Opened image c) where
 
 -- state record i, behind others that have the sum
 module _ (s : List ℕ) (i sum : ℕ) where
-  pub count-over : max_of_state < number_at s (4 * i) → refused 11 i ≡ add_state s i sum
+  pub count_over : max_of_state < number_at s (4 * i) → refused 11 i ≡ add_state s i sum
   unfolding state_check
-  count-over lt = rw (lt-leb (number_at s (4 * i)) max_of_state lt)
+  count_over lt = rw (lt-leb (number_at s (4 * i)) max_of_state lt)
 
   module _ (small : number_at s (4 * i) ≤ max_of_state) where
     pub accepting_wrong : 1 < get_or s (4 * i + 2) 0 → refused 11 i ≡ add_state s i sum
@@ -185,7 +185,7 @@ module _ (c : Counts) (s t i : List ℕ) where
       unfolding records_check rests_check
       transitions_refused told e = rw (← first, fine₁, ← second, fine₂, ← e, told)
 
-      pub initial-left : {r₃ r : Check} → r₃ ≡ transition_answers → r₃ ≡ fine → r ≡ initial_answers
+      pub initial_left : {r₃ r : Check} → r₃ ≡ transition_answers → r₃ ≡ fine → r ≡ initial_answers
           → r ≡ records_check c s t i
       unfolding records_check rests_check
-      initial-left third fine₃ e = rw (← first, fine₁, ← second, fine₂, ← third, fine₃) e
+      initial_left third fine₃ e = rw (← first, fine₁, ← second, fine₂, ← third, fine₃) e

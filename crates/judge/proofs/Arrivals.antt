@@ -6,8 +6,8 @@ use native.Mathlib.Decide.{ℕ_discrete}
 use Rattle.automaton.specs.Automaton.{Automaton, Accepts}
 use Rattle.judge.specs.Memory.{moved, lifted, After}
 use Rattle.judge.specs.Limits.{met_bit}
-use Rattle.judge.proofs.Runs.{Leads, Over, Meets, leads-none, leads_init, last_step, leads_snoc}
-use Rattle.judge.proofs.Runs.{meets_snoc, meets-here}
+use Rattle.judge.proofs.Runs.{Leads, Over, Meets, leads_none, leads_init, last_step, leads_snoc}
+use Rattle.judge.proofs.Runs.{meets_snoc, meets_here}
 
 -- a run that began with bit k leads to q; R says from where to where runs lead
 pub record Arrived (Held : (q k : ℕ) → Type 0) (R : (p q : ℕ) → Type 0) (q k : ℕ) : Type 0 where
@@ -19,7 +19,7 @@ module _ (a : Automaton) (w : ℕ → ℕ) (Held : (q k : ℕ) → Type 0) where
   -- ---- a bit is a run
 
   pub low_runs : (d : ℕ) {q k : ℕ} → k < met_bit → After a w Held d q k → Arrived Held (Leads (Over a w) d) q k
-  low_runs zero {q} lt h = record { start = q; held = h; run = leads-none q }
+  low_runs zero {q} lt h = record { start = q; held = h; run = leads_none q }
   low_runs (suc d) lt (moved p q k h s) =
       let m = low_runs d lt h in
       record { start = m.start; held = m.held; run = leads_snoc m.run s }
@@ -36,7 +36,7 @@ module _ (a : Automaton) (w : ℕ → ℕ) (Held : (q k : ℕ) → Type 0) where
       let m = low_runs d lk h in
       let f : k ≡ j = omega arith in
       let held = subst (λ (i : ℕ). Held m.start i) f m.held in
-      record { start = m.start; held = held; run = meets-here m.run s acc }
+      record { start = m.start; held = held; run = meets_here m.run s acc }
 
   -- ---- a run is a bit
 

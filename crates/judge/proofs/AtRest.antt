@@ -20,10 +20,10 @@ use Rattle.automaton.specs.Automaton.{AcceptingPass}
 use Rattle.automaton.proofs.InRange.{InRange}
 use Rattle.rest.specs.Search.{Point, reached_from, starts}
 use Rattle.rest.specs.Rest.{up_to, resting, taken, rest_taken}
-use Rattle.rest.proofs.Points.{onto, letter-onto, onward_step}
+use Rattle.rest.proofs.Points.{onto, letter_onto, onward_step}
 use Rattle.judge.specs.Search.{has_accepting_pass}
-use Rattle.judge.proofs.Runs.{same-letter}
-use Rattle.judge.proofs.HasAcceptingPass.{Comes, started, from-starts, has-accepting_pass_iff}
+use Rattle.judge.proofs.Runs.{same_letter}
+use Rattle.judge.proofs.HasAcceptingPass.{Comes, started, from_starts, has_accepting_pass_iff}
 
 -- ---- a state at rest
 
@@ -39,9 +39,9 @@ module _ (a : Automaton) (q : ℕ) (rest : at_rest q (get_or a.states q no_state
   unfolding at_rest
   rest_accepts = ((and-eq-true_iff (get_or a.states q no_state).accepting _).0 rest).0
 
-  rest-stays : (x : ℕ) → Step a q x q
+  rest_stays : (x : ℕ) → Step a q x q
   unfolding at_rest
-  rest-stays x =
+  rest_stays x =
       let own = (get_or a.states q no_state).transitions in
       let free = ((and-eq-true_iff (get_or a.states q no_state).accepting _).0 rest).1 in
       let (t, m, e) = (any_iff (free_to q) own).0 free in
@@ -54,10 +54,10 @@ module _ (a : Automaton) (q : ℕ) (rest : at_rest q (get_or a.states q no_state
       )
 
 -- what is taken can be reached
-up-to_in : (test : Point → Bool) (x : Point) (xs : List Point) → In x (up_to test xs) → In x xs
+up_to_in : (test : Point → Bool) (x : Point) (xs : List Point) → In x (up_to test xs) → In x xs
 unfolding up_to
-up-to_in test x [] h = h
-up-to_in test x (y ∷ ys) h = go (test y) h (up-to_in test x ys)
+up_to_in test x [] h = h
+up_to_in test x (y ∷ ys) h = go (test y) h (up_to_in test x ys)
   where
     go : (b : Bool) → In x (elim b [ true ↦ y ∷ [] | false ↦ y ∷ up_to test ys ]) → (In x (up_to test ys) → In x ys)
         → In x (y ∷ ys)
@@ -115,12 +115,12 @@ module _ (a : Automaton) (range : InRange a) (stem cycle : List ℕ) (pos : 0 < 
         pick : Dec (i < d) → Step a (at i) (letter stem cycle i) (at (suc i))
         pick (yes lt) =
             let step = (onward_step a stem cycle (come i) (come (suc i)) (c.run.steps i lt)).1 in
-            let here = ap (letter stem cycle) (come_position i (omega arith)) ∙ letter-onto stem cycle pos i in
+            let here = ap (letter stem cycle) (come_position i (omega arith)) ∙ letter_onto stem cycle pos i in
             rw (at_early i (omega arith), at_early (suc i) lt)
-            (same-letter a here (come i).state (come (suc i)).state step)
+            (same_letter a here (come i).state (come (suc i)).state step)
         pick (no ge) =
             rw (at_late i (omega arith), at_late (suc i) (omega arith))
-            (rest-stays a x.state rest (letter stem cycle i))
+            (rest_stays a x.state rest (letter stem cycle i))
 
     -- pass d begins when the run has come to x, or later
     begun : d ≤ s + d * n
@@ -149,7 +149,7 @@ module _ (a : Automaton) (range : InRange a) (stem cycle : List ℕ) (pos : 0 < 
   rest_pass e =
       let reached = reached_from a stem cycle (starts a stem cycle) in
       let (x, m, rest) = (any_iff (resting a stem cycle) (up_to (resting a stem cycle) reached)).0 e in
-      rested x ((from-starts a range stem cycle pos).sound x (up-to_in (resting a stem cycle) x reached m)) rest
+      rested x ((from_starts a range stem cycle pos).sound x (up_to_in (resting a stem cycle) x reached m)) rest
 
   -- R-5, the answer equals the full search: whether a pair at rest is taken or there is an accepting pass, is whether
   -- there is one
@@ -158,5 +158,5 @@ module _ (a : Automaton) (range : InRange a) (stem cycle : List ℕ) (pos : 0 < 
     where
       go : (b : Bool) → rest_taken a stem cycle ≡ b
           → (b || has_accepting_pass a stem cycle) ≡ has_accepting_pass a stem cycle
-      go true e = sym ((has-accepting_pass_iff a range stem cycle pos).1 (rest_pass e))
+      go true e = sym ((has_accepting_pass_iff a range stem cycle pos).1 (rest_pass e))
       go false e = refl

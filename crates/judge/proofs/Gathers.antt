@@ -7,7 +7,7 @@ use native.Mathlib.Omega.{arith}
 use native.Mathlib.Decide.{ℕ_discrete}
 use lib.ListN.{replicate}
 use Rattle.judge.specs.Memory.{Token, Lifted, Is, Gains}
-use Rattle.answer.proofs.Zeros.{zeros-at}
+use Rattle.answer.proofs.Zeros.{zeros_at}
 use Rattle.sets.proofs.Bits.{zero_has}
 
 -- rows by what those held of which they were made
@@ -55,12 +55,12 @@ adds_row is adds =
     adds_as adds (λ t k h. (h.0, (is.only 0 k h.1).1)) (λ t k h. (h.0, is.all 0 k (refl, h.1)))
 
 -- to rows that have no bit
-pub none-set : (n q k : ℕ) → Token (replicate n 0) q k → ⊥
-none-set n q k h = zero_has (rw (zeros-at n (4 * q + k / 64)) at h.bit)
+pub none_set : (n q k : ℕ) → Token (replicate n 0) q k → ⊥
+none_set n q k h = zero_has (rw (zeros_at n (4 * q + k / 64)) at h.bit)
 
 pub is_initial : {rows : List ℕ} {New : (q k : ℕ) → Type 0} (m : ℕ) → Gains (replicate m 0) rows New → Is rows New
 is_initial m adds = record {
-  only = λ q k h. ⊎_elim (λ h. absurd (none-set m q k h)) (λ h. h) (adds.only q k h);
+  only = λ q k h. ⊎_elim (λ h. absurd (none_set m q k h)) (λ h. h) (adds.only q k h);
   all = λ q k h. adds.all q k (inr h);
 }
 

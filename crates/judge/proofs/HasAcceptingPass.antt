@@ -14,12 +14,12 @@ use Rattle.automaton.specs.Automaton.{Automaton, Accepts, AcceptingPass}
 use Rattle.sets.specs.Sets.{In}
 use Rattle.sets.proofs.Members.{All, map_in, in_map, any_iff}
 use Rattle.automaton.proofs.Passes.{AutomatonOver, Endless, Pass, numbered, pass_iff, endless_pass, pass_endless}
-use Rattle.judge.proofs.Runs.{Leads, same-letter, leads-none, leads_one, leads_on, on_early, on_late, leads_snoc}
+use Rattle.judge.proofs.Runs.{Leads, same_letter, leads_none, leads_one, leads_on, on_early, on_late, leads_snoc}
 use Rattle.rest.specs.Search.{Point, point, member, onward, reached_from, starts}
 use Rattle.judge.specs.Search.{accepting, has_accepting_pass}
 use Rattle.rest.proofs.Queue.{Within, few_points, member_iff}
 use Rattle.rest.proofs.Reached.{Reached, search_reaches}
-use Rattle.rest.proofs.Points.{onto, onto_pass, letter-onto, onward_step, step_onward, onward-within}
+use Rattle.rest.proofs.Points.{onto, onto_pass, letter_onto, onward_step, step_onward, onward_within}
 use Rattle.automaton.proofs.InRange.{InRange}
 
 module _ (a : Automaton) (range : InRange a) (stem cycle : List ℕ) (pos : 0 < length cycle) where
@@ -58,11 +58,11 @@ module _ (a : Automaton) (range : InRange a) (stem cycle : List ℕ) (pos : 0 < 
   searched from all =
       search_reaches a stem cycle (Comes from) on (N * (s + n))
       (λ xs u h. few_points N (s + n) xs u (λ x m. (h x m).within)) from (N * (s + n)) (omega arith)
-      (λ x h. record { within = all x h; start = x; given = h; count = 0; run = leads-none x })
+      (λ x h. record { within = all x h; start = x; given = h; count = 0; run = leads_none x })
     where
       on : (x : Point) → Comes from x → All (Comes from) (onward a stem cycle x)
       on x c z h = record {
-        within = onward-within a stem cycle range pos x z h;
+        within = onward_within a stem cycle range pos x z h;
         start = c.start;
         given = c.given;
         count = suc c.count;
@@ -76,12 +76,12 @@ module _ (a : Automaton) (range : InRange a) (stem cycle : List ℕ) (pos : 0 < 
       let (q, m, e) = map_in (point 0) x a.initial h in
       (ap (λ (y : Point). y.position) e, subst (λ (k : ℕ). In k a.initial) (sym (ap (λ (y : Point). y.state) e)) m)
 
-  pub from-starts : Meeting (starts a stem cycle)
-  from-starts = searched (starts a stem cycle)
+  pub from_starts : Meeting (starts a stem cycle)
+  from_starts = searched (starts a stem cycle)
       (λ x h. record { position = omega (arith, (started x h).0); state = range.initial x.state (started x h).1 })
 
-  from-after : (x : Point) → Meeting (onward a stem cycle x)
-  from-after x = searched (onward a stem cycle x) (onward-within a stem cycle range pos x)
+  from_after : (x : Point) → Meeting (onward a stem cycle x)
+  from_after x = searched (onward a stem cycle x) (onward_within a stem cycle range pos x)
 
   -- ---- from a point that leads back to itself to an accepting pass
 
@@ -104,7 +104,7 @@ module _ (a : Automaton) (range : InRange a) (stem cycle : List ℕ) (pos : 0 < 
     states : Endless word (numbered a) (λ i. (p i).state)
     states = record {
       begins = (started (p 0) run.begins).1;
-      steps = λ i. same-letter a (ap word (position i) ∙ letter-onto stem cycle pos i) (p i).state (p (suc i)).state
+      steps = λ i. same_letter a (ap word (position i) ∙ letter_onto stem cycle pos i) (p i).state (p (suc i)).state
           (onward_step a stem cycle (p i) (p (suc i)) (run.steps i)).1;
       again = run.again;
     }
@@ -121,9 +121,9 @@ module _ (a : Automaton) (range : InRange a) (stem cycle : List ℕ) (pos : 0 < 
     whole : Leads Go (c.count + d) c.start x
     whole = leads_on (λ i lt y z h. h) c.run round
 
-    whole-first : whole.at c.count ≡ x
+    whole_first : whole.at c.count ≡ x
     unfolding whole
-    whole-first = on_early (λ i lt y z h. h) c.run round c.count (omega arith) ∙ c.run.to
+    whole_first = on_early (λ i lt y z h. h) c.run round c.count (omega arith) ∙ c.run.to
 
     whole_late : (i : ℕ) → whole.at (c.count + i) ≡ round.at i
     unfolding whole
@@ -145,7 +145,7 @@ module _ (a : Automaton) (range : InRange a) (stem cycle : List ℕ) (pos : 0 < 
               later = omega arith;
               begins = rw whole.from c.given;
               steps = λ i l. whole.steps i (omega arith);
-              same = ap whole.at z ∙ whole-first ∙ sym (ap whole.at y ∙ whole.to);
+              same = ap whole.at z ∙ whole_first ∙ sym (ap whole.at y ∙ whole.to);
               accepts = (c.count + i, omega arith, omega arith, rw (whole_late i) acc);
             }
 
@@ -158,15 +158,15 @@ module _ (a : Automaton) (range : InRange a) (stem cycle : List ℕ) (pos : 0 < 
     abbrev high : ℕ
     high = s + pass.second * n
 
-    low-high : low < high
-    low-high = omega (arith, mul-le-mul_right n pass.later, suc-mul pass.first n)
+    low_high : low < high
+    low_high = omega (arith, mul-le-mul_right n pass.later, suc-mul pass.first n)
 
     here : ℕ → Point
     here i = point (onto stem cycle i) (pass.at i)
 
-    here-round : here low ≡ here high
+    here_round : here low ≡ here high
     unfolding here
-    here-round =
+    here_round =
         let p = onto_pass stem cycle pos pass.first ∙ sym (onto_pass stem cycle pos pass.second) in
         let q = pass.same in
         λ i. point (p i) (q i)
@@ -174,12 +174,12 @@ module _ (a : Automaton) (range : InRange a) (stem cycle : List ℕ) (pos : 0 < 
     here_on : (i : ℕ) → i < high → In (here (suc i)) (onward a stem cycle (here i))
     unfolding here onto
     here_on i l = step_onward a stem cycle (onto stem cycle i) (pass.at i) (pass.at (suc i))
-        (same-letter a (sym (letter-onto stem cycle pos i)) (pass.at i) (pass.at (suc i)) (pass.steps i l))
+        (same_letter a (sym (letter_onto stem cycle pos i)) (pass.at i) (pass.at (suc i)) (pass.steps i l))
 
     -- a search that meets one point of the run meets those after it
     module _ {P : Point → Type 0} {from points : List Point} (c : Reached a stem cycle P from points) where
-      taken-later : (i k : ℕ) → i ≤ k → k ≤ high → In (here i) points → In (here k) points
-      taken-later i k l m h = le_ind (λ j. j ≤ high → In (here j) points) (λ le. h)
+      taken_later : (i k : ℕ) → i ≤ k → k ≤ high → In (here i) points → In (here k) points
+      taken_later i k l m h = le_ind (λ j. j ≤ high → In (here j) points) (λ le. h)
           (λ j lo ih le. c.closed (here j) (ih (omega arith)) (here (suc j)) (here_on j le)) k l m
 
     start_in : In (here 0) (starts a stem cycle)
@@ -187,10 +187,10 @@ module _ (a : Automaton) (range : InRange a) (stem cycle : List ℕ) (pos : 0 < 
     start_in = in_map (point 0) (pass.at 0) a.initial pass.begins
 
     -- a search from the initial states meets all of it
-    pub met-here : (i : ℕ) → i ≤ high
+    pub met_here : (i : ℕ) → i ≤ high
         → In (point (onto stem cycle i) (pass.at i)) (reached_from a stem cycle (starts a stem cycle))
     unfolding here
-    met-here i le = taken-later from-starts 0 i (omega arith) le (from-starts.has (here 0) start_in)
+    met_here i le = taken_later from_starts 0 i (omega arith) le (from_starts.has (here 0) start_in)
 
     found : (i : ℕ) → low ≤ i → i < high → Accepts a (pass.at i) → has_accepting_pass a stem cycle ≡ true
     unfolding has_accepting_pass
@@ -198,7 +198,7 @@ module _ (a : Automaton) (range : InRange a) (stem cycle : List ℕ) (pos : 0 < 
         (λ x. accepting a stem cycle x && member x (reached_from a stem cycle (onward a stem cycle x)))
         (reached_from a stem cycle (starts a stem cycle))).1 (
           here i,
-          (unfold here in met-here i (omega arith)),
+          (unfold here in met_here i (omega arith)),
           (and-eq-true_iff (accepting a stem cycle (here i)) _).1 (
             (unfold here in acc),
             (member_iff (here i) (reached_from a stem cycle (onward a stem cycle (here i)))).1 again,
@@ -206,10 +206,10 @@ module _ (a : Automaton) (range : InRange a) (stem cycle : List ℕ) (pos : 0 < 
         )
       where
         again : In (here i) (reached_from a stem cycle (onward a stem cycle (here i)))
-        again = taken-later (from-after (here i)) low i l (omega arith)
-            (subst (λ (x : Point). In x (reached_from a stem cycle (onward a stem cycle (here i)))) (sym here-round)
-            (taken-later (from-after (here i)) (suc i) high m (omega arith)
-            ((from-after (here i)).has (here (suc i)) (here_on i m))))
+        again = taken_later (from_after (here i)) low i l (omega arith)
+            (subst (λ (x : Point). In x (reached_from a stem cycle (onward a stem cycle (here i)))) (sym here_round)
+            (taken_later (from_after (here i)) (suc i) high m (omega arith)
+            ((from_after (here i)).has (here (suc i)) (here_on i m))))
 
     pass_shows : has_accepting_pass a stem cycle ≡ true
     pass_shows =
@@ -221,7 +221,7 @@ module _ (a : Automaton) (range : InRange a) (stem cycle : List ℕ) (pos : 0 < 
         early i l m acc (yes lt) = found i l lt acc
         early i l m acc (no ge) =
             let z : i ≡ high = omega arith in
-            found low (omega arith) low-high (subst (λ (k : ℕ). Accepts a k) (ap pass.at z ∙ sym pass.same) acc)
+            found low (omega arith) low_high (subst (λ (k : ℕ). Accepts a k) (ap pass.at z ∙ sym pass.same) acc)
 
   shown_pass : has_accepting_pass a stem cycle ≡ true → AcceptingPass a stem cycle
   unfolding has_accepting_pass
@@ -232,11 +232,11 @@ module _ (a : Automaton) (range : InRange a) (stem cycle : List ℕ) (pos : 0 < 
       let (x, m, t) = found in
       let (acc, again) = (and-eq-true_iff (accepting a stem cycle x) _).0 t in
       let after = (member_iff x (reached_from a stem cycle (onward a stem cycle x))).0 again in
-      let b = (from-after x).sound x after in
+      let b = (from_after x).sound x after in
       let round = leads_on (λ i lt y z h. h) (leads_one b.given) b.run in
-      looped x (from-starts.sound x m) (1 + b.count) (omega arith) round 0 (omega arith)
+      looped x (from_starts.sound x m) (1 + b.count) (omega arith) round 0 (omega arith)
       (subst (λ (y : Point). Accepts a y.state) (sym round.from) acc)
 
   -- the search is right about accepting passes
-  pub has-accepting_pass_iff : (has_accepting_pass a stem cycle ≡ true) ↔ AcceptingPass a stem cycle
-  has-accepting_pass_iff = (shown_pass, pass_shows)
+  pub has_accepting_pass_iff : (has_accepting_pass a stem cycle ≡ true) ↔ AcceptingPass a stem cycle
+  has_accepting_pass_iff = (shown_pass, pass_shows)

@@ -13,7 +13,7 @@ use Rattle.automaton.specs.Automaton.{Automaton, Step, Accepts}
 use Rattle.judge.specs.Memory.{Token, Lifted, Is, Gains, Confined, Moved, moved, lifted, After, AfterAll}
 use Rattle.judge.specs.Memory.{Ran}
 use Rattle.judge.specs.Limits.{met_bit, rows_words}
-use Rattle.judge.proofs.Gathers.{none-set, is_made}
+use Rattle.judge.proofs.Gathers.{none_set, is_made}
 use Rattle.judge.proofs.Decisions.{true_false, false_true}
 
 module _ (a : Automaton) (x : ℕ) where
@@ -61,14 +61,14 @@ module _ (a : Automaton) (x : ℕ) where
     lost = λ e q k h. none e q k (moved_inside target h) (is.all q k h);
   }
 
-  moved-from : {Held : (q k : ℕ) → Type 0} {q k : ℕ} → Moved a x Held q k → (p : ℕ) × ((j : ℕ) × Held p j)
-  moved-from (moved p q k h s) = (p, (k, h))
-  moved-from (lifted p q j lt h s acc) = (p, (j, h))
+  moved_from : {Held : (q k : ℕ) → Type 0} {q k : ℕ} → Moved a x Held q k → (p : ℕ) × ((j : ℕ) × Held p j)
+  moved_from (moved p q k h s) = (p, (k, h))
+  moved_from (lifted p q j lt h s acc) = (p, (j, h))
 
-  pub moved-map : (P Q : (q k : ℕ) → Type 0) → ((q k : ℕ) → P q k → Q q k)
+  pub moved_map : (P Q : (q k : ℕ) → Type 0) → ((q k : ℕ) → P q k → Q q k)
       → (q k : ℕ) → Moved a x P q k → Moved a x Q q k
-  moved-map P Q f _ _ (moved p q k h s) = moved p q k (f p k h) s
-  moved-map P Q f _ _ (lifted p q j lt h s acc) = lifted p q j lt (f p j h) s acc
+  moved_map P Q f _ _ (moved p q k h s) = moved p q k (f p k h) s
+  moved_map P Q f _ _ (lifted p q j lt h s acc) = lifted p q j lt (f p j h) s acc
 
 -- runs that have met an accepting state are runs
 pub after_covered : (a : Automaton) (w : ℕ → ℕ) {Held : (q k : ℕ) → Type 0}
@@ -94,7 +94,7 @@ after_inside a w target held (suc i) q k h = moved_inside a (w i) (λ p t s. tar
 lost_later : (a : Automaton) (w : ℕ → ℕ) (Held : (q k : ℕ) → Type 0) (i : ℕ)
     → ((q k : ℕ) → After a w Held i q k → ⊥) → (d : ℕ) → i ≤ d → (q k : ℕ) → After a w Held d q k → ⊥
 lost_later a w Held i lost = le_ind (λ d. (q k : ℕ) → After a w Held d q k → ⊥) lost (λ d le before q k h.
-    let (p, (j, m)) = moved-from a (w d) h in
+    let (p, (j, m)) = moved_from a (w d) h in
     before p j m)
 
 -- a loop that has taken the first i letters of a word, with the runs in one of two lists of rows; what stands in the
@@ -109,7 +109,7 @@ module _ (a : Automaton) (n : ℕ) (word before : List ℕ) where
   run_begins = record {
     within = omega arith;
     bits = record { only = λ q k h. h; all = λ q k h. h };
-    confined = λ q k h. absurd (none-set rows_words q k h);
+    confined = λ q k h. absurd (none_set rows_words q k h);
   }
 
   pub run_ends : {x y : List ℕ} (i : ℕ) → i ≡ length word → Running a n word before x y i
@@ -128,7 +128,7 @@ module _ (a : Automaton) (n : ℕ) (word before : List ℕ) where
       run_steps e = record {
         within = omega arith;
         confined = run_confined;
-        bits = rw add-one (is_made (Moved a (get_or word i 0)) (moved-map a (get_or word i 0)) inv.bits (ran.on e));
+        bits = rw add-one (is_made (Moved a (get_or word i 0)) (moved_map a (get_or word i 0)) inv.bits (ran.on e));
       }
 
       pub run_stops : {rows : List ℕ} → r ≡ false
@@ -136,6 +136,6 @@ module _ (a : Automaton) (n : ℕ) (word before : List ℕ) where
       run_stops e = record {
         on = λ t. false_true t;
         lost = λ t. lost_later a (λ j. get_or word j 0) (Token before) (suc i)
-            (λ q k h. ran.lost e q k (moved-map a (get_or word i 0) _ _ inv.bits.all q k h)) (length word)
+            (λ q k h. ran.lost e q k (moved_map a (get_or word i 0) _ _ inv.bits.all q k h)) (length word)
             (omega arith);
       }

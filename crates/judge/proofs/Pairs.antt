@@ -15,7 +15,7 @@ use Rattle.automaton.specs.Limits.{max_states}
 use Rattle.automaton.proofs.InRange.{InRange}
 use Rattle.image.specs.Reader.{read_image}
 use Rattle.image.proofs.Contents.{read_of}
-use Rattle.image.proofs.Lookup.{automaton-states}
+use Rattle.image.proofs.Lookup.{automaton_states}
 use Rattle.image.proofs.Accepted.{readable}
 use Rattle.rest.specs.Rest.{pairs_taken}
 use Rattle.rest.proofs.Pairs.{pairs_few}
@@ -49,7 +49,7 @@ judges image stem cycle work a e =
     let known = read_of image a is in
     record {
       range = image_in_range image a is;
-      few = rw (known.automaton, automaton-states image) (readable known).few;
+      few = rw (known.automaton, automaton_states image) (readable known).few;
       fits = sym fits;
     }
 

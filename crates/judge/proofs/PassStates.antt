@@ -12,10 +12,10 @@ use Rattle.sets.specs.Sets.{In}
 use Rattle.automaton.specs.Automaton.{Automaton, AcceptingPass, pass_begin}
 use Rattle.automaton.proofs.InRange.{InRange}
 use Rattle.rest.specs.Search.{Point, point, onward, reached_from, starts}
-use Rattle.rest.proofs.Points.{onto, onto_pass, letter-onto, step_onward}
-use Rattle.judge.proofs.Runs.{Meets, same-letter}
-use Rattle.judge.proofs.Passes.{round, letter-round}
-use Rattle.judge.proofs.HasAcceptingPass.{from-starts, looped, met-here}
+use Rattle.rest.proofs.Points.{onto, onto_pass, letter_onto, step_onward}
+use Rattle.judge.proofs.Runs.{Meets, same_letter}
+use Rattle.judge.proofs.Passes.{round, letter_round}
+use Rattle.judge.proofs.HasAcceptingPass.{from_starts, looped, met_here}
 
 -- a run from an initial state stands in q when some pass begins
 abbrev pub Begins : (a : Automaton) (stem cycle : List ℕ) (q : ℕ) → Type 0
@@ -29,14 +29,14 @@ module _ (a : Automaton) (range : InRange a) (stem cycle : List ℕ) (pos : 0 < 
   n = length cycle
 
   pub begins_inside : (q : ℕ) → Begins a stem cycle q → q < length a.states
-  begins_inside q h = ((from-starts a range stem cycle pos).sound (point s q) h).within.state
+  begins_inside q h = ((from_starts a range stem cycle pos).sound (point s q) h).within.state
 
   pub pass_begins : (pass : AcceptingPass a stem cycle) (e : ℕ) → e ≤ pass.second
       → Begins a stem cycle (pass.at (pass_begin stem cycle e))
   pass_begins pass e le =
       subst (λ (p : ℕ). In (point p (pass.at (s + e * n))) (reached_from a stem cycle (starts a stem cycle)))
       (onto_pass stem cycle pos e)
-      (met-here a range stem cycle pos pass (s + e * n) (omega (arith, mul-le-mul_right n le)))
+      (met_here a range stem cycle pos pass (s + e * n) (omega (arith, mul-le-mul_right n le)))
 
   -- a run over passes from q to q, as points
   module _ (q e : ℕ) (m : Meets a (round cycle) (suc e * n) q q) where
@@ -53,16 +53,16 @@ module _ (a : Automaton) (range : InRange a) (stem cycle : List ℕ) (pos : 0 < 
     unfolding at onto
     at_on i lt =
         let z : suc (s + i) ≡ s + suc i = omega arith in
-        let letter = sym (letter-onto stem cycle pos (s + i) ∙ letter-round stem cycle i) in
+        let letter = sym (letter_onto stem cycle pos (s + i) ∙ letter_round stem cycle i) in
         subst (λ (j : ℕ). In (point (onto stem cycle j) (m.run.at (suc i))) (onward a stem cycle (at i))) z
         (step_onward a stem cycle (onto stem cycle (s + i)) (m.run.at i) (m.run.at (suc i))
-        (same-letter a letter _ _ (m.run.steps i lt)))
+        (same_letter a letter _ _ (m.run.steps i lt)))
 
     pub round_pass : Begins a stem cycle q → AcceptingPass a stem cycle
     unfolding at
     round_pass h =
         let z : 0 ≡ 0 * n = omega arith in
-        looped a range stem cycle pos (point s q) ((from-starts a range stem cycle pos).sound (point s q) h) (suc e * n)
+        looped a range stem cycle pos (point s q) ((from_starts a range stem cycle pos).sound (point s q) h) (suc e * n)
         (omega (arith, suc-mul e n)) (record {
           at = at;
           from = ap at z ∙ at_pass 0 (ap m.run.at (sym z) ∙ m.run.from);

@@ -14,7 +14,7 @@ use Rattle.automaton.specs.Automaton.{Automaton, Step, Accepts, AcceptingPass, p
 use Rattle.judge.specs.Memory.{After, Linked, one, join, join_met}
 use Rattle.judge.specs.Limits.{met_bit}
 use Rattle.automaton.specs.Limits.{max_states}
-use Rattle.judge.proofs.Runs.{Leads, Over, Meets, same-letter, leads_as, leads_on}
+use Rattle.judge.proofs.Runs.{Leads, Over, Meets, same_letter, leads_as, leads_on}
 use Rattle.judge.proofs.Runs.{meets_on, on_meets}
 use Rattle.judge.proofs.Letters.{after_covered}
 use Rattle.judge.proofs.Arrivals.{Arrived, low_runs, high_runs, run_bits, met_bits}
@@ -25,17 +25,17 @@ use Rattle.judge.proofs.Arrivals.{Arrived, low_runs, high_runs, run_bits, met_bi
 abbrev pub round : (cycle : List ℕ) → ℕ → ℕ
 round cycle i = get_or cycle (i % length cycle) 0
 
-pub letter-round : (stem cycle : List ℕ) (i : ℕ) → letter stem cycle (length stem + i) ≡ round cycle i
+pub letter_round : (stem cycle : List ℕ) (i : ℕ) → letter stem cycle (length stem + i) ≡ round cycle i
 unfolding letter
-letter-round stem cycle i =
+letter_round stem cycle i =
     let z : length stem + i - length stem ≡ i = omega arith in
     rw (le-ltb (length stem + i) (length stem) (omega arith)) (ap (round cycle) z)
 
-round-first : (cycle : List ℕ) (i : ℕ) → i < length cycle → round cycle i ≡ get_or cycle i 0
-round-first cycle i lt = ap (λ (j : ℕ). get_or cycle j 0) (mod-eq_of_lt lt)
+round_first : (cycle : List ℕ) (i : ℕ) → i < length cycle → round cycle i ≡ get_or cycle i 0
+round_first cycle i lt = ap (λ (j : ℕ). get_or cycle j 0) (mod-eq_of_lt lt)
 
-round-later : (cycle : List ℕ) (e i : ℕ) → round cycle (e * length cycle + i) ≡ round cycle i
-round-later cycle e i = ap (λ (j : ℕ). get_or cycle j 0) (mul-add-mod_self_right e (length cycle) i)
+round_later : (cycle : List ℕ) (e i : ℕ) → round cycle (e * length cycle + i) ≡ round cycle i
+round_later cycle e i = ap (λ (j : ℕ). get_or cycle j 0) (mul-add-mod_self_right e (length cycle) i)
 
 -- ---- what the rows hold
 
@@ -58,29 +58,29 @@ module _ (a : Automaton) (n : ℕ) (cycle : List ℕ) (Begins : ℕ → Type 0) 
   module _ (few : n ≤ max_states) (below : (q : ℕ) → Begins q → q < n) where
     -- ---- the bits of one pass are runs
 
-    begun-high : (q p : ℕ) → Begun q (met_bit + p) → ⊥
-    begun-high q p (b, e) = omega (arith, below q b)
+    begun_high : (q p : ℕ) → Begun q (met_bit + p) → ⊥
+    begun_high q p (b, e) = omega (arith, below q b)
 
     -- runs that have met an accepting state are runs
     pub passed_covered : (q k : ℕ) → k < met_bit → Passed q (met_bit + k) → Passed q k
-    passed_covered = after_covered a in_cycle (λ q k lt h. absurd (begun-high q k h)) (length cycle)
+    passed_covered = after_covered a in_cycle (λ q k lt h. absurd (begun_high q k h)) (length cycle)
 
     -- R of the state where the run began, in which a pass begins
     abbrev From : (R : ℕ → Type 0) (p : ℕ) → Type 0
     From R p = Begins p × R p
 
-    from-begun : {R : (p q : ℕ) → Type 0} {p q : ℕ} → Arrived Begun R q p → From (λ s. R s q) p
-    from-begun {R} {p} {q} m =
+    from_begun : {R : (p q : ℕ) → Type 0} {p q : ℕ} → Arrived Begun R q p → From (λ s. R s q) p
+    from_begun {R} {p} {q} m =
         let (b, e) = m.held in
         (subst Begins (sym e) b, subst (λ (s : ℕ). R s q) (sym e) m.run)
 
     passed_low : {q p : ℕ} → p < max_states → Passed q p → From (λ s. Leads (Over a in_cycle) (length cycle) s q) p
-    passed_low lt h = from-begun (low_runs a in_cycle Begun (length cycle) (omega arith) h)
+    passed_low lt h = from_begun (low_runs a in_cycle Begun (length cycle) (omega arith) h)
 
     passed_high : {q : ℕ} (p : ℕ) → p < max_states → Passed q (met_bit + p)
         → From (λ s. Meets a in_cycle (length cycle) s q) p
     passed_high p lt h =
-        from-begun (high_runs a in_cycle Begun (length cycle) p (λ s b. begun-high s p b) (omega arith) refl h)
+        from_begun (high_runs a in_cycle Begun (length cycle) p (λ s b. begun_high s p b) (omega arith) refl h)
 
     -- ---- and so are those of several
 
@@ -111,11 +111,11 @@ module _ (a : Automaton) (n : ℕ) (cycle : List ℕ) (Begins : ℕ → Type 0) 
         (d + suc e, subst R z h)
 
     in_turn : {p q : ℕ} → Leads (Over a in_cycle) (length cycle) p q → Leads (Over a turn) (length cycle) p q
-    in_turn = leads_as (λ i lt. same-letter a (sym (round-first cycle i lt)))
+    in_turn = leads_as (λ i lt. same_letter a (sym (round_first cycle i lt)))
 
-    means-one : (q k : ℕ) → Passed q k → Means q k
+    means_one : (q k : ℕ) → Passed q k → Means q k
     unfolding in_turn
-    means-one q k h = record {
+    means_one q k h = record {
       runs = λ lt.
           let (b, r) = passed_low lt h in
           (b, once (λ d. Leads (Over a turn) d k q) (in_turn r));
@@ -134,7 +134,7 @@ module _ (a : Automaton) (n : ℕ) (cycle : List ℕ) (Begins : ℕ → Type 0) 
 
     -- a run on through further passes
     later : (d i p q : ℕ) → Over a turn i p q → Over a turn (suc d * length cycle + i) p q
-    later d i = same-letter a (sym (round-later cycle (suc d) i))
+    later d i = same_letter a (sym (round_later cycle (suc d) i))
 
     runs_on : {p m q : ℕ} → Runs p m → Runs m q → Runs p q
     runs_on {p} {m} {q} (d, f) (e, g) = more (λ c. Leads (Over a turn) c p q) d e (leads_on (λ i lt. later d i) f g)
@@ -146,7 +146,7 @@ module _ (a : Automaton) (n : ℕ) (cycle : List ℕ) (Begins : ℕ → Type 0) 
     on_met {p} {m} {q} (d, f) (e, g) = more (λ c. Meets a turn c p q) d e (on_meets (λ i lt. later d i) f g)
 
     means : {q k : ℕ} → Linked n Passed q k → Means q k
-    means (one q k h) = means-one q k h
+    means (one q k h) = means_one q k h
     means (join m q k lm lq b h) = record {
       runs = λ lt.
           let (s, r) = (means h).runs lt in
@@ -164,8 +164,8 @@ module _ (a : Automaton) (n : ℕ) (cycle : List ℕ) (Begins : ℕ → Type 0) 
     }
 
     -- a state that comes back to itself through an accepting state, in which a pass begins
-    pub found-round : (q : ℕ) → q < n → Linked n Passed q (met_bit + q) → Begins q × Mets q q
-    found-round q lt h = (means h).mets q (omega arith) refl
+    pub found_round : (q : ℕ) → q < n → Linked n Passed q (met_bit + q) → Begins q × Mets q q
+    found_round q lt h = (means h).mets q (omega arith) refl
 
     -- ---- runs are bits
 
@@ -195,8 +195,8 @@ module _ (a : Automaton) (n : ℕ) (cycle : List ℕ) (Begins : ℕ → Type 0) 
       pass_letter : (e i : ℕ) → i < length cycle → letter stem cycle (pass_at e + i) ≡ get_or cycle i 0
       pass_letter e i lt =
           let z : pass_at e + i ≡ length stem + (e * length cycle + i) = omega arith in
-          ap (letter stem cycle) z ∙ letter-round stem cycle (e * length cycle + i) ∙ round-later cycle e i
-          ∙ round-first cycle i lt
+          ap (letter stem cycle) z ∙ letter_round stem cycle (e * length cycle + i) ∙ round_later cycle e i
+          ∙ round_first cycle i lt
 
       pass_run : (e : ℕ) → e < pass.second → Leads (Over a in_cycle) (length cycle) (state e) (state (suc e))
       pass_run e lt = record {
@@ -206,7 +206,7 @@ module _ (a : Automaton) (n : ℕ) (cycle : List ℕ) (Begins : ℕ → Type 0) 
         steps = λ i l.
             let z : suc (pass_at e + i) ≡ pass_at e + suc i = omega arith in
             subst (λ (t : ℕ). Step a (pass.at (pass_at e + i)) (get_or cycle i 0) t) (ap pass.at z)
-            (same-letter a (pass_letter e i l) _ _ (pass.steps (pass_at e + i) (omega (arith, next e lt))));
+            (same_letter a (pass_letter e i l) _ _ (pass.steps (pass_at e + i) (omega (arith, next e lt))));
       }
 
       -- runs over one pass, and from pass to pass

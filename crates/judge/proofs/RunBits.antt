@@ -16,7 +16,7 @@ use Rattle.sets.specs.Bits.{Has}
 use Rattle.automaton.proofs.LetterTests.{or_none_lem}
 use Rattle.sets.proofs.Bits.{or_has, has_or_l, has_or_r, zero_has, pow_has, has_pow}
 use Rattle.judge.specs.Limits.{met_bit, row_bits}
-use Rattle.judge.proofs.Gathers.{adds_as, none-set}
+use Rattle.judge.proofs.Gathers.{adds_as, none_set}
 
 -- ---- words joined
 
@@ -177,10 +177,10 @@ four row (suc (suc (suc zero))) lt a b c d = d
 four row (suc (suc (suc (suc j)))) lt a b c d = absurd (omega arith)
 
 -- the four words of a row joined are 0, as the code looks at them
-pub row-none : (row : List ℕ)
+pub row_none : (row : List ℕ)
     → bit_or (bit_or (bit_or (get_or row 0 0) (get_or row 1 0)) (get_or row 2 0)) (get_or row 3 0) ≡ 0
     → (k : ℕ) → Token row 0 k → ⊥
-row-none row e k h =
+row_none row e k h =
     let f = or_none_lem _ (get_or row 3 0) e in
     let g = or_none_lem _ (get_or row 2 0) f.0 in
     let w = or_none_lem (get_or row 0 0) (get_or row 1 0) g.0 in
@@ -202,7 +202,7 @@ cleared n old confined {rows} e q k h = go (dec_lt q n)
 
     go : Dec (q < n) → ⊥
     go (yes lt) =
-        none-set (4 * n) q k
+        none_set (4 * n) q k
         (same_token (get_or-append zeros (drop (4 * n) old) 0 at (omega (arith, size, h.within))) (rw e at h))
     go (no ge) =
         let i : 4 * n + (at - 4 * n) ≡ at = omega arith in

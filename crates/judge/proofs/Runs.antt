@@ -30,12 +30,12 @@ pub record Meets (a : Automaton) (w : ℕ → ℕ) (d p q : ℕ) : Type 0 where
   pub accepts : Accepts a (run.at index)
 
 -- a step at a letter, said of the same letter
-pub same-letter : (a : Automaton) {x y : ℕ} → x ≡ y → (p q : ℕ) → Step a p x q → Step a p y q
-same-letter a e p q s = subst (λ (l : ℕ). Step a p l q) e s
+pub same_letter : (a : Automaton) {x y : ℕ} → x ≡ y → (p q : ℕ) → Step a p x q → Step a p y q
+same_letter a e p q s = subst (λ (l : ℕ). Step a p l q) e s
 
 module _ {X : Type 0} where
-  pub leads-none : {R : ℕ → X → X → Type 0} (p : X) → Leads R 0 p p
-  leads-none p = record { at = λ i. p; from = refl; to = refl; steps = λ i lt. absurd (omega arith) }
+  pub leads_none : {R : ℕ → X → X → Type 0} (p : X) → Leads R 0 p p
+  leads_none p = record { at = λ i. p; from = refl; to = refl; steps = λ i lt. absurd (omega arith) }
 
   -- one step
   abbrev pub leads_one : {R : ℕ → X → X → Type 0} {p q : X} → R 0 p q → Leads R 1 p q
@@ -148,8 +148,8 @@ module _ {a : Automaton} {w : ℕ → ℕ} {d p q t : ℕ} where
   meets_snoc m s =
       subst (λ (i : ℕ). Meets a w i p t) (add-one d) (meets_on (λ i lt x y h. h) m (leads_last m.run s))
 
-  pub meets-here : Leads (Over a w) d p q → Over a w d q t → Accepts a t → Meets a w (suc d) p t
-  meets-here r s acc =
+  pub meets_here : Leads (Over a w) d p q → Over a w d q t → Accepts a t → Meets a w (suc d) p t
+  meets_here r s acc =
       subst (λ (i : ℕ). Meets a w i p t) (add-one d) (on_meets {v = λ i. w (d + i)} (λ i lt x y h. h) r (record {
         run = leads_last r s;
         index = 1;

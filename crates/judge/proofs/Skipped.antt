@@ -6,8 +6,8 @@ use mathlib.Core.Path.{◌≡◌, refl, sym, ◌∙◌}
 use mathlib.Core.List.{List}
 use Rattle.answer.specs.Result.{Result, accepted, refused, and_then, fine}
 use Rattle.lasso.specs.Lasso.{remaining, lasso_check}
-use Rattle.lasso.proofs.Skipping.{remaining-again}
-use Rattle.lasso.proofs.Checking.{remaining-fine}
+use Rattle.lasso.proofs.Skipping.{remaining_again}
+use Rattle.lasso.proofs.Checking.{remaining_fine}
 use Rattle.automaton.specs.Automaton.{Automaton}
 use Rattle.image.specs.Reader.{read_image}
 use Rattle.judge.specs.Judge.{work_check, judgeable, judged_by, judged}
@@ -18,11 +18,11 @@ module _ (image work : List ℕ) where
       → judged image stem cycle work ≡ judged image (remaining stem) (remaining cycle) work
   unfolding judged judgeable
   skipped_change_nothing stem cycle fits =
-      rw (← fits, ← remaining-fine stem cycle fits)
+      rw (← fits, ← remaining_fine stem cycle fits)
       (go (and_then (work_check work) (λ _. and_then (read_image image) (λ a. accepted a))))
     where
       go : (r : Result Automaton) → judged_by r stem cycle work ≡ judged_by r (remaining stem) (remaining cycle) work
-      go (accepted a) = rw (remaining-again stem, remaining-again cycle)
+      go (accepted a) = rw (remaining_again stem, remaining_again cycle)
       go (refused number place) = refl
 
   -- R-9: two lassos that differ in skipped letters alone, neither of which is refused

@@ -13,7 +13,7 @@ use Rattle.image.specs.Lookup.{image_automaton, records_at, Readable, AcceptingB
 use Rattle.automaton.specs.Limits.{max_states}
 use Rattle.judge.proofs.Gathers.{adds_as, lift_as, Gathering, row_was, row_is}
 use Rattle.image.proofs.Lookup.{step_taken, taken_step, accepts_inside, accepts_byte, byte_accepts}
-use Rattle.image.proofs.Lookup.{records-end, target_inside}
+use Rattle.image.proofs.Lookup.{records_end, target_inside}
 
 -- ---- all records of a state
 
@@ -22,10 +22,10 @@ ByRecords image row x at i t k = ByRecord image (at + 4 * i) x row t k
 
 module _ (image : List ℕ) (q : ℕ) {at n : ℕ} (ea : at ≡ records_at image q) (en : n ≡ transition_count_of image q) where
   module _ (lq : q < (counts_at image).states) where
-    pub all-records : {row before after : List ℕ} (x : ℕ)
+    pub all_records : {row before after : List ℕ} (x : ℕ)
         → Gains before after (λ t k. (i : ℕ) × (i < n) × ByRecords image row x at i t k)
         → Gains before after (λ t k. Step (image_automaton image) q x t × Token row 0 k)
-    all-records {row} x adds = adds_as adds to from
+    all_records {row} x adds = adds_as adds to from
       where
         to : (t k : ℕ) → (i : ℕ) × (i < n) × ByRecords image row x at i t k
             → Step (image_automaton image) q x t × Token row 0 k
@@ -48,7 +48,7 @@ module _ (image : List ℕ) (q : ℕ) {at n : ℕ} (ea : at ≡ records_at image
     -- where the records of state q lie, and where record i leads
     module _ (fine : Readable image) where
       pub records_fit : at + 4 * n ≤ length image
-      records_fit = rw (ea, en) (records-end image fine q lq)
+      records_fit = rw (ea, en) (records_end image fine q lq)
 
       pub target_fits : (i : ℕ) → i < n → number_at image (at + 4 * i + 2) < max_states
       target_fits i lt = rw ea (omega (arith, fine.few, target_inside image fine q i lq (rw en at lt)))
@@ -82,10 +82,10 @@ all_lifted image {before} n en adds =
     to q k (p, lt, (e, (b, l))) = rw e (byte_accepts image p (rw en at lt) b, l)
 
 -- what is added of each state by itself, said of all
-pub all-states : {before after : List ℕ} {P : ℕ → Type 0} (n : ℕ)
+pub all_states : {before after : List ℕ} {P : ℕ → Type 0} (n : ℕ)
     → Gains before after (λ q k. (p : ℕ) × (p < n) × ((q ≡ p) × (P p × (k ≡ p))))
     → Gains before after (λ q k. (q < n) × (P q × (k ≡ q)))
-all-states {before} {after} {P} n adds = adds_as adds to (λ q k h. (q, h.0, (refl, h.1)))
+all_states {before} {after} {P} n adds = adds_as adds to (λ q k h. (q, h.0, (refl, h.1)))
   where
     to : (q k : ℕ) → ((p : ℕ) × (p < n) × ((q ≡ p) × (P p × (k ≡ p)))) → (q < n) × (P q × (k ≡ q))
     to q k (p, lt, (e, h)) = rw e (lt, h)

@@ -15,8 +15,8 @@ use Rattle.judge.specs.Limits.{met_bit, rows_words}
 use Rattle.automaton.specs.Limits.{max_states}
 use Rattle.judge.proofs.Gathers.{is_initial, is_made}
 use Rattle.judge.proofs.Decisions.{holds_not}
-use Rattle.judge.proofs.Letters.{moved-map}
-use Rattle.judge.proofs.Passes.{Begun, Passed, passed_covered, found-round, pass_passed, pass_found}
+use Rattle.judge.proofs.Letters.{moved_map}
+use Rattle.judge.proofs.Passes.{Begun, Passed, passed_covered, found_round, pass_passed, pass_found}
 use Rattle.judge.proofs.PassStates.{Begins, begins_inside, pass_begins, round_pass}
 
 -- what follows from less follows from more
@@ -26,7 +26,7 @@ after_map a word P Q f = go (length word)
   where
     go : (i q k : ℕ) → After a (λ j. get_or word j 0) P i q k → After a (λ j. get_or word j 0) Q i q k
     go zero q k h = f q k h
-    go (suc i) q k h = moved-map a (get_or word i 0) _ _ (go i) q k h
+    go (suc i) q k h = moved_map a (get_or word i 0) _ _ (go i) q k h
 
 linked_map : (n : ℕ) (P Q : (q k : ℕ) → Type 0) → ((q k : ℕ) → P q k → Q q k)
     → (q k : ℕ) → Linked n P q k → Linked n Q q k
@@ -88,7 +88,7 @@ module _ {a : Automaton} {n : ℕ} (counted : Counted a n) (stem cycle : List �
       yes = λ e.
           let (q, lt, h) = found.yes e in
           let back = rows.only q (met_bit + q) h in
-          let (b, (d, m)) = found-round a n cycle (Begins a stem cycle) counted.few below q lt back in
+          let (b, (d, m)) = found_round a n cycle (Begins a stem cycle) counted.few below q lt back in
           round_pass a counted.range stem cycle pos q d m b;
       no = λ e pass.
           let (q, lt, h) = pass_found a n cycle (Begins a stem cycle) counted.few below stem pass

@@ -22,13 +22,13 @@ use Rattle.judge.specs.Judge.{letters_judged, judged}
 use Rattle.lasso.specs.Lasso.{remaining, max_letters, lasso_check}
 use Rattle.automaton.proofs.InRange.{InRange}
 use Rattle.rest.specs.Rest.{rest_taken, pairs_taken}
-use Rattle.judge.proofs.HasAcceptingPass.{has-accepting_pass_iff}
+use Rattle.judge.proofs.HasAcceptingPass.{has_accepting_pass_iff}
 use Rattle.judge.proofs.AtRest.{full_search}
 use Rattle.image.proofs.Accepted.{readable, readable_in_range}
 use Rattle.lasso.proofs.Checking.{lasso_some, lasso_within}
 
-one-verdict : accepted kept ≡ accepted broken → ⊥
-one-verdict e =
+one_verdict : accepted kept ≡ accepted broken → ⊥
+one_verdict e =
     let z : ◌≡◌ {A = ℕ} 0 1 = cc in
     omega arith
 
@@ -45,16 +45,16 @@ unfolding verdict
 verdict_exactly a stem cycle range pos {P} iff = go (rest_taken a stem cycle || has_accepting_pass a stem cycle) refl
   where
     shown : (rest_taken a stem cycle || has_accepting_pass a stem cycle) ≡ true ↔ AcceptingPass a stem cycle
-    shown = rw (full_search a range stem cycle pos) (has-accepting_pass_iff a range stem cycle pos)
+    shown = rw (full_search a range stem cycle pos) (has_accepting_pass_iff a range stem cycle pos)
 
     go : (b : Bool) → (rest_taken a stem cycle || has_accepting_pass a stem cycle) ≡ b
         → Exactly (accepted (finding (elim b [ true ↦ kept | false ↦ broken ]) (pairs_taken a stem cycle))) P
     go true e =
         let p : P = iff.0 (shown.0 e) in
-        ((λ _. p, λ _. refl), (λ w. absurd (one-verdict w), λ no. absurd (no p)))
+        ((λ _. p, λ _. refl), (λ w. absurd (one_verdict w), λ no. absurd (no p)))
     go false e =
         let none : P → ⊥ = λ p. false≢true (sym e ∙ shown.1 (iff.1 p)) in
-        ((λ w. absurd (one-verdict (sym w)), λ p. absurd (none p)), (λ _. none, λ _. refl))
+        ((λ w. absurd (one_verdict (sym w)), λ p. absurd (none p)), (λ _. none, λ _. refl))
 
 -- of every image: where 25, 10 to 13, 8, 9 and 28 refuse nothing, the answer is about the automaton that was read, and
 -- its passes are over the letters that remain

@@ -1,5 +1,5 @@
 -- Whether an automaton has an accepting pass on a lasso, as a value: a search over points, each a position of the lasso
--- and a state. `has-accepting_pass_iff` (proofs/HasAcceptingPass.antt) says that it is true exactly where there is an
+-- and a state. `has_accepting_pass_iff` (proofs/HasAcceptingPass.antt) says that it is true exactly where there is an
 -- `AcceptingPass`, which renders 01, Judging, sentences 1 to 4.
 use Rattle.std.specs.Prelude.{ℕ, List, Bool, ◌&&◌, get_or}
 use Rattle.sets.specs.Sets.{any}

@@ -20,9 +20,9 @@ letter_late : (stem cycle : List ℕ) (i : ℕ) → length stem ≤ i
 unfolding letter
 letter_late stem cycle i l = rw (le-ltb i (length stem) l)
 
-pub letter-round : (stem cycle : List ℕ) (i : ℕ) → length stem ≤ i
+pub letter_round : (stem cycle : List ℕ) (i : ℕ) → length stem ≤ i
     → letter stem cycle (i + length cycle) ≡ letter stem cycle i
-letter-round stem cycle i l =
+letter_round stem cycle i l =
     let e : i + length cycle - length stem ≡ i - length stem + length cycle = omega arith in
     letter_late stem cycle (i + length cycle) (omega arith)
     ∙ ap (λ (x : ℕ). get_or cycle (x % length cycle) 0) e

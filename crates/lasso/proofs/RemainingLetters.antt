@@ -12,7 +12,7 @@ use lib.ListN.{get_or, length, length-append}
 use borrow.Author.Tests.{lt-ltb, ltb-true}
 use Rattle.lasso.specs.Lasso.{skipped, remains, remaining, letter, remaining_before, IthRemaining}
 use Rattle.lasso.proofs.Letters.{letter_early, letter_unrolled}
-use Rattle.lasso.proofs.Skipping.{remaining-kept, remaining-skipped, remaining-append}
+use Rattle.lasso.proofs.Skipping.{remaining_kept, remaining_skipped, remaining_append}
 
 -- a word without its first letter
 unfoldable later : (ℕ → ℕ) → ℕ → ℕ
@@ -50,13 +50,13 @@ in_list (x ∷ xs) word begins i lt =
         → ((j : ℕ) → j < length (remaining xs) → IthRemaining (later word) j (get_or (remaining xs) j 0))
         → IthRemaining word i (get_or (remaining (x ∷ xs)) i 0)
     go true e zero l rest =
-        rw (remaining-kept x xs e) (record { place = 0; there = first; stays = e; before = refl })
+        rw (remaining_kept x xs e) (record { place = 0; there = first; stays = e; before = refl })
     go true e (suc i) l rest =
-        rw (remaining-kept x xs e)
-        (further e (omega arith) (rest i (omega (arith, ap length (remaining-kept x xs e)))))
+        rw (remaining_kept x xs e)
+        (further e (omega arith) (rest i (omega (arith, ap length (remaining_kept x xs e)))))
     go false e i l rest =
-        rw (remaining-skipped x xs e)
-        (further e (omega arith) (rest i (omega (arith, ap length (remaining-skipped x xs e)))))
+        rw (remaining_skipped x xs e)
+        (further e (omega arith) (rest i (omega (arith, ap length (remaining_skipped x xs e)))))
 
 -- of a lasso, with so many letters of further rounds of the cycle
 in_rounds : (rounds : ℕ) (stem cycle : List ℕ) → 0 < length (remaining cycle)
@@ -66,7 +66,7 @@ in_rounds zero stem cycle some i lt =
     subst (IthRemaining (letter stem cycle) i) (sym (letter_early (remaining stem) (remaining cycle) i (omega arith)))
     (in_list stem (letter stem cycle) (letter_early stem cycle) i (omega arith))
 in_rounds (suc rounds) stem cycle some i lt =
-    let longer = remaining-append stem cycle in
+    let longer = remaining_append stem cycle in
     let r = in_rounds rounds (stem ++ cycle) cycle some i
     (omega (arith, ap length longer, length-append (remaining stem) (remaining cycle))) in
     let same : letter (remaining (stem ++ cycle)) (remaining cycle) i ≡ letter (remaining stem) (remaining cycle) i =
@@ -93,10 +93,10 @@ before_grows word m (suc n) le = go (dec_lt n m) (before_grows word m n)
     go (no l) ih = omega (arith, ih (omega arith))
 
 -- of two places where the letter remains, more letters remain before the later one
-before_later-place : (word : ℕ → ℕ) (m n : ℕ) → m < n → remains (word m) ≡ true
+before_later_place : (word : ℕ → ℕ) (m n : ℕ) → m < n → remains (word m) ≡ true
     → remaining_before word m < remaining_before word n
 unfolding remaining_before
-before_later-place word m n lt stays =
+before_later_place word m n lt stays =
     let more : remaining_before word (suc m) ≡ remaining_before word m + 1 = rw stays in
     omega (arith, more, before_grows word (suc m) n lt)
 
@@ -106,10 +106,10 @@ remaining_once {word} {i} {x} {y} r s = go (dec_lt r.place s.place) (dec_lt s.pl
   where
     go : Dec (r.place < s.place) → Dec (s.place < r.place) → r.place ≡ s.place
     go (yes l) d =
-        let more = before_later-place word r.place s.place l (rw r.there r.stays) in
+        let more = before_later_place word r.place s.place l (rw r.there r.stays) in
         absurd (omega (arith, more, r.before, s.before))
     go (no l) (yes m) =
-        let more = before_later-place word s.place r.place m (rw s.there s.stays) in
+        let more = before_later_place word s.place r.place m (rw s.there s.stays) in
         absurd (omega (arith, more, r.before, s.before))
     go (no l) (no m) = omega arith
 
@@ -117,9 +117,9 @@ remaining_once {word} {i} {x} {y} r s = go (dec_lt r.place s.place) (dec_lt s.pl
 
 -- R-9, sentence 3: letter i of the word is the letter, of those as they are lent, at the place where it remains and
 -- before which i others do; by `remaining_once` there is one such place
-pub remaining-letters : (stem cycle : List ℕ) → 0 < length (remaining cycle)
+pub remaining_letters : (stem cycle : List ℕ) → 0 < length (remaining cycle)
     → (i : ℕ) → IthRemaining (letter stem cycle) i (letter (remaining stem) (remaining cycle) i)
-remaining-letters stem cycle some i = in_rounds (suc i) stem cycle some i (omega arith)
+remaining_letters stem cycle some i = in_rounds (suc i) stem cycle some i (omega arith)
 
 -- and a letter remains, being a byte, exactly where its bit 7 is clear
 pub remains_exactly : (x : ℕ) → x < 256 → (remains x ≡ true) ↔ ((x / 2 ^ 7) % 2 ≡ 0)

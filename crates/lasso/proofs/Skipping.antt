@@ -17,23 +17,23 @@ use borrow.Author.Tests.{lt-ltb, le-ltb, ltb-true}
 use Rattle.lasso.specs.Lasso.{skipped, remains, remaining}
 
 module _ (x : ℕ) (xs : List ℕ) where
-  pub remaining-kept : remains x ≡ true → remaining (x ∷ xs) ≡ x ∷ remaining xs
+  pub remaining_kept : remains x ≡ true → remaining (x ∷ xs) ≡ x ∷ remaining xs
   unfolding remaining
-  remaining-kept e = rw (e, remaining)
+  remaining_kept e = rw (e, remaining)
 
-  pub remaining-skipped : remains x ≡ false → remaining (x ∷ xs) ≡ remaining xs
+  pub remaining_skipped : remains x ≡ false → remaining (x ∷ xs) ≡ remaining xs
   unfolding remaining
-  remaining-skipped e = rw (e, remaining)
+  remaining_skipped e = rw (e, remaining)
 
-pub remaining-append : (xs ys : List ℕ) → remaining (xs ++ ys) ≡ remaining xs ++ remaining ys
+pub remaining_append : (xs ys : List ℕ) → remaining (xs ++ ys) ≡ remaining xs ++ remaining ys
 unfolding remaining
-remaining-append [] ys = refl
-remaining-append (x ∷ xs) ys = go (remains x) refl (remaining-append xs ys)
+remaining_append [] ys = refl
+remaining_append (x ∷ xs) ys = go (remains x) refl (remaining_append xs ys)
   where
     go : (b : Bool) → remains x ≡ b → remaining (xs ++ ys) ≡ remaining xs ++ remaining ys
         → remaining (x ∷ xs ++ ys) ≡ remaining (x ∷ xs) ++ remaining ys
-    go true e ih = rw (remaining-kept x (xs ++ ys) e, remaining-kept x xs e) (ap (λ (l : List ℕ). x ∷ l) ih)
-    go false e ih = rw (remaining-skipped x (xs ++ ys) e, remaining-skipped x xs e) ih
+    go true e ih = rw (remaining_kept x (xs ++ ys) e, remaining_kept x xs e) (ap (λ (l : List ℕ). x ∷ l) ih)
+    go false e ih = rw (remaining_skipped x (xs ++ ys) e, remaining_skipped x xs e) ih
 
 -- no letter is added
 pub remaining_fewer : (xs : List ℕ) → length (remaining xs) ≤ length xs
@@ -43,19 +43,19 @@ remaining_fewer (x ∷ xs) = go (remains x) refl (remaining_fewer xs)
   where
     go : (b : Bool) → remains x ≡ b → length (remaining xs) ≤ length xs
         → length (remaining (x ∷ xs)) ≤ length (x ∷ xs)
-    go true e ih = rw (remaining-kept x xs e) (omega arith)
-    go false e ih = rw (remaining-skipped x xs e) (omega arith)
+    go true e ih = rw (remaining_kept x xs e) (omega arith)
+    go false e ih = rw (remaining_skipped x xs e) (omega arith)
 
 -- of what remains all remains
-pub remaining-again : (xs : List ℕ) → remaining (remaining xs) ≡ remaining xs
+pub remaining_again : (xs : List ℕ) → remaining (remaining xs) ≡ remaining xs
 unfolding remaining
-remaining-again [] = refl
-remaining-again (x ∷ xs) = go (remains x) refl (remaining-again xs)
+remaining_again [] = refl
+remaining_again (x ∷ xs) = go (remains x) refl (remaining_again xs)
   where
     go : (b : Bool) → remains x ≡ b → remaining (remaining xs) ≡ remaining xs
         → remaining (remaining (x ∷ xs)) ≡ remaining (x ∷ xs)
-    go true e ih = rw (remaining-kept x xs e, remaining-kept x (remaining xs) e) (ap (λ (l : List ℕ). x ∷ l) ih)
-    go false e ih = rw (remaining-skipped x xs e) ih
+    go true e ih = rw (remaining_kept x xs e, remaining_kept x (remaining xs) e) (ap (λ (l : List ℕ). x ∷ l) ih)
+    go false e ih = rw (remaining_skipped x xs e) ih
 
 -- where as many remain as there are, all do
 pub all_remain : (xs : List ℕ) → length (remaining xs) ≡ length xs → remaining xs ≡ xs
@@ -66,29 +66,29 @@ all_remain (x ∷ xs) e = go (remains x) refl (all_remain xs)
     go : (b : Bool) → remains x ≡ b → (length (remaining xs) ≡ length xs → remaining xs ≡ xs)
         → remaining (x ∷ xs) ≡ x ∷ xs
     go true r ih =
-        let kept = remaining-kept x xs r in
+        let kept = remaining_kept x xs r in
         kept ∙ ap (λ (l : List ℕ). x ∷ l) (ih (omega (arith, e, ap length kept)))
-    go false r ih = absurd (omega (arith, e, ap length (remaining-skipped x xs r), remaining_fewer xs))
+    go false r ih = absurd (omega (arith, e, ap length (remaining_skipped x xs r), remaining_fewer xs))
 
 -- one letter by itself
 pub one_kept : (x : ℕ) → x < skipped → remaining (x ∷ []) ≡ x ∷ []
 unfolding remaining
-one_kept x lt = remaining-kept x [] (lt-ltb x skipped lt)
+one_kept x lt = remaining_kept x [] (lt-ltb x skipped lt)
 
-pub one-skipped : (x : ℕ) → skipped ≤ x → remaining (x ∷ []) ≡ []
+pub one_skipped : (x : ℕ) → skipped ≤ x → remaining (x ∷ []) ≡ []
 unfolding remaining
-one-skipped x le = remaining-skipped x [] (le-ltb x skipped le)
+one_skipped x le = remaining_skipped x [] (le-ltb x skipped le)
 
 pub count_kept : (x : ℕ) → x < skipped → 1 ≡ length (remaining (x ∷ []))
 count_kept x lt = sym (ap length (one_kept x lt))
 
-pub count-skipped : (x : ℕ) → skipped ≤ x → 0 ≡ length (remaining (x ∷ []))
-count-skipped x le = sym (ap length (one-skipped x le))
+pub count_skipped : (x : ℕ) → skipped ≤ x → 0 ≡ length (remaining (x ∷ []))
+count_skipped x le = sym (ap length (one_skipped x le))
 
 -- one letter more
-pub remaining-next : (xs : List ℕ) (i : ℕ) → i < length xs
+pub remaining_next : (xs : List ℕ) (i : ℕ) → i < length xs
     → remaining (take (i + 1) xs) ≡ remaining (take i xs) ++ remaining (get_or xs i 0 ∷ [])
-remaining-next xs i lt = rw (add-one, take-suc xs i 0 lt) (remaining-append (take i xs) (get_or xs i 0 ∷ []))
+remaining_next xs i lt = rw (add-one, take-suc xs i 0 lt) (remaining_append (take i xs) (get_or xs i 0 ∷ []))
 
 -- ---- a loop that keeps what remains: of the first i letters it has kept n
 
@@ -113,7 +113,7 @@ module _ (lent letters : List ℕ) where
         within = omega arith;
         few = omega (arith, inv.few);
         size = simp length-set inv.size;
-        so_far = kept-so ∙ rw inv.so_far (sym (remaining-next letters i lt));
+        so_far = kept-so ∙ rw inv.so_far (sym (remaining_next letters i lt));
       }
     where
       x : ℕ
@@ -125,11 +125,11 @@ module _ (lent letters : List ℕ) where
       -- what is kept after the step, of a letter that is kept and of one that is skipped
       step : (b : Bool) → remains x ≡ b → (r ≤ 1) × (take (n + r) (set kept n x) ≡ take n kept ++ remaining (x ∷ []))
       step true e =
-          let one : r ≡ 1 = counted ∙ ap length (remaining-kept x [] e) in
-          (omega arith, rw (one, add-one, take-suc-set kept n x room_left, remaining-kept x [] e, remaining))
+          let one : r ≡ 1 = counted ∙ ap length (remaining_kept x [] e) in
+          (omega arith, rw (one, add-one, take-suc-set kept n x room_left, remaining_kept x [] e, remaining))
       step false e =
-          let none : r ≡ 0 = counted ∙ ap length (remaining-skipped x [] e) in
-          (omega arith, rw (none, add-zero, take-set-le n kept n x (omega arith), remaining-skipped x [] e, append-nil))
+          let none : r ≡ 0 = counted ∙ ap length (remaining_skipped x [] e) in
+          (omega arith, rw (none, add-zero, take-set-le n kept n x (omega arith), remaining_skipped x [] e, append-nil))
 
   pub keep_ends : (kept : List ℕ) (n i : ℕ) → length letters ≤ i → length letters ≤ length lent
       → Keeping lent letters kept n i → (n ≤ length kept) × (take n kept ≡ remaining letters)
@@ -138,14 +138,14 @@ module _ (lent letters : List ℕ) where
 
 -- ---- a loop that looks for a letter that remains: none of the first i does
 
-pub none-begins : (letters : List ℕ) → remaining (take 0 letters) ≡ []
+pub none_begins : (letters : List ℕ) → remaining (take 0 letters) ≡ []
 unfolding remaining
-none-begins letters = refl
+none_begins letters = refl
 
 module _ (letters : List ℕ) (i : ℕ) where
   pub none_steps : i < length letters → remaining (take i letters) ≡ [] → skipped ≤ get_or letters i 0
       → remaining (take (i + 1) letters) ≡ []
-  none_steps lt none le = remaining-next letters i lt ∙ rw (none, one-skipped (get_or letters i 0) le)
+  none_steps lt none le = remaining_next letters i lt ∙ rw (none, one_skipped (get_or letters i 0) le)
 
   pub none_ends : length letters ≤ i → remaining (take i letters) ≡ [] → false ≡ ltb 0 (length (remaining letters))
   none_ends le none =
@@ -156,8 +156,8 @@ module _ (letters : List ℕ) (i : ℕ) where
   one_found lt less =
       let x = get_or letters i 0 in
       let split : remaining letters ≡ remaining (take i letters) ++ (x ∷ remaining (drop (suc i) letters)) =
-      ap remaining (split_at letters i 0 lt) ∙ remaining-append (take i letters) (x ∷ drop (suc i) letters)
-      ∙ rw (remaining-kept x (drop (suc i) letters) (lt-ltb x skipped less)) in
+      ap remaining (split_at letters i 0 lt) ∙ remaining_append (take i letters) (x ∷ drop (suc i) letters)
+      ∙ rw (remaining_kept x (drop (suc i) letters) (lt-ltb x skipped less)) in
       let counted = length-append (remaining (take i letters)) (x ∷ remaining (drop (suc i) letters)) in
       sym (lt-ltb 0 (length (remaining letters)) (omega (arith, ap length split, counted)))
 
@@ -182,7 +182,7 @@ module _ (letters : List ℕ) where
       counted : length (remaining (take (i + 1) letters))
           ≡ length (remaining (take i letters)) + length (remaining (x ∷ []))
       counted =
-          ap length (remaining-next letters i lt) ∙ length-append (remaining (take i letters)) (remaining (x ∷ []))
+          ap length (remaining_next letters i lt) ∙ length-append (remaining (take i letters)) (remaining (x ∷ []))
 
       together : bit_or joined x < skipped → length (remaining (take (i + 1) letters)) ≡ i + 1
       together l =
@@ -197,7 +197,7 @@ module _ (letters : List ℕ) where
           go : Dec (x < skipped) → bit_or joined x < skipped
           go (yes l) = or_lt 7 joined x (inv.tells.1 (omega (arith, counted, e, count_kept x l))) l
           go (no l) =
-              let none = count-skipped x (omega arith) in
+              let none = count_skipped x (omega arith) in
               let few = remaining_fewer (take i letters) in
               absurd (omega (arith, counted, e, none, few, length-take-le i letters (omega arith)))
 

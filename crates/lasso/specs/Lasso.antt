@@ -20,7 +20,7 @@ remaining (x ∷ xs) = elim (remains x) [ true ↦ x ∷ remaining xs | false �
 
 -- letter i of the word of two lists: the stem's as far as it reaches, and behind it the cycle's, again and again (01,
 -- Rules and when a plan keeps one, sentence 8). The word of a lasso is this one of what remains of its stem and of its
--- cycle, `letter (remaining stem) (remaining cycle)`: `remaining-letters` (proofs/RemainingLetters.antt) says what its
+-- cycle, `letter (remaining stem) (remaining cycle)`: `remaining_letters` (proofs/RemainingLetters.antt) says what its
 -- letter i is.
 unfoldable pub letter : (stem cycle : List ℕ) → ℕ → ℕ
 letter stem cycle i =

@@ -15,14 +15,14 @@ use Rattle.formula.specs.Rule.{node_count, kind_at, left_at, right_at, root, lef
 use Rattle.formula.specs.Rule.{release_kind, node_check, syntax_check}
 use Rattle.formula.specs.Formula.{Formula, conjunction, build, tree, formula}
 use Rattle.formula.specs.Satisfaction.{Holds, Satisfies}
-use Rattle.formula.proofs.Accepted.{Node, node-fine, kind_known, formed-fine}
-use Rattle.formula.proofs.Operands.{left_proposition, left-child, right_child}
+use Rattle.formula.proofs.Accepted.{Node, node_fine, kind_known, formed_fine}
+use Rattle.formula.proofs.Operands.{left_proposition, left_child, right_child}
 use Rattle.formula.proofs.Trees.{leaf_in, pair_in}
-use Rattle.normalform.proofs.Meaning.{either_same, until-same, release-same}
+use Rattle.normalform.proofs.Meaning.{either_same, until_same, release_same}
 use Rattle.merge.specs.Merge.{moved, conjoined}
 use Rattle.merge.proofs.Copied.{Copied, copied_node}
-use Rattle.merge.proofs.Conjoined.{merged_count_lem, first_copied, second_copied, root-kind, root-left, root-right}
-use Rattle.merge.proofs.Conjoined.{root-node}
+use Rattle.merge.proofs.Conjoined.{merged_count_lem, first_copied, second_copied, root_kind, root_left, root_right}
+use Rattle.merge.proofs.Conjoined.{root_node_lem}
 
 module _ (w : ℕ → ℕ) where
   -- two formulas hold at the same positions
@@ -43,9 +43,9 @@ module _ (w : ℕ → ℕ) where
       either_same (x (omega arith) i) (y (omega arith) refl i)
   build_alike (suc (suc (suc (suc (suc (suc zero)))))) n m l l' f g f' g' le p x y i = x (omega arith) (suc i)
   build_alike (suc (suc (suc (suc (suc (suc (suc zero))))))) n m l l' f g f' g' le p x y i =
-      until-same (Holds w f') (Holds w g') (Holds w f) (Holds w g) (x (omega arith)) (y (omega arith) refl) i
+      until_same (Holds w f') (Holds w g') (Holds w f) (Holds w g) (x (omega arith)) (y (omega arith) refl) i
   build_alike (suc (suc (suc (suc (suc (suc (suc (suc zero)))))))) n m l l' f g f' g' le p x y i =
-      release-same (Holds w f') (Holds w g') (Holds w f) (Holds w g) (x (omega arith)) (y (omega arith) refl) i
+      release_same (Holds w f') (Holds w g') (Holds w f) (Holds w g) (x (omega arith)) (y (omega arith) refl) i
   build_alike (suc (suc (suc (suc (suc (suc (suc (suc (suc k))))))))) n m l l' f g f' g' le p x y i =
       absurd (omega arith)
 
@@ -59,11 +59,11 @@ module _ (w : ℕ → ℕ) where
       kind = kind_at part n
 
       node : Node part n
-      node = node-fine release_kind part n (each n lt)
+      node = node_fine release_kind part n (each n lt)
 
-      node-moved : Node whole (up + n)
-      node-moved =
-          node-fine release_kind whole (up + n) (copied_node whole part up copied release_kind n lt (each n lt))
+      node_moved : Node whole (up + n)
+      node_moved =
+          node_fine release_kind whole (up + n) (copied_node whole part up copied release_kind n lt (each n lt))
 
       inside : up + n < node_count whole
       inside = omega (arith, copied.inside)
@@ -79,7 +79,7 @@ module _ (w : ℕ → ℕ) where
 
       leaf_alike : kind < 4 → AlikeAt n
       leaf_alike leaf =
-          leaf_in whole (up + n) inside node-moved (λ f. Alike f (tree part n)) kind (sym (copied.kinds n lt))
+          leaf_in whole (up + n) inside node_moved (λ f. Alike f (tree part n)) kind (sym (copied.kinds n lt))
           left (sym (copied.lefts n lt))
           (λ f g. leaf_in part n lt node (λ h. Alike (build kind (up + n) left f g) h) kind refl (left_at part n) refl
           (λ f' g'. build_alike kind (up + n) n left (left_at part n) f g f' g' known
@@ -88,12 +88,12 @@ module _ (w : ℕ → ℕ) where
 
       inner_alike : 3 < kind → ((k : ℕ) → k < n → AlikeAt k) → AlikeAt n
       inner_alike inner ih =
-          pair_in whole (up + n) inside node-moved (λ f. Alike f (tree part n)) kind (sym (copied.kinds n lt))
+          pair_in whole (up + n) inside node_moved (λ f. Alike f (tree part n)) kind (sym (copied.kinds n lt))
           left right (sym (copied.lefts n lt)) (sym (copied.rights n lt)) inner
           (pair_in part n lt node (λ h. Alike (build kind (up + n) left (tree whole left) (tree whole right)) h)
           kind refl (left_at part n) (right_at part n) refl refl inner
           (build_alike kind (up + n) n left (left_at part n) _ _ _ _ known (λ low high. absurd (omega arith))
-          (λ _. rw (← left-child kind (omega arith)) (ih (left_at part n) (node.left inner)))
+          (λ _. rw (← left_child kind (omega arith)) (ih (left_at part n) (node.left inner)))
           (λ _ two. rw (← right_child kind (omega arith) two) (ih (right_at part n) (node.right inner)))))
 
     node_alike : (bound n : ℕ) → n < bound → n < node_count part → AlikeAt n
@@ -128,12 +128,12 @@ module _ (first second : List ℕ) (passes : syntax_check release_kind first ≡
   merged_formula =
       let count = merged_count_lem first second passes passes_too in
       let last : root all ≡ m + n = omega arith in
-      let node = node-fine release_kind all (m + n) (root-node first second passes passes_too) in
+      let node = node_fine release_kind all (m + n) (root_node_lem first second passes passes_too) in
       rw (last, zero-add (root first))
       (pair_in all (m + n) (omega arith) node
       (λ f. f ≡ conjunction (tree all (root first)) (tree all (m + root second)))
-      4 (sym (root-kind first second passes passes_too)) (root first) (m + root second)
-      (sym (root-left first second passes passes_too)) (sym (root-right first second passes passes_too))
+      4 (sym (root_kind first second passes passes_too)) (root first) (m + root second)
+      (sym (root_left first second passes passes_too)) (sym (root_right first second passes passes_too))
       (omega arith) refl)
 
   -- R-7: a lasso satisfies the merged rule of two first-edition rules exactly when it satisfies both
@@ -142,8 +142,8 @@ module _ (first second : List ℕ) (passes : syntax_check release_kind first ≡
   unfolding Satisfies
   merged_satisfied stem cycle =
       let word = letter stem cycle in
-      let formed = formed-fine release_kind first passes in
-      let formed-too = formed-fine release_kind second passes_too in
+      let formed = formed_fine release_kind first passes in
+      let formed-too = formed_fine release_kind second passes_too in
       rw merged_formula
       (Iff.and
       (root_alike word all first 0 (first_copied first second passes passes_too) formed.each formed.some 0)

@@ -13,18 +13,18 @@ use lib.ListN.{get_or, length, length-append, get_or-append}
 use lib.Seq.{get_or-append-add}
 use borrow.Author.Tests.{le-leb, lt-ltb, eq-eqb, ne_eqb}
 use Rattle.answer.specs.Result.{fine}
-use Rattle.answer.proofs.Lowest.{lowest-all}
+use Rattle.answer.proofs.Lowest.{lowest_all}
 use Rattle.formula.specs.declared.Operand.{Operand}
 use Rattle.formula.specs.declared.Operand.TheVariants.{Unused, Proposition, Child}
 use Rattle.formula.specs.Limits.{max_nodes, rule_bytes}
 use Rattle.formula.specs.Rule.{node_count, kind_at, left_at, right_at, root, left_operand, one_child, right_operand}
 use Rattle.formula.specs.Rule.{release_kind, length_check, node_check, ChildrenBelow, places, place_check, syntax_check}
 use Rattle.formula.specs.Rule.{untils}
-use Rattle.formula.proofs.Accepted.{formed-fine}
-use Rattle.formula.proofs.Checks.{children_below, place-root}
+use Rattle.formula.proofs.Accepted.{formed_fine}
+use Rattle.formula.proofs.Checks.{children_below, place_root}
 use Rattle.formula.proofs.Untils.{untils_more, untils_most}
 use Rattle.merge.specs.Merge.{moved, moved_node, moved_nodes, conjoined, merged_count}
-use Rattle.merge.proofs.Copied.{Copied, moved-child, no_places, copied_node, copied_places, places_before}
+use Rattle.merge.proofs.Copied.{Copied, moved_child, no_places, copied_node, copied_places, places_before}
 use Rattle.merge.proofs.Copied.{copied_place, copied_untils}
 
 -- ---- nodes that are moved up
@@ -35,11 +35,11 @@ moved_length rule up zero = refl
 moved_length rule up (suc n) =
     omega (arith, moved_length rule up n, length-append (moved_nodes rule up n) (moved_node rule up n))
 
-moved-byte : (rule : List ℕ) (up n k j : ℕ) → k < n → j < 3
+moved_byte : (rule : List ℕ) (up n k j : ℕ) → k < n → j < 3
     → get_or (moved_nodes rule up n) (k * 3 + j) 0 ≡ get_or (moved_node rule up k) j 0
 unfolding moved_nodes
-moved-byte rule up zero k j lt small = absurd (omega arith)
-moved-byte rule up (suc n) k j lt small = go (ℕ_discrete k n) (λ lt. moved-byte rule up n k j lt small)
+moved_byte rule up zero k j lt small = absurd (omega arith)
+moved_byte rule up (suc n) k j lt small = go (ℕ_discrete k n) (λ lt. moved_byte rule up n k j lt small)
   where
     go : Dec (k ≡ n) → (k < n → get_or (moved_nodes rule up n) (k * 3 + j) 0 ≡ get_or (moved_node rule up k) j 0)
         → get_or (moved_nodes rule up n ++ moved_node rule up n) (k * 3 + j) 0 ≡ get_or (moved_node rule up k) j 0
@@ -77,13 +77,13 @@ module _ (first second : List ℕ) (passes : syntax_check release_kind first ≡
   root_node = 4 ∷ (root first ∷ ((m + root second) ∷ []))
 
   whole : length first ≡ m * 3
-  whole = omega (arith, (formed-fine release_kind first passes).whole)
+  whole = omega (arith, (formed_fine release_kind first passes).whole)
 
   some : 0 < m
-  some = (formed-fine release_kind first passes).some
+  some = (formed_fine release_kind first passes).some
 
   some_too : 0 < n
-  some_too = (formed-fine release_kind second passes_too).some
+  some_too = (formed_fine release_kind second passes_too).some
 
   pub merged_length : length all ≡ merged_count first second * 3
   unfolding conjoined
@@ -104,18 +104,18 @@ module _ (first second : List ℕ) (passes : syntax_check release_kind first ≡
       rw place
       (get_or-append-add first (nodes ++ root_node) (k * 3 + j) 0
       ∙ get_or-append nodes root_node 0 (k * 3 + j) (omega (arith, moved_length second m n))
-      ∙ moved-byte second m n k j lt small)
+      ∙ moved_byte second m n k j lt small)
 
-  root-byte : (j : ℕ) → get_or all ((m + n) * 3 + j) 0 ≡ get_or root_node j 0
+  root_byte : (j : ℕ) → get_or all ((m + n) * 3 + j) 0 ≡ get_or root_node j 0
   unfolding conjoined
-  root-byte j =
+  root_byte j =
       let place : (m + n) * 3 + j ≡ length first + (length nodes + j) = omega (arith, whole, moved_length second m n) in
       rw place
       (get_or-append-add first (nodes ++ root_node) (length nodes + j) 0 ∙ get_or-append-add nodes root_node j 0)
 
   -- the first byte of node k is at k * 3 + 0
-  first-of-three : (rule : List ℕ) (k : ℕ) → kind_at rule k ≡ get_or rule (k * 3 + 0) 0
-  first-of-three rule k = let same : k * 3 ≡ k * 3 + 0 = omega arith in ap (λ (i : ℕ). get_or rule i 0) same
+  first_of_three : (rule : List ℕ) (k : ℕ) → kind_at rule k ≡ get_or rule (k * 3 + 0) 0
+  first_of_three rule k = let same : k * 3 ≡ k * 3 + 0 = omega arith in ap (λ (i : ℕ). get_or rule i 0) same
 
   pub first_copied : Copied all first 0
   first_copied = record {
@@ -128,20 +128,20 @@ module _ (first second : List ℕ) (passes : syntax_check release_kind first ≡
   pub second_copied : Copied all second m
   second_copied = record {
     inside = omega (arith, merged_count_lem);
-    kinds = λ k lt. first-of-three all (m + k) ∙ second_byte k 0 lt (omega arith);
+    kinds = λ k lt. first_of_three all (m + k) ∙ second_byte k 0 lt (omega arith);
     lefts = λ k lt. second_byte k 1 lt (omega arith);
     rights = λ k lt. second_byte k 2 lt (omega arith);
   }
 
   -- the root is an and of both roots
-  pub root-kind : kind_at all (m + n) ≡ 4
-  root-kind = first-of-three all (m + n) ∙ root-byte 0
+  pub root_kind : kind_at all (m + n) ≡ 4
+  root_kind = first_of_three all (m + n) ∙ root_byte 0
 
-  pub root-left : left_at all (m + n) ≡ root first
-  root-left = root-byte 1
+  pub root_left : left_at all (m + n) ≡ root first
+  root_left = root_byte 1
 
-  pub root-right : right_at all (m + n) ≡ m + root second
-  root-right = root-byte 2
+  pub root_right : right_at all (m + n) ≡ m + root second
+  root_right = root_byte 2
 
   -- ---- 3 to 5
 
@@ -159,13 +159,13 @@ module _ (first second : List ℕ) (passes : syntax_check release_kind first ≡
           let same : m + n ≡ k = omega (arith, merged_count_lem) in
           subst P same last
 
-  pub root-node : node_check release_kind all (m + n) ≡ fine
+  pub root_node_lem : node_check release_kind all (m + n) ≡ fine
   unfolding node_check left_operand one_child right_operand
-  root-node =
+  root_node_lem =
       rw (
-        root-kind,
-        root-left,
-        root-right,
+        root_kind,
+        root_left,
+        root_right,
         lt-ltb (root first) (m + n) (omega (arith, some)),
         lt-ltb (m + root second) (m + n) (omega (arith, some_too)),
       ) refl
@@ -173,60 +173,60 @@ module _ (first second : List ℕ) (passes : syntax_check release_kind first ≡
   merged_nodes : (k : ℕ) → k < node_count all → node_check release_kind all k ≡ fine
   merged_nodes =
       each_node (λ k. node_check release_kind all k ≡ fine)
-      (λ k lt. copied_node all first 0 first_copied release_kind k lt ((formed-fine release_kind first passes).each k lt))
+      (λ k lt. copied_node all first 0 first_copied release_kind k lt ((formed_fine release_kind first passes).each k lt))
       (λ k lt. copied_node all second m second_copied release_kind k lt
-      ((formed-fine release_kind second passes_too).each k lt))
-      root-node
+      ((formed_fine release_kind second passes_too).each k lt))
+      root_node_lem
 
   -- ---- 6
 
   below_in : (rule : List ℕ) → ((k : ℕ) → k < node_count rule → node_check release_kind rule k ≡ fine)
       → ChildrenBelow rule (node_count rule)
   below_in rule each =
-      children_below release_kind rule (node_count rule) (lowest-all (node_check release_kind rule) (node_count rule) each)
+      children_below release_kind rule (node_count rule) (lowest_all (node_check release_kind rule) (node_count rule) each)
 
   -- both roots are children of the root besides
-  all-places : (k : ℕ) → places all (node_count all) k
+  all_places : (k : ℕ) → places all (node_count all) k
       ≡ places all (m + n) k + cond (eqb (root first) k) 1 0 + cond (eqb (m + root second) k) 1 0
   unfolding places left_operand one_child right_operand
-  all-places k = rw (merged_count_lem, add-one (m + n), root-kind, root-left, root-right)
+  all_places k = rw (merged_count_lem, add-one (m + n), root_kind, root_left, root_right)
 
-  first-places : (k : ℕ) → places all m k ≡ places first m k
+  first_places : (k : ℕ) → places all m k ≡ places first m k
   unfolding places
-  first-places k =
+  first_places k =
       let e : places all (0 + m) (0 + k) ≡ places first m k =
       copied_places all first 0 first_copied m k (omega arith) ∙ zero-add (places first m k) in
       rw (zero-add m, zero-add k) at e
 
-  place-of-first : (k : ℕ) → k < m → place_check all (0 + k) ≡ fine
-  place-of-first k lt =
-      copied_place all first 0 first_copied k lt (below_in first (formed-fine release_kind first passes).each)
-      ((formed-fine release_kind first passes).places k lt)
+  place_of_first : (k : ℕ) → k < m → place_check all (0 + k) ≡ fine
+  place_of_first k lt =
+      copied_place all first 0 first_copied k lt (below_in first (formed_fine release_kind first passes).each)
+      ((formed_fine release_kind first passes).places k lt)
       (rw (zero-add k)
-      (all-places k
+      (all_places k
       ∙ rw (ne_eqb (m + root second) k (λ e. omega arith))
-      (omega (arith, places_before all second m second_copied n k (omega arith) lt, first-places k))))
+      (omega (arith, places_before all second m second_copied n k (omega arith) lt, first_places k))))
 
-  place-of_second : (k : ℕ) → k < n → place_check all (m + k) ≡ fine
-  place-of_second k lt =
-      let none = no_places first m (m + k) (below_in first (formed-fine release_kind first passes).each) (omega arith) in
-      copied_place all second m second_copied k lt (below_in second (formed-fine release_kind second passes_too).each)
-      ((formed-fine release_kind second passes_too).places k lt)
-      (all-places (m + k)
+  place_of_second : (k : ℕ) → k < n → place_check all (m + k) ≡ fine
+  place_of_second k lt =
+      let none = no_places first m (m + k) (below_in first (formed_fine release_kind first passes).each) (omega arith) in
+      copied_place all second m second_copied k lt (below_in second (formed_fine release_kind second passes_too).each)
+      ((formed_fine release_kind second passes_too).places k lt)
+      (all_places (m + k)
       ∙ rw (ne_eqb (root first) (m + k) (λ e. omega (arith, some)))
       (omega (
         arith,
         copied_places all second m second_copied n k (omega arith),
-        first-places (m + k),
+        first_places (m + k),
         none,
-        moved-child Child m (root second) k,
+        moved_child Child m (root second) k,
       )))
 
   -- the root is no child
-  place-of-root : place_check all (m + n) ≡ fine
-  place-of-root =
+  place_of_root : place_check all (m + n) ≡ fine
+  place_of_root =
       let none = no_places all (node_count all) (m + n) (below_in all merged_nodes) (omega (arith, merged_count_lem)) in
-      sym (place-root all (m + n) none (omega (arith, merged_count_lem)))
+      sym (place_root all (m + n) none (omega (arith, merged_count_lem)))
 
   -- ---- the theorem
 
@@ -238,15 +238,15 @@ module _ (first second : List ℕ) (passes : syntax_check release_kind first ≡
         le-leb (length all) rule_bytes (omega (arith, merged_length)),
         lt-ltb 0 (length all) (omega (arith, merged_length)),
         eq-eqb (length all % 3) 0 (omega (arith, merged_length)),
-        lowest-all (node_check release_kind all) (node_count all) merged_nodes,
+        lowest_all (node_check release_kind all) (node_count all) merged_nodes,
       )
-      (lowest-all (place_check all) (node_count all)
-      (each_node (λ k. place_check all k ≡ fine) place-of-first place-of_second place-of-root))
+      (lowest_all (place_check all) (node_count all)
+      (each_node (λ k. place_check all k ≡ fine) place_of_first place_of_second place_of_root))
 
   -- its untils are those of both rules
   pub merged_untils : length (untils all (node_count all)) ≡ length (untils first m) + length (untils second n)
   merged_untils =
       let first_count = rw (zero-add m) at (copied_untils all first 0 first_copied m (omega arith)) in
-      let last = rw root-kind at (untils_more all (m + n)) in
+      let last = rw root_kind at (untils_more all (m + n)) in
       rw (merged_count_lem, add-one (m + n))
       (omega (arith, copied_untils all second m second_copied n (omega arith), first_count, untils_most all 0, last))

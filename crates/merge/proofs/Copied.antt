@@ -38,18 +38,18 @@ moved_fits Unused up byte e = e
 moved_fits Proposition up byte e = e
 moved_fits Child up byte e = e
 
-moved-below : (operand : Operand) (up byte n : ℕ) → child_fits operand byte n ≡ true
+moved_below : (operand : Operand) (up byte n : ℕ) → child_fits operand byte n ≡ true
     → child_fits operand (moved operand up byte) (up + n) ≡ true
-moved-below Unused up byte n e = e
-moved-below Proposition up byte n e = e
-moved-below Child up byte n e = lt-ltb (up + byte) (up + n) (omega (arith, ltb-true byte n e))
+moved_below Unused up byte n e = e
+moved_below Proposition up byte n e = e
+moved_below Child up byte n e = lt-ltb (up + byte) (up + n) (omega (arith, ltb-true byte n e))
 
 -- a byte is the child k where it was, and is none of the nodes before
-pub moved-child : (operand : Operand) (up byte k : ℕ)
+pub moved_child : (operand : Operand) (up byte k : ℕ)
     → is_child operand (moved operand up byte) (up + k) ≡ is_child operand byte k
-moved-child Unused up byte k = refl
-moved-child Proposition up byte k = refl
-moved-child Child up byte k = go (ℕ_discrete byte k)
+moved_child Unused up byte k = refl
+moved_child Proposition up byte k = refl
+moved_child Child up byte k = go (ℕ_discrete byte k)
   where
     go : Dec (byte ≡ k) → is_child Child (up + byte) (up + k) ≡ is_child Child byte k
     go (yes e) = rw (eq-eqb byte k e, eq-eqb (up + byte) (up + k) (omega arith))
@@ -61,10 +61,10 @@ moved_past Proposition up byte k lt = refl
 moved_past Child up byte k lt = rw (ne_eqb (up + byte) k (λ e. omega arith))
 
 -- a child of a node is no node from that one on
-child-below : (operand : Operand) (byte n k : ℕ) → child_fits operand byte n ≡ true → n ≤ k → is_child operand byte k ≡ 0
-child-below Unused byte n k e le = refl
-child-below Proposition byte n k e le = refl
-child-below Child byte n k e le = rw (ne_eqb byte k (λ f. omega (arith, ltb-true byte n e)))
+child_below : (operand : Operand) (byte n k : ℕ) → child_fits operand byte n ≡ true → n ≤ k → is_child operand byte k ≡ 0
+child_below Unused byte n k e le = refl
+child_below Proposition byte n k e le = refl
+child_below Child byte n k e le = rw (ne_eqb byte k (λ f. omega (arith, ltb-true byte n e)))
 
 -- so a node is no child among the nodes up to it
 pub no_places : (rule : List ℕ) (n k : ℕ) → ChildrenBelow rule n → n ≤ suc k → places rule n k ≡ 0
@@ -73,9 +73,9 @@ no_places rule zero k below le = refl
 no_places rule (suc n) k below le =
     let lower : ChildrenBelow rule n =
     record { lefts = λ i l. below.lefts i (omega arith); rights = λ i l. below.rights i (omega arith) } in
-    let left = child-below (left_operand (kind_at rule n)) (left_at rule n) n k (below.lefts n (omega arith)) (omega arith) in
+    let left = child_below (left_operand (kind_at rule n)) (left_at rule n) n k (below.lefts n (omega arith)) (omega arith) in
     let right =
-    child-below (right_operand (kind_at rule n)) (right_at rule n) n k (below.rights n (omega arith)) (omega arith) in
+    child_below (right_operand (kind_at rule n)) (right_at rule n) n k (below.rights n (omega arith)) (omega arith) in
     omega (arith, no_places rule n k lower (omega arith))
 
 -- ---- the nodes
@@ -94,8 +94,8 @@ module _ (whole part : List ℕ) (up : ℕ) (copied : Copied whole part up) wher
         le-leb kind highest (kind_known highest part n e),
         moved_fits (left_operand kind) up (left_at part n) node.left_fits,
         moved_fits (right_operand kind) up (right_at part n) node.right_fits,
-        moved-below (left_operand kind) up (left_at part n) n node.left_below,
-        moved-below (right_operand kind) up (right_at part n) n node.right-below,
+        moved_below (left_operand kind) up (left_at part n) n node.left_below,
+        moved_below (right_operand kind) up (right_at part n) n node.right_below,
       ) refl
 
   -- the places of a node of the part, and of one before it, among the first n nodes of the part
@@ -109,8 +109,8 @@ module _ (whole part : List ℕ) (up : ℕ) (copied : Copied whole part up) wher
       (omega (
         arith,
         copied_places n k (omega arith),
-        moved-child (left_operand (kind_at part n)) up (left_at part n) k,
-        moved-child (right_operand (kind_at part n)) up (right_at part n) k,
+        moved_child (left_operand (kind_at part n)) up (left_at part n) k,
+        moved_child (right_operand (kind_at part n)) up (right_at part n) k,
       ))
 
   pub places_before : (n k : ℕ) → n ≤ node_count part → k < up → places whole (up + n) k ≡ places whole up k
@@ -135,8 +135,8 @@ module _ (whole part : List ℕ) (up : ℕ) (copied : Copied whole part up) wher
     abbrev all : ℕ
     all = places whole (node_count whole) (up + k)
 
-    root-place : root part ≡ k → place_check whole (up + k) ≡ fine
-    root-place last =
+    root_place : root part ≡ k → place_check whole (up + k) ≡ fine
+    root_place last =
         let none : own ≡ 0 = no_places part (node_count part) k below (omega arith) in
         let once : all ≡ 1 = count ∙ rw (none, eq-eqb (root part) k last) in
         sym (place_once whole (up + k) (λ z. omega arith) once)
@@ -155,7 +155,7 @@ module _ (whole part : List ℕ) (up : ℕ) (copied : Copied whole part up) wher
             sym (place_leaf whole (up + k) (λ z. some (sym same ∙ z)) (omega (arith, copied.kinds k lt)))
 
     pub copied_place : place_check whole (up + k) ≡ fine
-    copied_place = elim (ℕ_discrete (root part) k) [ yes last ↦ root-place last | no other ↦ inner_place other ]
+    copied_place = elim (ℕ_discrete (root part) k) [ yes last ↦ root_place last | no other ↦ inner_place other ]
 
   pub copied_untils : (n : ℕ) → n ≤ node_count part
       → length (untils whole (up + n)) ≡ length (untils whole up) + length (untils part n)

@@ -12,7 +12,7 @@ use Rattle.answer.specs.Result.{accepted, refused, and_then, Check, fine}
 use Rattle.answer.specs.Bytes.{filled}
 use Rattle.answer.specs.Buffer.{Buffer, buffer}
 use Rattle.answer.proofs.Filling.{filled_as}
-use Rattle.answer.proofs.Lowest.{fine-first, fine_second}
+use Rattle.answer.proofs.Lowest.{fine_first, fine_second}
 use Rattle.answer.proofs.Results.{required, never_both}
 use Rattle.formula.specs.Limits.{max_nodes, max_untils, rule_bytes}
 use Rattle.formula.specs.Rule.{node_count, release_kind, syntax_check, untils, until_check}
@@ -74,8 +74,8 @@ module _ (first second : List ℕ) where
       let after-second = fine_second (syntax_check release_kind second) _ after_first in
       let size = required (leb (merged_count first second) max_nodes) 27 0 _ after-second in
       record {
-        passes = fine-first (syntax_check release_kind first) _ e;
-        passes_too = fine-first (syntax_check release_kind second) _ after_first;
+        passes = fine_first (syntax_check release_kind first) _ e;
+        passes_too = fine_first (syntax_check release_kind second) _ after_first;
         few = leb-true (merged_count first second) max_nodes size.0;
         untils_few = size.1;
       }

@@ -16,7 +16,7 @@ use Rattle.formula.specs.declared.Operand.TheVariants.{Unused, Proposition, Chil
 use Rattle.formula.specs.Limits.{max_nodes, propositions}
 use Rattle.formula.specs.Rule.{node_count, kind_at, left_at, right_at, left_operand, right_operand, byte_fits, child_fits}
 use Rattle.formula.specs.Rule.{release_kind, node_check, syntax_check}
-use Rattle.formula.proofs.Accepted.{formed-fine}
+use Rattle.formula.proofs.Accepted.{formed_fine}
 use Rattle.formula.proofs.Checks.{tested}
 use Rattle.merge.specs.Merge.{moved, moved_node, moved_nodes, conjoined, merged_count}
 
@@ -38,15 +38,15 @@ module _ (rule : List ℕ) (n : ℕ) (passes : node_check release_kind rule n �
   pub right_small : right_at rule n < max_nodes
   right_small =
       let node = tested release_kind rule n passes in
-      byte_small (right_operand (kind_at rule n)) (right_at rule n) n node.right_fits node.right-below few
+      byte_small (right_operand (kind_at rule n)) (right_at rule n) n node.right_fits node.right_below few
 
 -- what the code reads of node n, and then stores
-pub node-moved : (rule : List ℕ) (up n : ℕ) (merged after : List ℕ) (at : ℕ) {kind left right : ℕ}
+pub node_moved : (rule : List ℕ) (up n : ℕ) (merged after : List ℕ) (at : ℕ) {kind left right : ℕ}
     {of_left of_right : Operand} → kind ≡ kind_at rule n
     → of_left ≡ left_operand kind → left ≡ moved of_left up (left_at rule n)
     → of_right ≡ right_operand kind → right ≡ moved of_right up (right_at rule n)
     → after ≡ sets merged at (kind ∷ (left ∷ (right ∷ []))) → after ≡ sets merged at (moved_node rule up n)
-node-moved rule up n merged after at ek eo el ep er put = put ∙ rw (el, er, eo, ep, ek)
+node_moved rule up n merged after at ek eo el ep er put = put ∙ rw (el, er, eo, ep, ek)
 
 -- ---- all nodes
 
@@ -96,8 +96,8 @@ unfolding conjoined
 conjoins first second before copied behind after passes passes_too room one both root =
     let m = node_count first in
     let n = node_count second in
-    let whole : length first ≡ m * 3 = omega (arith, (formed-fine release_kind first passes).whole) in
-    let some = (formed-fine release_kind second passes_too).some in
+    let whole : length first ≡ m * 3 = omega (arith, (formed_fine release_kind first passes).whole) in
+    let some = (formed_fine release_kind second passes_too).some in
     let right : m + n - 1 ≡ m + (n - 1) = omega arith in
     let front : take (m * 3) copied ≡ first =
     rw (one, take_all (length first) first (omega arith)) (take_at first (drop (length first) before) (m * 3) whole) in

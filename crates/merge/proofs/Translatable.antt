@@ -9,7 +9,7 @@ use lib.ListN.{length}
 use Rattle.answer.specs.Result.{accepted, fine}
 use Rattle.formula.specs.Rule.{node_count, kind_at, release_kind, checked}
 use Rattle.formula.specs.Satisfaction.{Satisfies}
-use Rattle.formula.proofs.Accepted.{kind_known, formed-fine}
+use Rattle.formula.proofs.Accepted.{kind_known, formed_fine}
 use Rattle.normalform.specs.Written.{SatisfiesWritten}
 use Rattle.normalform.specs.NormalForm.{size, normal_form, written_checked}
 use Rattle.normalform.proofs.FirstEdition.{first_edition_same, first_edition_kept}
@@ -26,7 +26,7 @@ module _ (first second : List ℕ) (may : Mergeable first second) where
   low : (n : ℕ) → n < node_count all → kind_at all n ≤ release_kind
   low n lt =
       let passes = merged_passes first second may.passes may.passes_too may.few in
-      kind_known release_kind all n ((formed-fine release_kind all passes).each n lt)
+      kind_known release_kind all n ((formed_fine release_kind all passes).each n lt)
 
   -- 1 to 7 let the merged rule pass as a first-edition rule
   pub merged_checked : checked all ≡ fine

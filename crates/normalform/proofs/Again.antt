@@ -13,22 +13,22 @@ use borrow.Author.Tests.{lt-ltb, le-ltb, le-leb}
 use Rattle.answer.specs.Result.{accepted, fine}
 use Rattle.formula.specs.Limits.{max_nodes}
 use Rattle.formula.specs.Rule.{node_count, kind_at, left_at, root, release_kind, eventually_kind}
-use Rattle.formula.proofs.Accepted.{node-widens, syntax_widens}
+use Rattle.formula.proofs.Accepted.{node_widens, syntax_widens}
 use Rattle.normalform.specs.Written.{Connective, and, or, until, release, Written, constant, literal}
 use Rattle.normalform.specs.Written.{negation, next, binary, future, build_written, written_tree, written_check}
 use Rattle.normalform.specs.NormalForm.{turned, bit, left_sense, connective_kind, left_constant, pair_code, code}
 use Rattle.normalform.specs.NormalForm.{future_kind, below, walk, entry, member, rank, emit, entry_of, size, result}
 use Rattle.normalform.specs.NormalForm.{normal_form}
 use Rattle.normalform.proofs.Ranks.{rank_rises}
-use Rattle.normalform.proofs.Shape.{member-map, member-from, Fits, pair-high, entry-code}
-use Rattle.normalform.proofs.Fitting.{WrittenNode, written-node, leaf_built, inner_built, fits_node, WellWritten}
-use Rattle.normalform.proofs.Nodes.{Pair, four, five, seven, eight, result-pair, future_pair, pair_inner, needs}
-use Rattle.normalform.proofs.Nodes.{at, out, out-length, Within, root-within, own, within_negation, within-next}
-use Rattle.normalform.proofs.Nodes.{within-left, within-right, within_constant, within_future, constant_within}
-use Rattle.normalform.proofs.Nodes.{kind-of, left-of, right_of, inside, root_last}
+use Rattle.normalform.proofs.Shape.{member_map, member_from, Fits, pair_high, entry_code}
+use Rattle.normalform.proofs.Fitting.{WrittenNode, written_node, leaf_built, inner_built, fits_node, WellWritten}
+use Rattle.normalform.proofs.Nodes.{Pair, four, five, seven, eight, result_pair, future_pair, pair_inner, needs}
+use Rattle.normalform.proofs.Nodes.{at, out, out_length, Within, root_within, own, within_negation, within_next}
+use Rattle.normalform.proofs.Nodes.{within_left, within_right, within_constant, within_future, constant_within}
+use Rattle.normalform.proofs.Nodes.{kind_of, left_of, right_of, inside, root_last}
 use Rattle.normalform.proofs.Placed.{visit}
 use Rattle.normalform.proofs.Holds.{normal}
-use Rattle.normalform.proofs.Passes.{result-node, result-form}
+use Rattle.normalform.proofs.Passes.{result_node, result_form}
 
 -- ---- going up the codes, as rank and emit do
 climb : {A : Type 0} → (ℕ → Bool) → (ℕ → A → A) → A → ℕ → A
@@ -39,23 +39,23 @@ add_bit : (b : Bool) (n : ℕ) → n + bit b ≡ cond b (suc n) n
 add_bit true n = omega arith
 add_bit false n = omega arith
 
-rank-climb : (need : ℕ → Bool) (c : ℕ) → rank need c ≡ climb need (λ c x. suc x) 0 c
+rank_climb : (need : ℕ → Bool) (c : ℕ) → rank need c ≡ climb need (λ c x. suc x) 0 c
 unfolding rank climb
-rank-climb need zero = refl
-rank-climb need (suc c) =
-    add_bit (need c) (rank need c) ∙ ap (λ (x : ℕ). cond (need c) (suc x) x) (rank-climb need c)
+rank_climb need zero = refl
+rank_climb need (suc c) =
+    add_bit (need c) (rank need c) ∙ ap (λ (x : ℕ). cond (need c) (suc x) x) (rank_climb need c)
 
 append_if : (b : Bool) (xs ys : List ℕ) → xs ++ cond b ys [] ≡ cond b (xs ++ ys) xs
 append_if true xs ys = refl
 append_if false xs ys = append-nil xs
 
-emit-climb : (need : ℕ → Bool) (entries : ℕ → List ℕ) (c : ℕ)
+emit_climb : (need : ℕ → Bool) (entries : ℕ → List ℕ) (c : ℕ)
     → emit need entries c ≡ climb need (λ c xs. xs ++ entries c) [] c
 unfolding emit climb
-emit-climb need entries zero = refl
-emit-climb need entries (suc c) =
+emit_climb need entries zero = refl
+emit_climb need entries (suc c) =
     append_if (need c) (emit need entries c) (entries c)
-    ∙ ap (λ (xs : List ℕ). cond (need c) (xs ++ entries c) xs) (emit-climb need entries c)
+    ∙ ap (λ (xs : List ℕ). cond (need c) (xs ++ entries c) xs) (emit_climb need entries c)
 
 -- where nothing is needed, nothing is done
 climb_flat : {A : Type 0} (need : ℕ → Bool) (step : ℕ → A → A) (start : A) (d e : ℕ) → d ≤ e
@@ -99,9 +99,9 @@ kept five = record { plain = refl; kind = refl; built = λ i l a b. refl }
 kept seven = record { plain = refl; kind = refl; built = λ i l a b. refl }
 kept eight = record { plain = refl; kind = refl; built = λ i l a b. refl }
 
-pair-again : {k : ℕ} (pair : Pair k) (i l : ℕ) (a a' b b' : Written) → a ≡ a' → b ≡ b'
+pair_again : {k : ℕ} (pair : Pair k) (i l : ℕ) (a a' b b' : Written) → a ≡ a' → b ≡ b'
     → build_written k i l a b ≡ binary i (joined pair) a' b'
-pair-again pair i l a a' b b' p q = (kept pair).built i l a b ∙ rw (p, q) refl
+pair_again pair i l a a' b b' p q = (kept pair).built i l a b ∙ rw (p, q) refl
 
 -- the tree of a result's node, by the written tree and the sense that it stands for; num has the numbers of the codes
 abbrev again : (num : ℕ → ℕ) → Written → Bool → Written
@@ -110,7 +110,7 @@ again num (literal n v p) s = literal (num (pair_code n s)) (turned v s) p
 again num (negation n a) s = again num a (not s)
 again num (next n a) s = next (num (pair_code n s)) (again num a s)
 again num (binary n o a b) s =
-    binary (num (pair_code n s)) (joined (result-pair o s)) (again num a (left_sense o s)) (again num b s)
+    binary (num (pair_code n s)) (joined (result_pair o s)) (again num a (left_sense o s)) (again num b s)
 again num (future n all a) s =
     let v = left_constant all s in
     binary (num (pair_code n s)) (joined (future_pair v)) (constant v) (again num a s)
@@ -142,35 +142,35 @@ module _ (num : ℕ → ℕ) where
   new_bit false = new_low 0 (omega arith)
 
   new_pair : (n : ℕ) (s : Bool) → new_code (pair_code n s) ≡ pair_code (num (pair_code n s)) false
-  new_pair n s = new_high (pair_code n s) (omega (arith, pair-high n s))
+  new_pair n s = new_high (pair_code n s) (omega (arith, pair_high n s))
 
-  again-code : (a : Written) (s : Bool) → code (again num a s) false ≡ new_code (code a s)
+  again_code : (a : Written) (s : Bool) → code (again num a s) false ≡ new_code (code a s)
   unfolding code
-  again-code (constant v) s = sym (new_bit (turned v s))
-  again-code (literal n v p) s = sym (new_pair n s)
-  again-code (negation n a) s = again-code a (not s)
-  again-code (next n a) s = sym (new_pair n s)
-  again-code (binary n o a b) s = sym (new_pair n s)
-  again-code (future n all a) s = sym (new_pair n s)
+  again_code (constant v) s = sym (new_bit (turned v s))
+  again_code (literal n v p) s = sym (new_pair n s)
+  again_code (negation n a) s = again_code a (not s)
+  again_code (next n a) s = sym (new_pair n s)
+  again_code (binary n o a b) s = sym (new_pair n s)
+  again_code (future n all a) s = sym (new_pair n s)
 
-  again-below : (a : Written) (s : Bool) → below (again num a s) false ≡ map new_code (below a s)
+  again_below : (a : Written) (s : Bool) → below (again num a s) false ≡ map new_code (below a s)
   unfolding below code
-  again-below (constant v) s = refl
-  again-below (literal n v p) s = refl
-  again-below (negation n a) s = again-below a (not s)
-  again-below (next n a) s = rw (again-code a s, again-below a s) refl
-  again-below (binary n o a b) s =
+  again_below (constant v) s = refl
+  again_below (literal n v p) s = refl
+  again_below (negation n a) s = again_below a (not s)
+  again_below (next n a) s = rw (again_code a s, again_below a s) refl
+  again_below (binary n o a b) s =
       rw (
-        (kept (result-pair o s)).plain,
-        again-code a (left_sense o s),
-        again-below a (left_sense o s),
-        again-code b s,
-        again-below b s,
+        (kept (result_pair o s)).plain,
+        again_code a (left_sense o s),
+        again_below a (left_sense o s),
+        again_code b s,
+        again_below b s,
         map-append new_code (walk a (left_sense o s)) (walk b s),
       ) refl
-  again-below (future n all a) s =
+  again_below (future n all a) s =
       let v = left_constant all s in
-      rw ((kept (future_pair v)).plain, again-code a s, again-below a s, new_bit v) refl
+      rw ((kept (future_pair v)).plain, again_code a s, again_below a s, new_bit v) refl
 
 module _ (look : ℕ → Written) (t : Written) (m : ℕ) (fits : Fits look t m) where
   -- the needed codes of the rule and, with a stroke, of its result
@@ -191,15 +191,15 @@ module _ (look : ℕ → Written) (t : Written) (m : ℕ) (fits : Fits look t m)
   up c = pair_code (num c) false
 
   wants_in : (c : ℕ) → wants c ≡ true → wants' (new_code num c) ≡ true
-  wants_in c e = member-map (new_code num) c (walk t false) e
+  wants_in c e = member_map (new_code num) c (walk t false) e
 
   -- a needed code of the result is a constant's, or that of the number of a pair's
   abbrev Origin : ℕ → Type 0
   Origin d = ((d < 2) × (wants d ≡ true)) ⊎ ((c : ℕ) × (2 ≤ c) × (up c ≡ d))
 
-  wants-out : (d : ℕ) → wants' d ≡ true → Origin d
-  wants-out d e =
-      let (c, n, f) = member-from (new_code num) d (walk t false) e in
+  wants_out : (d : ℕ) → wants' d ≡ true → Origin d
+  wants_out d e =
+      let (c, n, f) = member_from (new_code num) d (walk t false) e in
       go c n f (dec_lt c 2)
     where
       go : (c : ℕ) → wants c ≡ true → new_code num c ≡ d → Dec (c < 2) → Origin d
@@ -210,17 +210,17 @@ module _ (look : ℕ → Written) (t : Written) (m : ℕ) (fits : Fits look t m)
 
   low_same : (d : ℕ) → d < 2 → wants' d ≡ wants d
   low_same d l =
-      bool_same (wants' d) (wants d) (λ e. elim (wants-out d e) [ inl x ↦ x.1 | inr x ↦ absurd (omega (arith, x.2)) ])
+      bool_same (wants' d) (wants d) (λ e. elim (wants_out d e) [ inl x ↦ x.1 | inr x ↦ absurd (omega (arith, x.2)) ])
       (λ e. subst (λ (x : ℕ). wants' x ≡ true) (new_low num d l) (wants_in d e))
 
   odd_none : (x : ℕ) → wants' (pair_code x true) ≡ false
-  odd_none x = never (wants' (pair_code x true)) (λ e. elim (wants-out (pair_code x true) e) [
+  odd_none x = never (wants' (pair_code x true)) (λ e. elim (wants_out (pair_code x true) e) [
     | inl y ↦ omega (arith, y.0)
     | inr y ↦ omega (arith, y.2)
   ])
 
   gap_none : (d : ℕ) → 2 ≤ d → d < up 2 → wants' d ≡ false
-  gap_none d l h = never (wants' d) (λ e. elim (wants-out d e) [
+  gap_none d l h = never (wants' d) (λ e. elim (wants_out d e) [
     | inl y ↦ omega (arith, y.0)
     | inr y ↦ omega (arith, y.2, rank_rises wants 2 y.0 y.1)
   ])
@@ -247,15 +247,15 @@ module _ (look : ℕ → Written) (t : Written) (m : ℕ) (fits : Fits look t m)
     unfolding climb
     climb_zero = refl
 
-    climb-one : F' 1 ≡ F 1
-    climb-one = low_step 0 (omega arith) climb_zero
+    climb_one : F' 1 ≡ F 1
+    climb_one = low_step 0 (omega arith) climb_zero
 
     climb_two : F' 2 ≡ F 2
-    climb_two = low_step 1 (omega arith) climb-one
+    climb_two = low_step 1 (omega arith) climb_one
 
-    climb-up : (c : ℕ) → 2 ≤ c → F' (up c) ≡ F c → F' (up (suc c)) ≡ F (suc c)
+    climb_up : (c : ℕ) → 2 ≤ c → F' (up c) ≡ F c → F' (up (suc c)) ≡ F (suc c)
     unfolding climb rank
-    climb-up c l ih = go (wants c) refl
+    climb_up c l ih = go (wants c) refl
       where
         go : (b : Bool) → wants c ≡ b
             → F' (pair_code (num c + bit (wants c)) false) ≡ cond (wants c) (step c (F c)) (F c)
@@ -271,46 +271,46 @@ module _ (look : ℕ → Written) (t : Written) (m : ℕ) (fits : Fits look t m)
             let z : num c + 0 ≡ num c = omega arith in
             rw (e, z) ih
 
-    climb-high : (c : ℕ) → 2 ≤ c → F' (up c) ≡ F c
-    climb-high zero l = absurd (omega arith)
-    climb-high (suc zero) l = absurd (omega arith)
-    climb-high (suc (suc zero)) l =
+    climb_high : (c : ℕ) → 2 ≤ c → F' (up c) ≡ F c
+    climb_high zero l = absurd (omega arith)
+    climb_high (suc zero) l = absurd (omega arith)
+    climb_high (suc (suc zero)) l =
         climb_flat wants' step' start 2 (up 2) (omega arith) gap_none ∙ climb_two
-    climb-high (suc (suc (suc c))) l = climb-up (suc (suc c)) (omega arith) (climb-high (suc (suc c)) (omega arith))
+    climb_high (suc (suc (suc c))) l = climb_up (suc (suc c)) (omega arith) (climb_high (suc (suc c)) (omega arith))
 
     climb_new : (c : ℕ) → F' (new_code num c) ≡ F c
     climb_new zero = rw (new_low num 0 (omega arith)) climb_zero
-    climb_new (suc zero) = rw (new_low num 1 (omega arith)) climb-one
-    climb_new (suc (suc c)) = rw (new_high num (suc (suc c)) (omega arith)) (climb-high (suc (suc c)) (omega arith))
+    climb_new (suc zero) = rw (new_low num 1 (omega arith)) climb_one
+    climb_new (suc (suc c)) = rw (new_high num (suc (suc c)) (omega arith)) (climb_high (suc (suc c)) (omega arith))
 
   -- ---- the numbers
   num_new : (c : ℕ) → rank wants' (new_code num c) ≡ num c
   num_new c =
-      rank-climb wants' (new_code num c)
+      rank_climb wants' (new_code num c)
       ∙ climb_new (λ c x. suc x) (λ c x. suc x) 0 (λ c e x. refl) c
-      ∙ sym (rank-climb wants c)
+      ∙ sym (rank_climb wants c)
 
-  num-high : (c : ℕ) → 2 ≤ c → rank wants' (up c) ≡ num c
-  num-high c l = ap (rank wants') (sym (new_high num c l)) ∙ num_new c
+  num_high : (c : ℕ) → 2 ≤ c → rank wants' (up c) ≡ num c
+  num_high c l = ap (rank wants') (sym (new_high num c l)) ∙ num_new c
 
-  num-bit : (v : Bool) → rank wants' (bit v) ≡ num (bit v)
-  num-bit v = ap (rank wants') (sym (new_bit num v)) ∙ num_new (bit v)
+  num_bit : (v : Bool) → rank wants' (bit v) ≡ num (bit v)
+  num_bit v = ap (rank wants') (sym (new_bit num v)) ∙ num_new (bit v)
 
   -- ---- the entries
-  entry-again : (a : Written) (s : Bool) → entry (rank wants') (again num a s) false ≡ entry num a s
+  entry_again : (a : Written) (s : Bool) → entry (rank wants') (again num a s) false ≡ entry num a s
   unfolding entry code
-  entry-again (constant v) s = refl
-  entry-again (literal n v p) s = refl
-  entry-again (negation n a) s = entry-again a (not s)
-  entry-again (next n a) s = rw (again-code num a s, num_new (code a s)) refl
-  entry-again (binary n o a b) s =
-      let same = kept (result-pair o s) in
+  entry_again (constant v) s = refl
+  entry_again (literal n v p) s = refl
+  entry_again (negation n a) s = entry_again a (not s)
+  entry_again (next n a) s = rw (again_code num a s, num_new (code a s)) refl
+  entry_again (binary n o a b) s =
+      let same = kept (result_pair o s) in
       let r = left_sense o s in
-      rw (same.kind, same.plain, again-code num a r, again-code num b s, num_new (code a r), num_new (code b s)) refl
-  entry-again (future n all a) s =
+      rw (same.kind, same.plain, again_code num a r, again_code num b s, num_new (code a r), num_new (code b s)) refl
+  entry_again (future n all a) s =
       let v = left_constant all s in
       let same = kept (future_pair v) in
-      rw (same.kind, same.plain, again-code num a s, num_new (code a s), num-bit v) refl
+      rw (same.kind, same.plain, again_code num a s, num_new (code a s), num_bit v) refl
 
   -- ---- the trees
   abbrev res : List ℕ
@@ -335,10 +335,10 @@ module _ (look : ℕ → Written) (t : Written) (m : ℕ) (fits : Fits look t m)
       node = nodes place (inside look t m fits a s w)
 
       kind : kind_at res place ≡ entry_byte 0
-      kind = kind-of look t m fits a l s f w
+      kind = kind_of look t m fits a l s f w
 
       left : left_at res place ≡ entry_byte 1
-      left = left-of look t m fits a l s f w
+      left = left_of look t m fits a l s f w
 
       leaf_again : (x : Written) → ((b d : Written) → build_written (entry_byte 0) place (entry_byte 1) b d ≡ x)
           → look' place ≡ x
@@ -355,105 +355,105 @@ module _ (look : ℕ → Written) (t : Written) (m : ℕ) (fits : Fits look t m)
     constant_again v e =
         leaf_again (constant v) 0 false tt (constant_within look t m fits v e) _ (constant_built v (num (bit v)) 0)
 
-    again-tree : (a : Written) (l : ℕ) (s : Bool) → Fits look a l → In a s → look' (num (code a s)) ≡ again num a s
+    again_tree : (a : Written) (l : ℕ) (s : Bool) → Fits look a l → In a s → look' (num (code a s)) ≡ again num a s
     unfolding code entry
-    again-tree (constant v) l s f w = constant_again (turned v s) (own look t m fits (constant v) s w)
-    again-tree (literal n v p) l s f w =
+    again_tree (constant v) l s f w = constant_again (turned v s) (own look t m fits (constant v) s w)
+    again_tree (literal n v p) l s f w =
         leaf_again (literal n v p) l s f w _ (literal_built (turned v s) (num (pair_code n s)) p)
-    again-tree (negation n a) l s f w = again-tree a n (not s) f.2 (within_negation look t m fits n a s w)
-    again-tree (next n a) l s f w =
+    again_tree (negation n a) l s f w = again_tree a n (not s) f.2 (within_negation look t m fits n a s w)
+    again_tree (next n a) l s f w =
         inner_again (next n a) l s f w (omega arith)
-        ∙ ap (next (num (pair_code n s))) (again-tree a n s f.2 (within-next look t m fits n a s w))
-    again-tree (binary n o a b) l s f w =
-        inner_again (binary n o a b) l s f w (pair_inner (connective_kind o s) (result-pair o s))
-        ∙ pair-again (result-pair o s) (num (pair_code n s)) _ _ _ _ _
-        (again-tree a n (left_sense o s) f.2 (within-left look t m fits n o a b s w))
-        (again-tree b n s f.3 (within-right look t m fits n o a b s w))
-    again-tree (future n all a) l s f w =
+        ∙ ap (next (num (pair_code n s))) (again_tree a n s f.2 (within_next look t m fits n a s w))
+    again_tree (binary n o a b) l s f w =
+        inner_again (binary n o a b) l s f w (pair_inner (connective_kind o s) (result_pair o s))
+        ∙ pair_again (result_pair o s) (num (pair_code n s)) _ _ _ _ _
+        (again_tree a n (left_sense o s) f.2 (within_left look t m fits n o a b s w))
+        (again_tree b n s f.3 (within_right look t m fits n o a b s w))
+    again_tree (future n all a) l s f w =
         let v = left_constant all s in
         inner_again (future n all a) l s f w (pair_inner (future_kind v) (future_pair v))
-        ∙ pair-again (future_pair v) (num (pair_code n s)) _ _ _ _ _
+        ∙ pair_again (future_pair v) (num (pair_code n s)) _ _ _ _ _
         (constant_again v (within_constant look t m fits n all a s w))
-        (again-tree a n s f.2 (within_future look t m fits n all a s w))
+        (again_tree a n s f.2 (within_future look t m fits n all a s w))
 
     again_fits : (a : Written) (l : ℕ) (s : Bool) → Fits look a l → In a s
         → Fits look' (again num a s) (suc (num (code a s)))
     again_fits a l s f w =
-        subst (λ (x : Written). Fits look' x (suc (num (code a s)))) (again-tree a l s f w)
+        subst (λ (x : Written). Fits look' x (suc (num (code a s)))) (again_tree a l s f w)
         (fits_node res nodes (num (code a s)) (inside look t m fits a s w))
 
-    entry-same : (a : Written) (l : ℕ) (s : Bool) → Fits look a l → In a s
+    entry_same : (a : Written) (l : ℕ) (s : Bool) → Fits look a l → In a s
         → entry_of codes look' (new_code num (code a s)) ≡ entry_of (walk t false) look (code a s)
-    entry-same a l s f w =
-        ap (entry_of codes look') (sym (again-code num a s))
-        ∙ entry-code look' (rank wants') (again num a s) (suc (num (code a s))) false (again_fits a l s f w)
-        ∙ entry-again a s
-        ∙ sym (entry-code look num a l s f)
+    entry_same a l s f w =
+        ap (entry_of codes look') (sym (again_code num a s))
+        ∙ entry_code look' (rank wants') (again num a s) (suc (num (code a s))) false (again_fits a l s f w)
+        ∙ entry_again a s
+        ∙ sym (entry_code look num a l s f)
 
-    entries-same : (c : ℕ) → wants c ≡ true → entry_of codes look' (new_code num c) ≡ entry_of (walk t false) look c
-    entries-same c e =
-        visit look t m fits (λ c. entry_of codes look' (new_code num c) ≡ entry_of (walk t false) look c) entry-same
-        t m false fits (root-within look t m fits) c e
+    entries_same : (c : ℕ) → wants c ≡ true → entry_of codes look' (new_code num c) ≡ entry_of (walk t false) look c
+    entries_same c e =
+        visit look t m fits (λ c. entry_of codes look' (new_code num c) ≡ entry_of (walk t false) look c) entry_same
+        t m false fits (root_within look t m fits) c e
 
     codes_same : walk (look' (root res)) false ≡ codes
     codes_same =
         let e : look' (root res) ≡ again num t false =
-        ap look' (root_last look t m fits) ∙ again-tree t m false fits (root-within look t m fits) in
-        rw (e, again-code num t false, again-below num t false) refl
+        ap look' (root_last look t m fits) ∙ again_tree t m false fits (root_within look t m fits) in
+        rw (e, again_code num t false, again_below num t false) refl
 
     -- ---- the bytes
     abbrev end : ℕ
     end = m * 2 + 2
 
     end_same : node_count res * 2 + 2 ≡ up end
-    end_same = omega (arith, out-length look t m fits)
+    end_same = omega (arith, out_length look t m fits)
 
-    emit-same : emit wants' (entry_of codes look') (up end) ≡ res
-    emit-same =
-        emit-climb wants' (entry_of codes look') (up end)
-        ∙ climb-high (λ c xs. xs ++ entry_of (walk t false) look c) (λ c xs. xs ++ entry_of codes look' c) []
-        (λ c e xs. ap (λ (ys : List ℕ). xs ++ ys) (entries-same c e)) end (omega arith)
-        ∙ sym (emit-climb wants (entry_of (walk t false) look) end)
+    emit_same : emit wants' (entry_of codes look') (up end) ≡ res
+    emit_same =
+        emit_climb wants' (entry_of codes look') (up end)
+        ∙ climb_high (λ c xs. xs ++ entry_of (walk t false) look c) (λ c xs. xs ++ entry_of codes look' c) []
+        (λ c e xs. ap (λ (ys : List ℕ). xs ++ ys) (entries_same c e)) end (omega arith)
+        ∙ sym (emit_climb wants (entry_of (walk t false) look) end)
 
-    result-same : result res ≡ res
+    result_same : result res ≡ res
     unfolding result
-    result-same = rw (codes_same, end_same) emit-same
+    result_same = rw (codes_same, end_same) emit_same
 
     size_same : size res ≡ num end
     unfolding size
-    size_same = rw (codes_same, end_same) (num-high end (omega arith))
+    size_same = rw (codes_same, end_same) (num_high end (omega arith))
 
 module _ (rule : List ℕ) (formed : WellWritten rule) where
   abbrev widens : release_kind ≤ eventually_kind
   widens = omega arith
 
-  result-written : (i : ℕ) → i < node_count (result rule) → WrittenNode (result rule) i
-  result-written i l =
-      written-node (result rule) i l
-      (node-widens release_kind eventually_kind widens (result rule) i (result-node rule formed i l))
+  result_written : (i : ℕ) → i < node_count (result rule) → WrittenNode (result rule) i
+  result_written i l =
+      written_node (result rule) i l
+      (node_widens release_kind eventually_kind widens (result rule) i (result_node rule formed i l))
 
   abbrev start : Written
   start = written_tree rule (root rule)
 
-  again-result : result (result rule) ≡ result rule
+  again_result : result (result rule) ≡ result rule
   unfolding result
-  again-result = result-same (written_tree rule) start (node_count rule) formed.fits result-written
+  again_result = result_same (written_tree rule) start (node_count rule) formed.fits result_written
 
-  again-size : size (result rule) ≡ size rule
+  again_size : size (result rule) ≡ size rule
   unfolding result size
-  again-size = size_same (written_tree rule) start (node_count rule) formed.fits result-written
+  again_size = size_same (written_tree rule) start (node_count rule) formed.fits result_written
 
   again_check : size rule ≤ max_nodes → written_check (result rule) ≡ fine
   unfolding written_check
-  again_check few = syntax_widens release_kind eventually_kind widens (result rule) (result-form rule formed few)
+  again_check few = syntax_widens release_kind eventually_kind widens (result rule) (result_form rule formed few)
 
   again_normal : size rule ≤ max_nodes → normal_form (result rule) ≡ accepted (result rule)
   unfolding normal_form
-  again_normal few = rw (again_check few, again-size, le-leb (size rule) max_nodes few, again-result)
+  again_normal few = rw (again_check few, again_size, le-leb (size rule) max_nodes few, again_result)
 
 -- ---- the theorem
 -- a normal form has a normal form, and that is itself
-pub normal_form-again : (rule out : List ℕ) → normal_form rule ≡ accepted out → normal_form out ≡ accepted out
-normal_form-again rule out e =
+pub normal_form_again : (rule out : List ℕ) → normal_form rule ≡ accepted out → normal_form out ≡ accepted out
+normal_form_again rule out e =
     let n = normal rule out e in
     subst (λ (x : List ℕ). normal_form x ≡ accepted x) n.same (again_normal rule n.formed n.few)

@@ -59,8 +59,8 @@ module _ (f : List Bool) (kind n : ℕ) (s : Bool) where
     own_leaf lt e added = rw (lt-ltb kind 4 lt, ← e) added
 
     module _ (low : 4 ≤ kind) (e : c ≡ pair_code n s) where
-      pub own-one : (kind ≡ 9 → ⊥) → kind ≤ 10 → Added f g (c ∷ []) → Added f g (own_codes kind n s)
-      own-one other high added = rw (le-ltb kind 4 low, ne_eqb kind 9 other, le-ltb 10 kind high, ← e) added
+      pub own_one : (kind ≡ 9 → ⊥) → kind ≤ 10 → Added f g (c ∷ []) → Added f g (own_codes kind n s)
+      own_one other high added = rw (le-ltb kind 4 low, ne_eqb kind 9 other, le-ltb 10 kind high, ← e) added
 
       pub own_two : 10 < kind → (d : ℕ) → d ≡ constant_code kind s → Added f g (c ∷ (d ∷ []))
           → Added f g (own_codes kind n s)

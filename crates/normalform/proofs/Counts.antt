@@ -12,14 +12,14 @@ use Rattle.answer.specs.Result.{fine}
 use Rattle.answer.proofs.Lowest.{not_fine}
 use Rattle.formula.specs.Rule.{node_count, kind_at, left_at, right_at, root, left_operand, right_operand, is_child, places}
 use Rattle.formula.specs.Rule.{place_check}
-use Rattle.formula.proofs.Operands.{left-child, right_child}
+use Rattle.formula.proofs.Operands.{left_child, right_child}
 use Rattle.formula.proofs.Checks.{place_twice}
 use Rattle.normalform.specs.Written.{Written, constant, literal, negation, next, binary, future, written_tree}
 use Rattle.normalform.specs.NormalForm.{turned, bit, left_sense, left_constant, pair_code, code, below, walk}
-use Rattle.normalform.proofs.Sums.{sum, over, one, count, one-other, one_most, over-append, sum_most, sum-none}
+use Rattle.normalform.proofs.Sums.{sum, over, one, count, one_other, one_most, over_append, sum_most, sum_none}
 use Rattle.normalform.proofs.Sums.{AllBelow, all_append, all_more, once_sum}
 use Rattle.normalform.proofs.Shape.{Fits, bit_small}
-use Rattle.normalform.proofs.Fitting.{WrittenNode, Made, made_constant, made_literal, made_negation, made-next}
+use Rattle.normalform.proofs.Fitting.{WrittenNode, Made, made_constant, made_literal, made_negation, made_next}
 use Rattle.normalform.proofs.Fitting.{made_binary, made_future, leaf_made, inner_made, WellWritten}
 
 -- 1 where a tree is node n
@@ -51,34 +51,34 @@ nodes (future m all a) = m ∷ nodes a
 
 module _ (look : ℕ → Written) where
   -- a node is the root or a child of some node
-  count-nodes : (n : ℕ) (t : Written) (m : ℕ) → Fits look t m
+  count_nodes : (n : ℕ) (t : Written) (m : ℕ) → Fits look t m
       → count n (nodes t) ≡ heads n t + over (λ p. kids n (look p)) (nodes t)
   unfolding over nodes heads kids
-  count-nodes n (constant v) m f = refl
-  count-nodes n (literal c v p) m f = omega (arith, ap (kids n) f.1)
-  count-nodes n (negation c a) m f = omega (arith, ap (kids n) f.1, count-nodes n a c f.2)
-  count-nodes n (next c a) m f = omega (arith, ap (kids n) f.1, count-nodes n a c f.2)
-  count-nodes n (binary c o a b) m f =
+  count_nodes n (constant v) m f = refl
+  count_nodes n (literal c v p) m f = omega (arith, ap (kids n) f.1)
+  count_nodes n (negation c a) m f = omega (arith, ap (kids n) f.1, count_nodes n a c f.2)
+  count_nodes n (next c a) m f = omega (arith, ap (kids n) f.1, count_nodes n a c f.2)
+  count_nodes n (binary c o a b) m f =
       omega (
         arith,
         ap (kids n) f.1,
-        count-nodes n a c f.2,
-        count-nodes n b c f.3,
-        over-append (one n) (nodes a) (nodes b),
-        over-append (λ p. kids n (look p)) (nodes a) (nodes b),
+        count_nodes n a c f.2,
+        count_nodes n b c f.3,
+        over_append (one n) (nodes a) (nodes b),
+        over_append (λ p. kids n (look p)) (nodes a) (nodes b),
       )
-  count-nodes n (future c all a) m f = omega (arith, ap (kids n) f.1, count-nodes n a c f.2)
+  count_nodes n (future c all a) m f = omega (arith, ap (kids n) f.1, count_nodes n a c f.2)
 
-  nodes-below : (t : Written) (m : ℕ) → Fits look t m → AllBelow m (nodes t)
+  nodes_below : (t : Written) (m : ℕ) → Fits look t m → AllBelow m (nodes t)
   unfolding nodes
-  nodes-below (constant v) m f = tt
-  nodes-below (literal c v p) m f = (f.0, tt)
-  nodes-below (negation c a) m f = (f.0, all_more c m (nodes a) (omega (arith, f.0)) (nodes-below a c f.2))
-  nodes-below (next c a) m f = (f.0, all_more c m (nodes a) (omega (arith, f.0)) (nodes-below a c f.2))
-  nodes-below (binary c o a b) m f =
-      let all = all_append c (nodes a) (nodes b) (nodes-below a c f.2) (nodes-below b c f.3) in
+  nodes_below (constant v) m f = tt
+  nodes_below (literal c v p) m f = (f.0, tt)
+  nodes_below (negation c a) m f = (f.0, all_more c m (nodes a) (omega (arith, f.0)) (nodes_below a c f.2))
+  nodes_below (next c a) m f = (f.0, all_more c m (nodes a) (omega (arith, f.0)) (nodes_below a c f.2))
+  nodes_below (binary c o a b) m f =
+      let all = all_append c (nodes a) (nodes b) (nodes_below a c f.2) (nodes_below b c f.3) in
       (f.0, all_more c m (nodes a ++ nodes b) (omega (arith, f.0)) all)
-  nodes-below (future c all a) m f = (f.0, all_more c m (nodes a) (omega (arith, f.0)) (nodes-below a c f.2))
+  nodes_below (future c all a) m f = (f.0, all_more c m (nodes a) (omega (arith, f.0)) (nodes_below a c f.2))
 
 -- ---- a node by its bytes
 -- how often a node of kind k with the bytes l and r has node n as a child
@@ -86,21 +86,21 @@ abbrev pub byte_kids : (k l r n : ℕ) → ℕ
 byte_kids k l r n = is_child (left_operand k) l n + is_child (right_operand k) r n
 
 module _ (n : ℕ) {p l : ℕ} {a b : Written} where
-  heads-made : {k : ℕ} {t : Written} → Made p l a b k t → heads n t ≤ one n p
+  heads_made : {k : ℕ} {t : Written} → Made p l a b k t → heads n t ≤ one n p
   unfolding heads
-  heads-made (made_constant k v h) = omega arith
-  heads-made (made_literal k v low high) = omega arith
-  heads-made (made_negation k h) = omega arith
-  heads-made (made-next k h) = omega arith
-  heads-made (made_binary k o h two) = omega arith
-  heads-made (made_future k all h) = omega arith
+  heads_made (made_constant k v h) = omega arith
+  heads_made (made_literal k v low high) = omega arith
+  heads_made (made_negation k h) = omega arith
+  heads_made (made_next k h) = omega arith
+  heads_made (made_binary k o h two) = omega arith
+  heads_made (made_future k all h) = omega arith
 
   kids_leaf : {k : ℕ} {t : Written} → Made p l a b k t → k < 4 → kids n t ≡ 0
   unfolding kids
   kids_leaf (made_constant k v h) leaf = refl
   kids_leaf (made_literal k v low high) leaf = refl
   kids_leaf (made_negation k h) leaf = absurd (omega arith)
-  kids_leaf (made-next k h) leaf = absurd (omega arith)
+  kids_leaf (made_next k h) leaf = absurd (omega arith)
   kids_leaf (made_binary k o h two) leaf = absurd (omega arith)
   kids_leaf (made_future k all h) leaf = absurd (omega arith)
 
@@ -109,29 +109,29 @@ module _ (n : ℕ) {p l : ℕ} {a b : Written} where
   kids_parts (made_constant k v h) = omega arith
   kids_parts (made_literal k v low high) = omega arith
   kids_parts (made_negation k h) = omega arith
-  kids_parts (made-next k h) = omega arith
+  kids_parts (made_next k h) = omega arith
   kids_parts (made_binary k o h two) = omega arith
   kids_parts (made_future k all h) = omega arith
 
-  kids-made : (r : ℕ) → heads n a ≤ one n l → heads n b ≤ one n r → {k : ℕ} {t : Written} → Made p l a b k t
+  kids_made : (r : ℕ) → heads n a ≤ one n l → heads n b ≤ one n r → {k : ℕ} {t : Written} → Made p l a b k t
       → kids n t ≤ byte_kids k l r n
   unfolding kids
-  kids-made r ha hb (made_constant k v h) = omega arith
-  kids-made r ha hb (made_literal k v low high) = omega arith
-  kids-made r ha hb (made_negation k h) = rw (← left-child k (omega arith)) (omega arith)
-  kids-made r ha hb (made-next k h) = rw (← left-child k (omega arith)) (omega arith)
-  kids-made r ha hb (made_binary k o h two) = rw (← left-child k h, ← right_child k h two) (omega arith)
-  kids-made r ha hb (made_future k all h) = rw (← left-child k (omega arith)) (omega arith)
+  kids_made r ha hb (made_constant k v h) = omega arith
+  kids_made r ha hb (made_literal k v low high) = omega arith
+  kids_made r ha hb (made_negation k h) = rw (← left_child k (omega arith)) (omega arith)
+  kids_made r ha hb (made_next k h) = rw (← left_child k (omega arith)) (omega arith)
+  kids_made r ha hb (made_binary k o h two) = rw (← left_child k h, ← right_child k h two) (omega arith)
+  kids_made r ha hb (made_future k all h) = rw (← left_child k (omega arith)) (omega arith)
 
 -- ---- a rule that 1 to 6 let pass
 module _ (rule : List ℕ) where
   abbrev kids_at : (n p : ℕ) → ℕ
   kids_at n p = byte_kids (kind_at rule p) (left_at rule p) (right_at rule p) n
 
-  places-sum : (m n : ℕ) → places rule m n ≡ sum (kids_at n) m
+  places_sum : (m n : ℕ) → places rule m n ≡ sum (kids_at n) m
   unfolding places sum
-  places-sum zero n = refl
-  places-sum (suc m) n = omega (arith, places-sum m n)
+  places_sum zero n = refl
+  places_sum (suc m) n = omega (arith, places_sum m n)
 
   places_few : (n : ℕ) → place_check rule n ≡ fine → 3 < kind_at rule n → places rule (node_count rule) n ≤ 1
   places_few n e inner = go (dec_le (places rule (node_count rule) n) 1)
@@ -147,10 +147,10 @@ module _ (rule : List ℕ) (formed : WellWritten rule) where
   abbrev kids_of : (n p : ℕ) → ℕ
   kids_of n p = kids n (look p)
 
-  heads-look : (n l : ℕ) → l < node_count rule → heads n (look l) ≤ one n l
-  heads-look n l h =
+  heads_look : (n l : ℕ) → l < node_count rule → heads n (look l) ≤ one n l
+  heads_look n l h =
       let (a, b, made) = leaf_made rule l (formed.nodes l h) in
-      heads-made n made
+      heads_made n made
 
   module _ (n p : ℕ) (h : p < node_count rule) where
     abbrev node : WrittenNode rule p
@@ -162,45 +162,45 @@ module _ (rule : List ℕ) (formed : WellWritten rule) where
         kids_leaf n made leaf
 
     module _ (inner : 3 < kind_at rule p) where
-      heads-left : heads n (look (left_at rule p)) ≤ one n (left_at rule p)
-      heads-left = heads-look n (left_at rule p) (omega (arith, node.node.left inner))
+      heads_left : heads n (look (left_at rule p)) ≤ one n (left_at rule p)
+      heads_left = heads_look n (left_at rule p) (omega (arith, node.node.left inner))
 
-      heads-right : heads n (look (right_at rule p)) ≤ one n (right_at rule p)
-      heads-right = heads-look n (right_at rule p) (omega (arith, node.node.right inner))
+      heads_right : heads n (look (right_at rule p)) ≤ one n (right_at rule p)
+      heads_right = heads_look n (right_at rule p) (omega (arith, node.node.right inner))
 
       kids_inner : kids_of n p ≤ kids_at rule n p
-      kids_inner = kids-made n (right_at rule p) heads-left heads-right (inner_made rule p node inner)
+      kids_inner = kids_made n (right_at rule p) heads_left heads_right (inner_made rule p node inner)
 
     -- its children are below it
-    kids-low : p ≤ n → kids_of n p ≡ 0
-    kids-low le = go (dec_lt 3 (kind_at rule p))
+    kids_low : p ≤ n → kids_of n p ≡ 0
+    kids_low le = go (dec_lt 3 (kind_at rule p))
       where
         go : Dec (3 < kind_at rule p) → kids_of n p ≡ 0
         go (yes inner) =
             omega (
               arith,
               kids_parts n (inner_made rule p node inner),
-              heads-left inner,
-              heads-right inner,
-              one-other n (left_at rule p) (λ e. omega (arith, node.node.left inner)),
-              one-other n (right_at rule p) (λ e. omega (arith, node.node.right inner)),
+              heads_left inner,
+              heads_right inner,
+              one_other n (left_at rule p) (λ e. omega (arith, node.node.left inner)),
+              one_other n (right_at rule p) (λ e. omega (arith, node.node.right inner)),
             )
         go (no leaf) = kids_outer (omega arith)
 
-    kids-place : kids_of n p ≤ kids_at rule n p
-    kids-place = go (dec_lt 3 (kind_at rule p))
+    kids_place : kids_of n p ≤ kids_at rule n p
+    kids_place = go (dec_lt 3 (kind_at rule p))
       where
         go : Dec (3 < kind_at rule p) → kids_of n p ≤ kids_at rule n p
         go (yes inner) = kids_inner inner
         go (no leaf) = omega (arith, kids_outer (omega arith))
 
-  kids-sum : (n : ℕ) → n < node_count rule → 3 < kind_at rule n → sum (kids_of n) (node_count rule) ≤ 1
-  kids-sum n h inner =
+  kids_sum : (n : ℕ) → n < node_count rule → 3 < kind_at rule n → sum (kids_of n) (node_count rule) ≤ 1
+  kids_sum n h inner =
       omega (
         arith,
         places_few rule n (formed.places n h) inner,
-        sum_most (kids_of n) (kids_at rule n) (node_count rule) (λ p l. kids-place n p l),
-        places-sum rule (node_count rule) n,
+        sum_most (kids_of n) (kids_at rule n) (node_count rule) (λ p l. kids_place n p l),
+        places_sum rule (node_count rule) n,
       )
 
   abbrev start : Written
@@ -214,61 +214,61 @@ module _ (rule : List ℕ) (formed : WellWritten rule) where
   once_from zero n far h inner = absurd (omega arith)
   once_from (suc d) n far h inner =
       last (ℕ_discrete n (root rule))
-      (once_sum (kids_of n) (node_count rule) whole (nodes-below look start (node_count rule) formed.fits)
+      (once_sum (kids_of n) (node_count rule) whole (nodes_below look start (node_count rule) formed.fits)
       (λ p l. pick (λ p far l i. once_from d p far l i) p l (dec_le p n) (dec_lt 3 (kind_at rule p))))
     where
       pick : ((p : ℕ) → node_count rule ≤ p + d → p < node_count rule → 3 < kind_at rule p → count p whole ≤ 1)
           → (p : ℕ) → p < node_count rule → Dec (p ≤ n) → Dec (3 < kind_at rule p)
           → (kids_of n p ≡ 0) ⊎ (count p whole ≤ 1)
-      pick ih p l (yes low) i = inl (kids-low n p l low)
+      pick ih p l (yes low) i = inl (kids_low n p l low)
       pick ih p l (no high) (yes i) = inr (ih p (omega arith) l i)
       pick ih p l (no high) (no i) = inl (kids_outer n p l (omega arith))
 
       total : count n whole ≡ heads n start + over (kids_of n) whole
-      total = count-nodes look n start (node_count rule) formed.fits
+      total = count_nodes look n start (node_count rule) formed.fits
 
       head : heads n start ≤ one n (root rule)
-      head = heads-look n (root rule) (omega (arith, formed.some))
+      head = heads_look n (root rule) (omega (arith, formed.some))
 
       last : Dec (n ≡ root rule) → over (kids_of n) whole ≤ sum (kids_of n) (node_count rule) → count n whole ≤ 1
       last (yes e) bound =
-          let none = sum-none (kids_of n) (node_count rule) (λ p l. kids-low n p l (omega arith)) in
+          let none = sum_none (kids_of n) (node_count rule) (λ p l. kids_low n p l (omega arith)) in
           omega (arith, total, head, none, one_most n (root rule))
       last (no e) bound =
-          omega (arith, total, head, kids-sum n h inner, one-other n (root rule) (λ f. e (sym f)))
+          omega (arith, total, head, kids_sum n h inner, one_other n (root rule) (λ f. e (sym f)))
 
   -- an operator stands once in the root's tree
   pub node_once : (n : ℕ) → n < node_count rule → 3 < kind_at rule n → count n whole ≤ 1
   node_once n h inner = once_from (node_count rule) n (omega arith) h inner
 
 -- ---- the walk comes to a node at most as often as it stands in the tree
-bit-other : (n : ℕ) (s v : Bool) → one (pair_code n s) (bit v) ≡ 0
-bit-other n s v = one-other (pair_code n s) (bit v) (λ e. omega (arith, bit_small v))
+bit_other : (n : ℕ) (s v : Bool) → one (pair_code n s) (bit v) ≡ 0
+bit_other n s v = one_other (pair_code n s) (bit v) (λ e. omega (arith, bit_small v))
 
-pair-node : (n m : ℕ) (s r : Bool) → pair_code m r ≡ pair_code n s → m ≡ n
-pair-node n m s r e = omega (arith, bit_small s, bit_small r)
+pair_node : (n m : ℕ) (s r : Bool) → pair_code m r ≡ pair_code n s → m ≡ n
+pair_node n m s r e = omega (arith, bit_small s, bit_small r)
 
 pair_one : (n m : ℕ) (s r : Bool) → one (pair_code n s) (pair_code m r) ≤ one n m
 pair_one n m s r = go (ℕ_discrete m n)
   where
     go : Dec (m ≡ n) → one (pair_code n s) (pair_code m r) ≤ one n m
     go (yes e) = rw (eq-eqb m n e) (one_most (pair_code n s) (pair_code m r))
-    go (no e) = omega (arith, one-other (pair_code n s) (pair_code m r) (λ f. e (pair-node n m s r f)))
+    go (no e) = omega (arith, one_other (pair_code n s) (pair_code m r) (λ f. e (pair_node n m s r f)))
 
-pub walk-count : (n : ℕ) (s : Bool) (t : Written) (r : Bool) → count (pair_code n s) (walk t r) ≤ count n (nodes t)
+pub walk_count : (n : ℕ) (s : Bool) (t : Written) (r : Bool) → count (pair_code n s) (walk t r) ≤ count n (nodes t)
 unfolding over code below nodes
-walk-count n s (constant v) r = omega (arith, bit-other n s (turned v r))
-walk-count n s (literal m v p) r = omega (arith, pair_one n m s r)
-walk-count n s (negation m a) r = omega (arith, walk-count n s a (not r))
-walk-count n s (next m a) r = omega (arith, pair_one n m s r, walk-count n s a r)
-walk-count n s (binary m o a b) r =
+walk_count n s (constant v) r = omega (arith, bit_other n s (turned v r))
+walk_count n s (literal m v p) r = omega (arith, pair_one n m s r)
+walk_count n s (negation m a) r = omega (arith, walk_count n s a (not r))
+walk_count n s (next m a) r = omega (arith, pair_one n m s r, walk_count n s a r)
+walk_count n s (binary m o a b) r =
     omega (
       arith,
       pair_one n m s r,
-      walk-count n s a (left_sense o r),
-      walk-count n s b r,
-      over-append (one (pair_code n s)) (walk a (left_sense o r)) (walk b r),
-      over-append (one n) (nodes a) (nodes b),
+      walk_count n s a (left_sense o r),
+      walk_count n s b r,
+      over_append (one (pair_code n s)) (walk a (left_sense o r)) (walk b r),
+      over_append (one n) (nodes a) (nodes b),
     )
-walk-count n s (future m all a) r =
-    omega (arith, pair_one n m s r, bit-other n s (left_constant all r), walk-count n s a r)
+walk_count n s (future m all a) r =
+    omega (arith, pair_one n m s r, bit_other n s (left_constant all r), walk_count n s a r)

@@ -13,8 +13,8 @@ use Rattle.normalform.specs.NormalForm.{entry, subject, sense}
 use Rattle.normalform.specs.Memory.{Walkable, OwnPlace, node_code, constant_code, form_kind}
 use Rattle.normalform.proofs.Nodes.{Pair, four, five, seven, eight}
 use Rattle.normalform.proofs.Fitting.{leaf_tree, inner_built}
-use Rattle.normalform.proofs.Walking.{own-node}
-use Rattle.normalform.proofs.Turns.{pair-kind}
+use Rattle.normalform.proofs.Walking.{own_node}
+use Rattle.normalform.proofs.Turns.{pair_kind}
 
 abbrev three : (kind left right : ℕ) → List ℕ
 three kind left right = kind ∷ (left ∷ (right ∷ []))
@@ -35,14 +35,14 @@ module _ (f : ℕ → ℕ) (rule : List ℕ) (n : ℕ) (w : Walkable rule n) (s 
   leaf_is : (k : ℕ) → kind_at rule n ≡ k → (xs : List ℕ)
       → ((a b : Written) → xs ≡ entry f (build_written k n (left_at rule n) a b) s) → xs ≡ bytes
   leaf_is k e xs h =
-      let (a, b, tree) = leaf_tree rule n (own-node rule n w) in
+      let (a, b, tree) = leaf_tree rule n (own_node rule n w) in
       h a b ∙ rw (tree, e)
 
   inner_is : (k : ℕ) → kind_at rule n ≡ k → 3 < k
       → entry f (build_written k n (left_at rule n) (written_tree rule (left_at rule n)) (written_tree rule (right_at rule n))) s
       ≡ bytes
   inner_is k e inner =
-      let tree = inner_built rule n (own-node rule n w) k (left_at rule n) e refl (right_at rule n) refl inner in
+      let tree = inner_built rule n (own_node rule n w) k (left_at rule n) e refl (right_at rule n) refl inner in
       ap (λ (t : Written). entry f t s) (sym tree)
 
   module _ (kind : ℕ) (ek : kind ≡ kind_at rule n) (placed : OwnPlace rule n) where
@@ -56,9 +56,9 @@ module _ (f : ℕ → ℕ) (rule : List ℕ) (n : ℕ) (w : Walkable rule n) (s 
             let e : kind ≡ 3 = omega (arith, placed.constant) in
             rw e (leaf_is 3 (sym ek ∙ e) _ (λ a b. refl))
 
-    next-bytes : kind ≡ 6 → three (form_kind kind s) (left s) 0 ≡ bytes
+    next_bytes : kind ≡ 6 → three (form_kind kind s) (left s) 0 ≡ bytes
     unfolding entry
-    next-bytes e = rw e (inner_is 6 (sym ek ∙ e) (omega arith))
+    next_bytes e = rw e (inner_is 6 (sym ek ∙ e) (omega arith))
 
     future_bytes : 10 < kind → three (form_kind kind s) (f (constant_code kind s)) (left s) ≡ bytes
     unfolding entry
@@ -67,18 +67,18 @@ module _ (f : ℕ → ℕ) (rule : List ℕ) (n : ℕ) (w : Walkable rule n) (s 
         go : Dec (kind ≡ 11) → three (form_kind kind s) (f (constant_code kind s)) (left s) ≡ bytes
         go (yes e) = rw e (inner_is 11 (sym ek ∙ e) (omega arith))
         go (no d) =
-            let e : kind ≡ 12 = omega (arith, (own-node rule n w).kind) in
+            let e : kind ≡ 12 = omega (arith, (own_node rule n w).kind) in
             rw e (inner_is 12 (sym ek ∙ e) (omega arith))
 
     implies_bytes : kind ≡ 10 → three (form_kind kind s) (left (not s)) right ≡ bytes
     unfolding entry
     implies_bytes e = rw e (inner_is 10 (sym ek ∙ e) (omega arith))
 
-    pair-bytes : 4 ≤ kind → (kind ≡ 6 → ⊥) → kind ≤ 10 → (kind ≡ 10 → ⊥)
+    pair_bytes_lem : 4 ≤ kind → (kind ≡ 6 → ⊥) → kind ≤ 10 → (kind ≡ 10 → ⊥)
         → three (form_kind kind s) (left s) right ≡ bytes
     unfolding entry
-    pair-bytes low no6 high no10 =
-        go kind ek (pair-kind kind (omega arith) (under (λ e. placed.negation (sym ek ∙ e))) no6)
+    pair_bytes_lem low no6 high no10 =
+        go kind ek (pair_kind kind (omega arith) (under (λ e. placed.negation (sym ek ∙ e))) no6)
       where
         under : (kind ≡ 9 → ⊥) → kind < 9
         under no9 = omega arith
@@ -99,7 +99,7 @@ module _ (f : ℕ → ℕ) (rule : List ℕ) (n : ℕ) (w : Walkable rule n) (s 
 
       module _ {l : ℕ} (el : l ≡ left_at rule n) where
         pub next_put : kind ≡ 6 → {a : ℕ} → a ≡ f (node_code rule l s) → Put (three new a 0) → Put bytes
-        next_put k ea put = put ∙ rw (en, ea, el) (ap (sets form at) (next-bytes k))
+        next_put k ea put = put ∙ rw (en, ea, el) (ap (sets form at) (next_bytes k))
 
         pub future_put : 10 < kind → {a b : ℕ} → a ≡ f (constant_code kind s) → b ≡ f (node_code rule l s)
             → Put (three new a b) → Put bytes
@@ -112,7 +112,7 @@ module _ (f : ℕ → ℕ) (rule : List ℕ) (n : ℕ) (w : Walkable rule n) (s 
           pub pair_put : 4 ≤ kind → (kind ≡ 6 → ⊥) → kind ≤ 10 → (kind ≡ 10 → ⊥) → a ≡ f (node_code rule l s)
               → Put (three new a b) → Put bytes
           pair_put low no6 high no10 ea put =
-              put ∙ rw (en, ea, eb, el, er) (ap (sets form at) (pair-bytes low no6 high no10))
+              put ∙ rw (en, ea, eb, el, er) (ap (sets form at) (pair_bytes_lem low no6 high no10))
 
 -- the bytes of a constant's code, and of a node's, put at a number's place
 module _ (f : ℕ → ℕ) (look : ℕ → Written) (c : ℕ) (form : List ℕ) {after : List ℕ} {at place : ℕ} (e : at ≡ place) where

@@ -18,7 +18,7 @@ use Rattle.formula.specs.Satisfaction.{Holds, Satisfies}
 use Rattle.formula.proofs.Trees.{of_parts}
 use Rattle.normalform.specs.Written.{Written, constant, build_written, written_tree, HoldsWritten, SatisfiesWritten}
 use Rattle.normalform.specs.NormalForm.{normal_form}
-use Rattle.normalform.proofs.Meaning.{either_same, until-same, release-same}
+use Rattle.normalform.proofs.Meaning.{either_same, until_same, release_same}
 use Rattle.normalform.proofs.Holds.{normal_form_holds}
 
 module _ (w : ℕ → ℕ) where
@@ -36,9 +36,9 @@ module _ (w : ℕ → ℕ) where
   build_alike (suc (suc (suc (suc (suc zero))))) n l f g a b le x y i = either_same (x i) (y i)
   build_alike (suc (suc (suc (suc (suc (suc zero)))))) n l f g a b le x y i = x (suc i)
   build_alike (suc (suc (suc (suc (suc (suc (suc zero))))))) n l f g a b le x y i =
-      until-same (HoldsWritten w a) (HoldsWritten w b) (Holds w f) (Holds w g) x y i
+      until_same (HoldsWritten w a) (HoldsWritten w b) (Holds w f) (Holds w g) x y i
   build_alike (suc (suc (suc (suc (suc (suc (suc (suc zero)))))))) n l f g a b le x y i =
-      release-same (HoldsWritten w a) (HoldsWritten w b) (Holds w f) (Holds w g) x y i
+      release_same (HoldsWritten w a) (HoldsWritten w b) (Holds w f) (Holds w g) x y i
   build_alike (suc (suc (suc (suc (suc (suc (suc (suc (suc k))))))))) n l f g a b le x y i = absurd (omega arith)
 
   module _ (rule : List ℕ) (low : (n : ℕ) → n < node_count rule → kind_at rule n ≤ release_kind) where

@@ -12,20 +12,20 @@ use native.Mathlib.Decide.{ℕ_discrete}
 use lib.ListN.{get_or, length}
 use borrow.Author.Tests.{le-leb}
 use Rattle.answer.specs.Result.{fine}
-use Rattle.answer.proofs.Lowest.{fine-first}
+use Rattle.answer.proofs.Lowest.{fine_first}
 use Rattle.formula.specs.Limits.{max_nodes, max_untils}
 use Rattle.formula.specs.Rule.{node_count, kind_at, left_at, right_at, root, release_kind, eventually_kind, syntax_check}
 use Rattle.formula.specs.Rule.{untils, until_check, checked}
-use Rattle.formula.proofs.Accepted.{kind_known, syntax_widens, formed-fine, accepted_fine}
+use Rattle.formula.proofs.Accepted.{kind_known, syntax_widens, formed_fine, accepted_fine}
 use Rattle.formula.proofs.Untils.{untils_more}
 use Rattle.normalform.specs.Written.{Written, build_written, written_tree, written_check}
 use Rattle.normalform.specs.NormalForm.{bit, code, below, walk, entry, member, rank, is_needed, number, entry_of}
 use Rattle.normalform.specs.NormalForm.{codes_of, code_end, size, result, normal_form, written_checked}
-use Rattle.normalform.proofs.Sums.{sum, over, one, member-sum}
-use Rattle.normalform.proofs.Shape.{member_head, member_tail, member-cases, member_split, entry-code}
+use Rattle.normalform.proofs.Sums.{sum, over, one, member_sum}
+use Rattle.normalform.proofs.Shape.{member_head, member_tail, member_cases, member_split, entry_code}
 use Rattle.normalform.proofs.Fitting.{leaf_tree, inner_tree, fits_node, WellWritten, well_written}
-use Rattle.normalform.proofs.Nodes.{kind-byte}
-use Rattle.normalform.proofs.Passes.{result-length}
+use Rattle.normalform.proofs.Nodes.{kind_byte}
+use Rattle.normalform.proofs.Passes.{result_length}
 
 -- ---- sums
 -- g at m - 1 down to 0
@@ -33,19 +33,19 @@ listed : (g : ℕ → ℕ) → ℕ → List ℕ
 listed g zero = []
 listed g (suc m) = g m ∷ listed g m
 
-member-listed : (g : ℕ → ℕ) (m n : ℕ) → n < m → member (g n) (listed g m) ≡ true
+member_listed : (g : ℕ → ℕ) (m n : ℕ) → n < m → member (g n) (listed g m) ≡ true
 unfolding listed
-member-listed g zero n l = absurd (omega arith)
-member-listed g (suc m) n l = go (ℕ_discrete n m) (λ l. member-listed g m n l)
+member_listed g zero n l = absurd (omega arith)
+member_listed g (suc m) n l = go (ℕ_discrete n m) (λ l. member_listed g m n l)
   where
     go : Dec (n ≡ m) → (n < m → member (g n) (listed g m) ≡ true) → member (g n) (g m ∷ listed g m) ≡ true
     go (yes e) ih = rw e (member_head (g m) (listed g m))
     go (no e) ih = member_tail (g n) (g m) (listed g m) (ih (omega arith))
 
-over-listed : (g f h : ℕ → ℕ) (m : ℕ) → ((n : ℕ) → n < m → f (g n) ≡ h n) → over f (listed g m) ≡ sum h m
+over_listed : (g f h : ℕ → ℕ) (m : ℕ) → ((n : ℕ) → n < m → f (g n) ≡ h n) → over f (listed g m) ≡ sum h m
 unfolding listed over sum
-over-listed g f h zero e = refl
-over-listed g f h (suc m) e = omega (arith, over-listed g f h m (λ n l. e n (omega arith)), e m (omega arith))
+over_listed g f h zero e = refl
+over_listed g f h (suc m) e = omega (arith, over_listed g f h m (λ n l. e n (omega arith)), e m (omega arith))
 
 -- what f sums up to over the numbers of the needed codes is at most what h does over the codes of a list with them all
 step_most : (f : ℕ → ℕ) (n y : ℕ) (a b : Bool) → (a ≡ true → (b ≡ true) × (f n ≡ y))
@@ -68,10 +68,10 @@ sum_ones zero = refl
 sum_ones (suc n) = omega (arith, sum_ones n)
 
 -- how many untils there are, as a sum over the nodes
-untils-sum : (rule : List ℕ) (n : ℕ) → length (untils rule n) ≡ sum (λ i. one 7 (kind_at rule i)) n
+untils_sum : (rule : List ℕ) (n : ℕ) → length (untils rule n) ≡ sum (λ i. one 7 (kind_at rule i)) n
 unfolding untils sum
-untils-sum rule zero = refl
-untils-sum rule (suc n) = omega (arith, untils-sum rule n, untils_more rule n)
+untils_sum rule zero = refl
+untils_sum rule (suc n) = omega (arith, untils_sum rule n, untils_more rule n)
 
 -- ---- a first-edition node of kind k with the children a and b
 -- c is on the walk of a child
@@ -120,7 +120,7 @@ module _ (rule : List ℕ) (passed : syntax_check release_kind rule ≡ fine) wh
   built_stands : (n : ℕ) (a b : Written) → n < node_count rule
       → look n ≡ build_written (kind_at rule n) n (left_at rule n) a b → Stands (kind_at rule n) a b (look n)
   built_stands n a b l same =
-      let known = kind_known release_kind rule n ((formed-fine release_kind rule passed).each n l) in
+      let known = kind_known release_kind rule n ((formed_fine release_kind rule passed).each n l) in
       rw same (stands a b (kind_at rule n) n (left_at rule n) known)
 
   -- each code that the walk comes to is that of a node as it stands
@@ -142,11 +142,11 @@ module _ (rule : List ℕ) (passed : syntax_check release_kind rule ≡ fine) wh
         | inr x ↦ ih (right_at rule n) (node.node.right inner) x
       ]
 
-  walk-plain : (bound n c : ℕ) → n < bound → n < node_count rule → member c (walk (look n) false) ≡ true → Plain c
-  walk-plain zero n c lt l e = absurd (omega arith)
-  walk-plain (suc bound) n c lt l e = elim (member-cases c (plain_code n) (below (look n) false) e) [
-    | inl f ↦ subst Plain f (member-listed plain_code (node_count rule) n l)
-    | inr f ↦ below_plain n c l (λ k h x. walk-plain bound k c (omega arith) (omega arith) x) f
+  walk_plain : (bound n c : ℕ) → n < bound → n < node_count rule → member c (walk (look n) false) ≡ true → Plain c
+  walk_plain zero n c lt l e = absurd (omega arith)
+  walk_plain (suc bound) n c lt l e = elim (member_cases c (plain_code n) (below (look n) false) e) [
+    | inl f ↦ subst Plain f (member_listed plain_code (node_count rule) n l)
+    | inr f ↦ below_plain n c l (λ k h x. walk_plain bound k c (omega arith) (omega arith) x) f
   ]
 
   -- ---- whatever kinds weigh
@@ -154,10 +154,10 @@ module _ (rule : List ℕ) (passed : syntax_check release_kind rule ≡ fine) wh
     abbrev weight : ℕ → ℕ
     weight c = w (get_or (entry_of (codes_of rule) look c) 0 0)
 
-    node-weight : (n : ℕ) → n < node_count rule → weight (plain_code n) ≡ w (kind_at rule n)
-    node-weight n l =
+    node_weight : (n : ℕ) → n < node_count rule → weight (plain_code n) ≡ w (kind_at rule n)
+    node_weight n l =
         let num = number (codes_of rule) in
-        let same = entry-code look num (look n) (suc n) false (fits_node rule formed.nodes n l) in
+        let same = entry_code look num (look n) (suc n) false (fits_node rule formed.nodes n l) in
         let (a, b, built) = leaf_tree rule n (formed.nodes n l) in
         ap w (ap (λ (xs : List ℕ). get_or xs 0 0) same ∙ (built_stands n a b l built).kind num)
 
@@ -168,13 +168,13 @@ module _ (rule : List ℕ) (passed : syntax_check release_kind rule ≡ fine) wh
         let m = node_count rule in
         let xs = listed plain_code m in
         let last : root rule < m = omega (arith, formed.some) in
-        let kind = kind-byte look (look (root rule)) m formed.fits in
+        let kind = kind_byte look (look (root rule)) m formed.fits in
         omega (
           arith,
           rank_most (is_needed (codes_of rule)) xs (λ i. w (kind_at (result rule) i)) weight (code_end rule)
-              (λ c e. (walk-plain m (root rule) c last last e, ap w (kind c e))),
-          member-sum weight xs (code_end rule),
-          over-listed plain_code weight (λ n. w (kind_at rule n)) m node-weight,
+              (λ c e. (walk_plain m (root rule) c last last e, ap w (kind c e))),
+          member_sum weight xs (code_end rule),
+          over_listed plain_code weight (λ n. w (kind_at rule n)) m node_weight,
         )
 
 -- ---- the theorems
@@ -188,11 +188,11 @@ first_edition_size rule passed =
 pub first_edition_checked : (rule : List ℕ) → checked rule ≡ fine → written_checked rule ≡ fine
 unfolding checked written_checked normal_form until_check
 first_edition_checked rule e =
-    let passed = fine-first (syntax_check release_kind rule) _ e in
+    let passed = fine_first (syntax_check release_kind rule) _ e in
     let before = accepted_fine rule e in
     let small : size rule ≤ max_nodes = omega (arith, first_edition_size rule passed) in
-    let whole : node_count (result rule) ≡ size rule = omega (arith, result-length rule (formed rule passed)) in
+    let whole : node_count (result rule) ≡ size rule = omega (arith, result_length rule (formed rule passed)) in
     let most = kinds_most rule passed (one 7) in
     let few : length (untils (result rule) (size rule)) ≤ max_untils =
-    omega (arith, untils-sum rule (node_count rule), untils-sum (result rule) (size rule)) in
+    omega (arith, untils_sum rule (node_count rule), untils_sum (result rule) (size rule)) in
     rw (written rule passed, le-leb (size rule) max_nodes small, whole, le-leb _ max_untils few)

@@ -10,7 +10,7 @@ use Rattle.answer.specs.Result.{fine}
 use Rattle.formula.specs.Limits.{propositions}
 use Rattle.formula.specs.Rule.{node_count, kind_at, left_at, right_at, root, one_child, eventually_kind, node_check}
 use Rattle.formula.specs.Rule.{place_check}
-use Rattle.formula.proofs.Accepted.{Node, node-fine, kind_known, formed-fine}
+use Rattle.formula.proofs.Accepted.{Node, node_fine, kind_known, formed_fine}
 use Rattle.formula.proofs.Trees.{of_parts, of_children}
 use Rattle.normalform.specs.Written.{Connective, and, or, until, release, implies, Written, constant, literal}
 use Rattle.normalform.specs.Written.{negation, next, binary, future, build_written, written_tree, written_check}
@@ -22,17 +22,17 @@ pub record WrittenNode (rule : List ℕ) (n : ℕ) : Type 0 where
   pub kind : kind_at rule n ≤ eventually_kind
   pub node : Node rule n
 
-pub written-node : (rule : List ℕ) (n : ℕ) → n < node_count rule → node_check eventually_kind rule n ≡ fine
+pub written_node : (rule : List ℕ) (n : ℕ) → n < node_count rule → node_check eventually_kind rule n ≡ fine
     → WrittenNode rule n
-written-node rule n lt e =
-    record { inside = lt; kind = kind_known eventually_kind rule n e; node = node-fine eventually_kind rule n e }
+written_node rule n lt e =
+    record { inside = lt; kind = kind_known eventually_kind rule n e; node = node_fine eventually_kind rule n e }
 
 -- ---- node n of kind k, with the left byte l and the children a and b, by the form of its tree
 pub data Made (n l : ℕ) (a b : Written) : (k : ℕ) → Written → Type 0 where
   made_constant : (k : ℕ) (v : Bool) → k < 2 → Made n l a b k (constant v)
   made_literal : (k : ℕ) (v : Bool) → 1 < k → k < 4 → Made n l a b k (literal n v l)
   made_negation : (k : ℕ) → k ≡ 9 → Made n l a b k (negation n a)
-  made-next : (k : ℕ) → k ≡ 6 → Made n l a b k (next n a)
+  made_next : (k : ℕ) → k ≡ 6 → Made n l a b k (next n a)
   made_binary : (k : ℕ) (o : Connective) → 3 < k → one_child k ≡ false → Made n l a b k (binary n o a b)
   made_future : (k : ℕ) (all : Bool) → 10 < k → Made n l a b k (future n all a)
 
@@ -44,7 +44,7 @@ made (suc (suc zero)) n l a b = made_literal 2 true (omega arith) (omega arith)
 made (suc (suc (suc zero))) n l a b = made_literal 3 false (omega arith) (omega arith)
 made (suc (suc (suc (suc zero)))) n l a b = made_binary 4 and (omega arith) refl
 made (suc (suc (suc (suc (suc zero))))) n l a b = made_binary 5 or (omega arith) refl
-made (suc (suc (suc (suc (suc (suc zero)))))) n l a b = made-next 6 refl
+made (suc (suc (suc (suc (suc (suc zero)))))) n l a b = made_next 6 refl
 made (suc (suc (suc (suc (suc (suc (suc zero))))))) n l a b = made_binary 7 until (omega arith) refl
 made (suc (suc (suc (suc (suc (suc (suc (suc zero)))))))) n l a b = made_binary 8 release (omega arith) refl
 made (suc (suc (suc (suc (suc (suc (suc (suc (suc zero))))))))) n l a b = made_negation 9 refl
@@ -101,7 +101,7 @@ module _ (look : ℕ → Written) where
   fits_made (made_constant k v h) e p f g = tt
   fits_made (made_literal k v low high) e p f g = (omega arith, e, p low high)
   fits_made (made_negation k h) e p f g = (omega arith, e, f (omega arith))
-  fits_made (made-next k h) e p f g = (omega arith, e, f (omega arith))
+  fits_made (made_next k h) e p f g = (omega arith, e, f (omega arith))
   fits_made (made_binary k o h two) e p f g = (omega arith, e, f h, g h)
   fits_made (made_future k all h) e p f g = (omega arith, e, f (omega arith))
 
@@ -151,9 +151,9 @@ pub record WellWritten (rule : List ℕ) : Type 0 where
 pub well_written : (rule : List ℕ) → written_check rule ≡ fine → WellWritten rule
 unfolding written_check
 well_written rule e =
-    let formed = formed-fine eventually_kind rule e in
+    let formed = formed_fine eventually_kind rule e in
     let nodes : (n : ℕ) → n < node_count rule → WrittenNode rule n =
-    λ n l. written-node rule n l (formed.each n l) in
+    λ n l. written_node rule n l (formed.each n l) in
     let last : suc (root rule) ≡ node_count rule = omega (arith, formed.some) in
     record {
       some = formed.some;

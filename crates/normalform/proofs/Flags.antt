@@ -25,10 +25,10 @@ pub added_none : (flags : List Bool) → Added flags flags []
 unfolding member
 added_none flags = record { same = refl; each = λ c. refl }
 
-member-append : (c : ℕ) (xs ys : List ℕ) → member c (xs ++ ys) ≡ (member c xs || member c ys)
+member_append : (c : ℕ) (xs ys : List ℕ) → member c (xs ++ ys) ≡ (member c xs || member c ys)
 unfolding member
-member-append c [] ys = refl
-member-append c (x ∷ xs) ys = go (eqb x c) (member-append c xs ys)
+member_append c [] ys = refl
+member_append c (x ∷ xs) ys = go (eqb x c) (member_append c xs ys)
   where
     go : (b : Bool) → member c (xs ++ ys) ≡ (member c xs || member c ys)
         → (b || member c (xs ++ ys)) ≡ ((b || member c xs) || member c ys)
@@ -44,14 +44,14 @@ turn false false d = refl
 pub added_then : (f g h : List Bool) (xs ys : List ℕ) → Added f g xs → Added g h ys → Added f h (xs ++ ys)
 added_then f g h xs ys a b = record {
   same = b.same ∙ a.same;
-  each = λ c. b.each c ∙ rw (a.each c, member-append c xs ys) (turn (member c xs) (member c ys) (get_or f c false));
+  each = λ c. b.each c ∙ rw (a.each c, member_append c xs ys) (turn (member c xs) (member c ys) (get_or f c false));
 }
 
-none-set : (n c : ℕ) → get_or (replicate n false) c false ≡ false
-none-set zero c = refl
-none-set (suc n) zero = refl
-none-set (suc n) (suc c) = none-set n c
+none_set : (n c : ℕ) → get_or (replicate n false) c false ≡ false
+none_set zero c = refl
+none_set (suc n) zero = refl
+none_set (suc n) (suc c) = none_set n c
 
 pub root_flags : (rule : List ℕ) (needed : List Bool)
     → Added (replicate code_places false) needed (node_walk rule (root rule) false) → Flags rule needed
-root_flags rule needed walked c = walked.each c ∙ rw (none-set code_places c) (or-false _)
+root_flags rule needed walked c = walked.each c ∙ rw (none_set code_places c) (or-false _)

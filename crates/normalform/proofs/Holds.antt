@@ -9,9 +9,9 @@ use lib.Dec.{leb}
 use lib.ListN.{length}
 use borrow.Author.Tests.{leb-true}
 use Rattle.answer.specs.Result.{accepted, require}
-use Rattle.answer.proofs.Results.{then_accepted, require-fine}
+use Rattle.answer.proofs.Results.{then_accepted, require_fine}
 use Rattle.lasso.specs.Lasso.{letter}
-use Rattle.lasso.proofs.Letters.{letter-round}
+use Rattle.lasso.proofs.Letters.{letter_round}
 use Rattle.formula.specs.Limits.{max_nodes}
 use Rattle.formula.specs.Rule.{node_count, root}
 use Rattle.formula.specs.Formula.{tree, formula}
@@ -19,7 +19,7 @@ use Rattle.formula.specs.Satisfaction.{Satisfies}
 use Rattle.normalform.specs.Written.{Written, written_tree, written_check, SatisfiesWritten}
 use Rattle.normalform.specs.NormalForm.{size, result, normal_form}
 use Rattle.normalform.proofs.Meaning.{form, says}
-use Rattle.normalform.proofs.Nodes.{at, out, root-within, root_last, tree-form}
+use Rattle.normalform.proofs.Nodes.{at, out, root_within, root_last, tree_form}
 use Rattle.normalform.proofs.Fitting.{WellWritten, well_written}
 
 -- what it says of a written rule that it has a normal form
@@ -35,7 +35,7 @@ normal rule out e =
     let (_, few, same) = then_accepted (require (leb (size rule) max_nodes) 26 0) _ rest in
     record {
       formed = well_written rule passed;
-      few = leb-true (size rule) max_nodes (require-fine _ 26 0 few);
+      few = leb-true (size rule) max_nodes (require_fine _ 26 0 few);
       same = cc;
     }
 
@@ -46,14 +46,14 @@ module _ (rule : List ℕ) (formed : WellWritten rule) where
   abbrev numbers : ℕ → ℕ
   numbers = at (written_tree rule) (root_tree rule) (node_count rule) formed.fits
 
-  result-formula : formula (result rule) ≡ form numbers (root_tree rule) false
+  result_formula : formula (result rule) ≡ form numbers (root_tree rule) false
   unfolding formula result
-  result-formula =
+  result_formula =
       let look = written_tree rule in
       let t = root_tree rule in
       let m = node_count rule in
       let f = formed.fits in
-      ap (tree (out look t m f)) (root_last look t m f) ∙ tree-form look t m f t m false f (root-within look t m f)
+      ap (tree (out look t m f)) (root_last look t m f) ∙ tree_form look t m f t m false f (root_within look t m f)
 
 -- ---- the theorem
 -- a lasso satisfies the normal form of a written rule exactly when it satisfies the rule
@@ -62,7 +62,7 @@ pub normal_form_holds : (rule out stem cycle : List ℕ) → normal_form rule �
 unfolding Satisfies SatisfiesWritten
 normal_form_holds rule out stem cycle e pos =
     let n = normal rule out e in
-    let same = ap formula (sym n.same) ∙ result-formula rule n.formed in
-    let round = letter-round stem cycle in
+    let same = ap formula (sym n.same) ∙ result_formula rule n.formed in
+    let round = letter_round stem cycle in
     rw same
     (says (length stem) (length cycle) pos (letter stem cycle) round (numbers rule n.formed) (root_tree rule) false 0)

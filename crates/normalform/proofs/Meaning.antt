@@ -50,14 +50,14 @@ either_same x y = (⊎_map x.0 y.0, ⊎_map x.1 y.1)
 -- ---- until and release of two properties of positions, by what says the same as they or their opposites
 module _ (P Q P' Q' : ℕ → Type 0) where
   module _ (p : Same P' P) (q : Same Q' Q) where
-    pub until-same : Same (Until P' Q') (Until P Q)
-    until-same i = (
+    pub until_same : Same (Until P' Q') (Until P Q)
+    until_same i = (
       λ (k, l, h, f). (k, l, (q k).0 h, λ j a b. (p j).0 (f j a b)),
       λ (k, l, h, f). (k, l, (q k).1 h, λ j a b. (p j).1 (f j a b)),
     )
 
-    pub release-same : Same (Release P' Q') (Release P Q)
-    release-same i = (
+    pub release_same : Same (Release P' Q') (Release P Q)
+    release_same i = (
       λ h k l. ⊎_map (q k).0 (λ x. (x.0, x.1, x.2, (p x.0).0 x.3)) (h k l),
       λ h k l. ⊎_map (q k).1 (λ x. (x.0, x.1, x.2, (p x.0).1 x.3)) (h k l),
     )
@@ -144,12 +144,12 @@ module _ (s n : ℕ) (pos : 0 < n) (w : ℕ → ℕ) (round : (i : ℕ) → s �
     λ f. ((says a true i).1 (λ x. f (inl x)), (says b true i).1 (λ x. f (inr x))),
   )
   says (binary c until a b) false i =
-      until-same (written a) (written b) (plain a) (plain b) (says a false) (says b false) i
+      until_same (written a) (written b) (plain a) (plain b) (says a false) (says b false) i
   says (binary c until a b) true i =
       until_not (written a) (written b) (negated a) (negated b) (written_dec a (says a false))
       (written_dec b (says b false)) (says a true) (says b true) i
   says (binary c release a b) false i =
-      release-same (written a) (written b) (plain a) (plain b) (says a false) (says b false) i
+      release_same (written a) (written b) (plain a) (plain b) (says a false) (says b false) i
   says (binary c release a b) true i =
       release_not (written a) (written b) (negated a) (negated b) (written_dec a (says a false))
       (written_dec b (says b false)) (says a true) (says b true)

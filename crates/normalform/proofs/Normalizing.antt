@@ -22,8 +22,8 @@ use Rattle.normalform.specs.Normalize.{rule_stored, normalizes}
 use Rattle.normalform.specs.Memory.{code_places, Added, node_walk, flagged, Numbered, Ready, Forms}
 use Rattle.normalform.proofs.Fitting.{well_written}
 use Rattle.normalform.proofs.Flags.{root_flags}
-use Rattle.normalform.proofs.Writing.{rank-agree}
-use Rattle.normalform.proofs.Passes.{result-length, normal_form-checked}
+use Rattle.normalform.proofs.Writing.{rank_agree}
+use Rattle.normalform.proofs.Passes.{result_length, normal_form_checked}
 
 -- ---- a rule that 1 to 6 let pass
 
@@ -34,7 +34,7 @@ module _ (rule : List ℕ) (passes : written_check rule ≡ fine) {needed : List
   unfolding size
   sizes =
       numbered.size
-      ∙ rank-agree (flagged needed) (is_needed (codes_of rule)) (root_flags rule needed walked) (code_end rule)
+      ∙ rank_agree (flagged needed) (is_needed (codes_of rule)) (root_flags rule needed walked) (code_end rule)
 
   module _ (form : List ℕ) (room : rule_bytes ≤ length form) where
     pub too_large : max_nodes < count → buffer (refused 26 0) form ≡ rule_stored (sized rule) form
@@ -51,12 +51,12 @@ module _ (rule : List ℕ) (passes : written_check rule ≡ fine) {needed : List
         room = omega arith;
       }
 
-      pub form-stored : (written after : List ℕ) → length written ≡ length form → take (count * 3) written ≡ result rule
+      pub form_stored : (written after : List ℕ) → length written ≡ length form → take (count * 3) written ≡ result rule
           → after ≡ filled written (take (count * 3) written)
           → buffer (accepted (count * 3)) after ≡ rule_stored (sized rule) form
-      form-stored written after same is put =
+      form_stored written after same is put =
           let long : length (result rule) ≡ count * 3 =
-          result-length rule (well_written rule passes) ∙ ap (λ (x : ℕ). x * 3) (sym sizes) in
+          result_length rule (well_written rule passes) ∙ ap (λ (x : ℕ). x * 3) (sym sizes) in
           let filled-up : after ≡ filled form (result rule) = put ∙ rw (is, same) in
           rw (le-leb (size rule) max_nodes (omega (arith, sizes)), filled-up)
           (ap (λ (x : ℕ). buffer (accepted x) (filled form (result rule))) (sym long))
@@ -128,7 +128,7 @@ module _ (rule form : List ℕ) where
 
         pub form_passes : fine ≡ until_check (take n after)
             → (normal_form rule ≡ accepted (take n after)) × (checked (take n after) ≡ fine) × (n ≤ length after)
-        form_passes e = (made.is, normal_form-checked rule (take n after) made.is ∙ sym e, made.inside)
+        form_passes e = (made.is, normal_form_checked rule (take n after) made.is ∙ sym e, made.inside)
 
 -- what check_form's answer says, by its variant, and of the rule alone
 pub forms_as : (rule form : List ℕ) {r told : Stored} → r ≡ told → Forms rule r form → Forms rule told form
@@ -139,4 +139,4 @@ pub form_accepted : (rule form : List ℕ) (n : ℕ)
     → fine ≡ written_checked rule
 unfolding written_checked
 form_accepted rule form n (is, passes, inside) =
-    rw is (sym (sym (normal_form-checked rule (take n form) is) ∙ passes))
+    rw is (sym (sym (normal_form_checked rule (take n form) is) ∙ passes))

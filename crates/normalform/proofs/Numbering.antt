@@ -10,11 +10,11 @@ use lib.ListN.{get_or, length, set, length-set}
 use lib.Seq.{get_or-set_same, get_or-set_other}
 use borrow.Author.Tests.{lt-ltb, le-ltb}
 use Rattle.formula.specs.Rule.{kind_at, left_at}
-use Rattle.normalform.specs.NormalForm.{bit, pair_code, rank}
-use Rattle.normalform.specs.Memory.{code_places, Walkable, node_code, own_code, own_codes, flagged, Numbered}
-use Rattle.normalform.proofs.Walking.{own-node, left_walks, leaf_codes}
-use Rattle.normalform.proofs.Turns.{pair-kind, walk_pair, walk-next, walk_not, walk_implies, walk-always}
-use Rattle.normalform.proofs.Turns.{walk-eventually}
+use Rattle.normalform.specs.NormalForm.{bit, pair_code_lem, rank}
+use Rattle.normalform.specs.Memory.{code_places, Walkable, node_code, own_code_lem, own_codes, flagged, Numbered}
+use Rattle.normalform.proofs.Walking.{own_node, left_walks, leaf_codes}
+use Rattle.normalform.proofs.Turns.{pair_kind, walk_pair, walk_next, walk_not, walk_implies, walk_always}
+use Rattle.normalform.proofs.Turns.{walk_eventually}
 
 -- ---- the code of a node
 
@@ -24,26 +24,26 @@ head_same e = cc
 module _ (rule : List ℕ) (n : ℕ) (w : Walkable rule n) (kind : ℕ) (ek : kind ≡ kind_at rule n) (s : Bool) where
   -- a not has the code of its operand in the other sense
   not_code : kind ≡ 9 → node_code rule n s ≡ node_code rule (left_at rule n) (not s)
-  not_code e = head_same (walk_not rule n (own-node rule n w) s (sym ek ∙ e))
+  not_code e = head_same (walk_not rule n (own_node rule n w) s (sym ek ∙ e))
 
-  pair_code_lem : 4 ≤ kind → (kind ≡ 9 → ⊥) → node_code rule n s ≡ pair_code n s
+  pair_code_lem : 4 ≤ kind → (kind ≡ 9 → ⊥) → node_code rule n s ≡ pair_code_lem n s
   pair_code_lem low no9 = go (ℕ_discrete kind 6) (ℕ_discrete kind 10) (ℕ_discrete kind 11) (ℕ_discrete kind 12)
     where
-      go : Dec (kind ≡ 6) → Dec (kind ≡ 10) → Dec (kind ≡ 11) → Dec (kind ≡ 12) → node_code rule n s ≡ pair_code n s
-      go (yes e) b c d = head_same (walk-next rule n (own-node rule n w) s (sym ek ∙ e))
-      go (no a) (yes e) c d = head_same (walk_implies rule n (own-node rule n w) s (sym ek ∙ e))
-      go (no a) (no b) (yes e) d = head_same (walk-always rule n (own-node rule n w) s (sym ek ∙ e))
-      go (no a) (no b) (no c) (yes e) = head_same (walk-eventually rule n (own-node rule n w) s (sym ek ∙ e))
+      go : Dec (kind ≡ 6) → Dec (kind ≡ 10) → Dec (kind ≡ 11) → Dec (kind ≡ 12) → node_code rule n s ≡ pair_code_lem n s
+      go (yes e) b c d = head_same (walk_next rule n (own_node rule n w) s (sym ek ∙ e))
+      go (no a) (yes e) c d = head_same (walk_implies rule n (own_node rule n w) s (sym ek ∙ e))
+      go (no a) (no b) (yes e) d = head_same (walk_always rule n (own_node rule n w) s (sym ek ∙ e))
+      go (no a) (no b) (no c) (yes e) = head_same (walk_eventually rule n (own_node rule n w) s (sym ek ∙ e))
       go (no a) (no b) (no c) (no d) =
-          let pair = pair-kind kind (omega arith) (omega (arith, (own-node rule n w).kind)) a in
-          head_same (walk_pair rule n (own-node rule n w) s kind (sym ek) pair)
+          let pair = pair_kind kind (omega arith) (omega (arith, (own_node rule n w).kind)) a in
+          head_same (walk_pair rule n (own_node rule n w) s kind (sym ek) pair)
 
-  pub own_code_lem : (kind ≡ 9 → ⊥) → node_code rule n s ≡ own_code kind n s
+  pub own_code_lem : (kind ≡ 9 → ⊥) → node_code rule n s ≡ own_code_lem kind n s
   own_code_lem no9 = go (dec_lt kind 4)
     where
-      go : Dec (kind < 4) → node_code rule n s ≡ own_code kind n s
+      go : Dec (kind < 4) → node_code rule n s ≡ own_code_lem kind n s
       go (yes leaf) =
-          let own : own_codes kind n s ≡ own_code kind n s ∷ [] = rw (lt-ltb kind 4 leaf) in
+          let own : own_codes kind n s ≡ own_code_lem kind n s ∷ [] = rw (lt-ltb kind 4 leaf) in
           head_same (leaf_codes rule n w kind ek s leaf ∙ own)
       go (no inner) = pair_code_lem (omega arith) no9 ∙ rw (le-ltb kind 2 (omega arith))
 
@@ -67,7 +67,7 @@ module _ (rule : List ℕ) (n : ℕ) (s : Bool) (at : ℕ) (sense : Bool) (inv :
         },
       )
 
-  pub descend_ends : (kind ≡ 9 → ⊥) → (r : ℕ) → (r ≡ own_code kind at sense) × (r < code_places)
+  pub descend_ends : (kind ≡ 9 → ⊥) → (r : ℕ) → (r ≡ own_code_lem kind at sense) × (r < code_places)
       → (r ≡ node_code rule n s) × (r < code_places)
   descend_ends no9 r (e, few) = (e ∙ sym (own_code_lem rule at inv.walkable kind ek sense no9) ∙ inv.same, few)
 
@@ -82,9 +82,9 @@ pub record Counting (needed : List Bool) (end : ℕ) (before numbers : List ℕ)
   pub each : (k : ℕ) → k < c → get_or numbers k 0 ≡ rank (flagged needed) k
 
 module _ (needed : List Bool) (end : ℕ) (before : List ℕ) where
-  pub count-begins : Counting needed end before before 0 0
+  pub count_begins : Counting needed end before before 0 0
   unfolding rank
-  count-begins =
+  count_begins =
       record { within = omega arith; room = refl; most = omega arith; counted = refl; each = λ k l. absurd (omega arith) }
 
   module _ (numbers : List ℕ) (count c : ℕ) (inv : Counting needed end before numbers count c) where

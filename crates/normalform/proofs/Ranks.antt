@@ -53,30 +53,30 @@ module _ (need : ℕ → Bool) where
       go (no l) false e ih = let m : i < rank need end + 0 = rw e at lt in absurd (omega arith)
 
   module _ (entries : ℕ → List ℕ) (three : (c : ℕ) → length (entries c) ≡ 3) where
-    pub emit-length : (end : ℕ) → length (emit need entries end) ≡ rank need end * 3
+    pub emit_length : (end : ℕ) → length (emit need entries end) ≡ rank need end * 3
     unfolding rank emit
-    emit-length zero = refl
-    emit-length (suc c) = go (emit-length c) (need c) refl
+    emit_length zero = refl
+    emit_length (suc c) = go (emit_length c) (need c) refl
       where
         go : length (emit need entries c) ≡ rank need c * 3 → (t : Bool) → need c ≡ t
             → length (emit need entries c ++ cond (need c) (entries c) []) ≡ (rank need c + bit (need c)) * 3
         go ih true e = rw e (omega (arith, length-append (emit need entries c) (entries c), three c))
         go ih false e = rw e (omega (arith, length-append (emit need entries c) []))
 
-    pub emit-byte : (end c j : ℕ) → c < end → need c ≡ true → j < 3
+    pub emit_byte : (end c j : ℕ) → c < end → need c ≡ true → j < 3
         → get_or (emit need entries end) (rank need c * 3 + j) 0 ≡ get_or (entries c) j 0
     unfolding emit
-    emit-byte zero c j lt e small = absurd (omega arith)
-    emit-byte (suc end) c j lt e small = go (ℕ_discrete c end) (λ lt. emit-byte end c j lt e small)
+    emit_byte zero c j lt e small = absurd (omega arith)
+    emit_byte (suc end) c j lt e small = go (ℕ_discrete c end) (λ lt. emit_byte end c j lt e small)
       where
         go : Dec (c ≡ end) → (c < end → get_or (emit need entries end) (rank need c * 3 + j) 0 ≡ get_or (entries c) j 0)
             → get_or (emit need entries end ++ cond (need end) (entries end) []) (rank need c * 3 + j) 0
             ≡ get_or (entries c) j 0
         go (yes same) ih =
             let at : need end ≡ true = subst (λ (x : ℕ). need x ≡ true) same e in
-            let place : rank need end * 3 + j ≡ length (emit need entries end) + j = omega (arith, emit-length end) in
+            let place : rank need end * 3 + j ≡ length (emit need entries end) + j = omega (arith, emit_length end) in
             rw (same, at, place) (get_or-append-add (emit need entries end) (entries end) j 0)
         go (no other) ih =
             get_or-append (emit need entries end) _ 0 (rank need c * 3 + j)
-            (omega (arith, emit-length end, rank_below c end e (omega arith)))
+            (omega (arith, emit_length end, rank_below c end e (omega arith)))
             ∙ ih (omega arith)

@@ -27,18 +27,18 @@ member_tail c x xs e = go (eqb x c)
     go true = refl
     go false = e
 
-pub member-cases : (c x : ℕ) (xs : List ℕ) → member c (x ∷ xs) ≡ true → (x ≡ c) ⊎ (member c xs ≡ true)
+pub member_cases : (c x : ℕ) (xs : List ℕ) → member c (x ∷ xs) ≡ true → (x ≡ c) ⊎ (member c xs ≡ true)
 unfolding member
-member-cases c x xs e = go (eqb x c) refl e
+member_cases c x xs e = go (eqb x c) refl e
   where
     go : (t : Bool) → eqb x c ≡ t → (t || member c xs) ≡ true → (x ≡ c) ⊎ (member c xs ≡ true)
     go true f e = inl (eqb-true x c f)
     go false f e = inr e
 
-pub member-left : (c : ℕ) (xs ys : List ℕ) → member c xs ≡ true → member c (xs ++ ys) ≡ true
+pub member_left : (c : ℕ) (xs ys : List ℕ) → member c xs ≡ true → member c (xs ++ ys) ≡ true
 unfolding member
-member-left c [] ys e = absurd (false≢true e)
-member-left c (x ∷ xs) ys e = go (eqb x c) e (λ e. member-left c xs ys e)
+member_left c [] ys e = absurd (false≢true e)
+member_left c (x ∷ xs) ys e = go (eqb x c) e (λ e. member_left c xs ys e)
   where
     go : (t : Bool) → (t || member c xs) ≡ true → (member c xs ≡ true → member c (xs ++ ys) ≡ true)
         → (t || member c (xs ++ ys)) ≡ true
@@ -52,25 +52,25 @@ member_right c (x ∷ xs) ys e = member_tail c x (xs ++ ys) (member_right c xs y
 pub member_split : (c : ℕ) (xs ys : List ℕ) → member c (xs ++ ys) ≡ true
     → (member c xs ≡ true) ⊎ (member c ys ≡ true)
 member_split c [] ys e = inr e
-member_split c (x ∷ xs) ys e = elim (member-cases c x (xs ++ ys) e) [
+member_split c (x ∷ xs) ys e = elim (member_cases c x (xs ++ ys) e) [
   | inl f ↦ inl (subst (λ (z : ℕ). member c (z ∷ xs) ≡ true) (sym f) (member_head c xs))
   | inr f ↦ (elim (member_split c xs ys f) [ inl g ↦ inl (member_tail c x xs g) | inr g ↦ inr g ])
 ]
 
 module _ (f : ℕ → ℕ) where
-  pub member-map : (c : ℕ) (xs : List ℕ) → member c xs ≡ true → member (f c) (map f xs) ≡ true
-  member-map c [] e = absurd (false≢true (unfold member in e))
-  member-map c (x ∷ xs) e = elim (member-cases c x xs e) [
+  pub member_map : (c : ℕ) (xs : List ℕ) → member c xs ≡ true → member (f c) (map f xs) ≡ true
+  member_map c [] e = absurd (false≢true (unfold member in e))
+  member_map c (x ∷ xs) e = elim (member_cases c x xs e) [
     | inl g ↦ rw g (member_head (f c) (map f xs))
-    | inr g ↦ member_tail (f c) (f x) (map f xs) (member-map c xs g)
+    | inr g ↦ member_tail (f c) (f x) (map f xs) (member_map c xs g)
   ]
 
   abbrev From : ℕ → List ℕ → Type 0
   From d xs = (c : ℕ) × (member c xs ≡ true) × (f c ≡ d)
 
-  pub member-from : (d : ℕ) (xs : List ℕ) → member d (map f xs) ≡ true → From d xs
-  member-from d [] e = absurd (false≢true (unfold member in e))
-  member-from d (x ∷ xs) e = go (member-cases d (f x) (map f xs) e) (λ e. member-from d xs e)
+  pub member_from : (d : ℕ) (xs : List ℕ) → member d (map f xs) ≡ true → From d xs
+  member_from d [] e = absurd (false≢true (unfold member in e))
+  member_from d (x ∷ xs) e = go (member_cases d (f x) (map f xs) e) (λ e. member_from d xs e)
     where
       go : (f x ≡ d) ⊎ (member d (map f xs) ≡ true) → (member d (map f xs) ≡ true → From d xs) → From d (x ∷ xs)
       go (inl g) ih = (x, member_head x xs, g)
@@ -90,81 +90,81 @@ pub bit_small : (v : Bool) → bit v < 2
 bit_small true = omega arith
 bit_small false = omega arith
 
-pub bit-low : (v : Bool) (n : ℕ) → bit v < n * 2 + 2
-bit-low v n = omega (arith, bit_small v)
+pub bit_low : (v : Bool) (n : ℕ) → bit v < n * 2 + 2
+bit_low v n = omega (arith, bit_small v)
 
-pair-low : (n m : ℕ) (s : Bool) → n < m → pair_code n s < m * 2 + 2
-pair-low n m s l = omega (arith, bit_small s)
+pair_low : (n m : ℕ) (s : Bool) → n < m → pair_code n s < m * 2 + 2
+pair_low n m s l = omega (arith, bit_small s)
 
-pub pair-high : (n : ℕ) (s : Bool) → n * 2 + 2 ≤ pair_code n s
-pair-high n s = omega arith
+pub pair_high : (n : ℕ) (s : Bool) → n * 2 + 2 ≤ pair_code n s
+pair_high n s = omega arith
 
 module _ (look : ℕ → Written) where
-  pub code-low : (t : Written) (m : ℕ) (s : Bool) → Fits look t m → code t s < m * 2 + 2
+  pub code_low : (t : Written) (m : ℕ) (s : Bool) → Fits look t m → code t s < m * 2 + 2
   unfolding code
-  code-low (constant v) m s f = bit-low (turned v s) m
-  code-low (literal n v p) m s f = pair-low n m s f.0
-  code-low (negation n a) m s f = omega (arith, code-low a n (not s) f.2, f.0)
-  code-low (next n a) m s f = pair-low n m s f.0
-  code-low (binary n o a b) m s f = pair-low n m s f.0
-  code-low (future n all a) m s f = pair-low n m s f.0
+  code_low (constant v) m s f = bit_low (turned v s) m
+  code_low (literal n v p) m s f = pair_low n m s f.0
+  code_low (negation n a) m s f = omega (arith, code_low a n (not s) f.2, f.0)
+  code_low (next n a) m s f = pair_low n m s f.0
+  code_low (binary n o a b) m s f = pair_low n m s f.0
+  code_low (future n all a) m s f = pair_low n m s f.0
 
-  child-low : (a : Written) (n : ℕ) (s : Bool) → Fits look a n
+  child_low : (a : Written) (n : ℕ) (s : Bool) → Fits look a n
       → ((c : ℕ) → member c (below a s) ≡ true → c < code a s) → (c : ℕ) → member c (walk a s) ≡ true → c < n * 2 + 2
-  child-low a n s f ih c e = elim (member-cases c (code a s) (below a s) e) [
-    | inl g ↦ omega (arith, code-low a n s f)
-    | inr g ↦ omega (arith, code-low a n s f, ih c g)
+  child_low a n s f ih c e = elim (member_cases c (code a s) (below a s) e) [
+    | inl g ↦ omega (arith, code_low a n s f)
+    | inr g ↦ omega (arith, code_low a n s f, ih c g)
   ]
 
   -- what a walk comes to below its start has a lower code
-  pub below-low : (t : Written) (m : ℕ) (s : Bool) → Fits look t m → (c : ℕ) → member c (below t s) ≡ true
+  pub below_low : (t : Written) (m : ℕ) (s : Bool) → Fits look t m → (c : ℕ) → member c (below t s) ≡ true
       → c < code t s
   unfolding below code
-  below-low (constant v) m s f c e = absurd (false≢true (unfold member in e))
-  below-low (literal n v p) m s f c e = absurd (false≢true (unfold member in e))
-  below-low (negation n a) m s f c e = below-low a n (not s) f.2 c e
-  below-low (next n a) m s f c e =
-      omega (arith, pair-high n s, child-low a n s f.2 (below-low a n s f.2) c e)
-  below-low (binary n o a b) m s f c e =
+  below_low (constant v) m s f c e = absurd (false≢true (unfold member in e))
+  below_low (literal n v p) m s f c e = absurd (false≢true (unfold member in e))
+  below_low (negation n a) m s f c e = below_low a n (not s) f.2 c e
+  below_low (next n a) m s f c e =
+      omega (arith, pair_high n s, child_low a n s f.2 (below_low a n s f.2) c e)
+  below_low (binary n o a b) m s f c e =
       let r = left_sense o s in
       elim (member_split c (walk a r) (walk b s) e) [
-        | inl g ↦ omega (arith, pair-high n s, child-low a n r f.2 (below-low a n r f.2) c g)
-        | inr g ↦ omega (arith, pair-high n s, child-low b n s f.3 (below-low b n s f.3) c g)
+        | inl g ↦ omega (arith, pair_high n s, child_low a n r f.2 (below_low a n r f.2) c g)
+        | inr g ↦ omega (arith, pair_high n s, child_low b n s f.3 (below_low b n s f.3) c g)
       ]
-  below-low (future n all a) m s f c e = elim (member-cases c (bit (left_constant all s)) (walk a s) e) [
-    | inl g ↦ omega (arith, pair-high n s, bit-low (left_constant all s) n)
-    | inr g ↦ omega (arith, pair-high n s, child-low a n s f.2 (below-low a n s f.2) c g)
+  below_low (future n all a) m s f c e = elim (member_cases c (bit (left_constant all s)) (walk a s) e) [
+    | inl g ↦ omega (arith, pair_high n s, bit_low (left_constant all s) n)
+    | inr g ↦ omega (arith, pair_high n s, child_low a n s f.2 (below_low a n s f.2) c g)
   ]
 
   -- ---- entries
-  subject-pair : (n : ℕ) (s : Bool) → subject look (pair_code n s) ≡ look n
-  subject-pair n s =
+  subject_pair : (n : ℕ) (s : Bool) → subject look (pair_code n s) ≡ look n
+  subject_pair n s =
       let e : (pair_code n s - 2) / 2 ≡ n = omega (arith, bit_small s) in
       rw (le-ltb (pair_code n s) 2 (omega arith), e)
 
-  sense-pair : (n : ℕ) (s : Bool) → sense (pair_code n s) ≡ s
-  sense-pair n true = eq-eqb (pair_code n true % 2) 1 (omega arith)
-  sense-pair n false = ne_eqb (pair_code n false % 2) 1 (λ e. omega arith)
+  sense_pair : (n : ℕ) (s : Bool) → sense (pair_code n s) ≡ s
+  sense_pair n true = eq-eqb (pair_code n true % 2) 1 (omega arith)
+  sense_pair n false = ne_eqb (pair_code n false % 2) 1 (λ e. omega arith)
 
   module _ (at : ℕ → ℕ) where
-    entry-pair : (n : ℕ) (s : Bool) (t : Written) → look n ≡ t
+    entry_pair : (n : ℕ) (s : Bool) (t : Written) → look n ≡ t
         → entry at (subject look (pair_code n s)) (sense (pair_code n s)) ≡ entry at t s
-    entry-pair n s t e = rw (subject-pair n s, sense-pair n s, e)
+    entry_pair n s t e = rw (subject_pair n s, sense_pair n s, e)
 
     entry_constant : (v : Bool) → entry at (subject look (bit v)) (sense (bit v)) ≡ bit v ∷ (0 ∷ (0 ∷ []))
     unfolding entry
     entry_constant true = refl
     entry_constant false = refl
 
-    pub entry-code : (t : Written) (m : ℕ) (s : Bool) → Fits look t m
+    pub entry_code : (t : Written) (m : ℕ) (s : Bool) → Fits look t m
         → entry at (subject look (code t s)) (sense (code t s)) ≡ entry at t s
     unfolding code entry
-    entry-code (constant v) m s f = entry_constant (turned v s)
-    entry-code (literal n v p) m s f = entry-pair n s (literal n v p) f.1
-    entry-code (negation n a) m s f = entry-code a n (not s) f.2
-    entry-code (next n a) m s f = entry-pair n s (next n a) f.1
-    entry-code (binary n o a b) m s f = entry-pair n s (binary n o a b) f.1
-    entry-code (future n all a) m s f = entry-pair n s (future n all a) f.1
+    entry_code (constant v) m s f = entry_constant (turned v s)
+    entry_code (literal n v p) m s f = entry_pair n s (literal n v p) f.1
+    entry_code (negation n a) m s f = entry_code a n (not s) f.2
+    entry_code (next n a) m s f = entry_pair n s (next n a) f.1
+    entry_code (binary n o a b) m s f = entry_pair n s (binary n o a b) f.1
+    entry_code (future n all a) m s f = entry_pair n s (future n all a) f.1
 
     pub entry_length : (t : Written) (s : Bool) → length (entry at t s) ≡ 3
     unfolding entry

@@ -12,7 +12,7 @@ use lib.Dec.{eqb, ltb}
 use borrow.Author.Tests.{eq-eqb, ne_eqb, lt-ltb, le-ltb}
 use Rattle.formula.proofs.Untils.{one_at_most}
 use Rattle.normalform.specs.NormalForm.{member}
-use Rattle.normalform.proofs.Shape.{member_head, member_tail, member-cases}
+use Rattle.normalform.proofs.Shape.{member_head, member_tail, member_cases}
 
 -- of f at 0 to n - 1
 unfoldable pub sum : (ℕ → ℕ) → ℕ → ℕ
@@ -34,28 +34,28 @@ count k xs = over (one k) xs
 pub one_is : (k x : ℕ) → x ≡ k → one k x ≡ 1
 one_is k x e = rw (eq-eqb x k e)
 
-pub one-other : (k x : ℕ) → (x ≡ k → ⊥) → one k x ≡ 0
-one-other k x h = rw (ne_eqb x k h)
+pub one_other : (k x : ℕ) → (x ≡ k → ⊥) → one k x ≡ 0
+one_other k x h = rw (ne_eqb x k h)
 
 pub one_most : (k x : ℕ) → one k x ≤ 1
 one_most k x = one_at_most (eqb x k)
 
-pub over-append : (f : ℕ → ℕ) (xs ys : List ℕ) → over f (xs ++ ys) ≡ over f xs + over f ys
+pub over_append : (f : ℕ → ℕ) (xs ys : List ℕ) → over f (xs ++ ys) ≡ over f xs + over f ys
 unfolding over
-over-append f [] ys = omega arith
-over-append f (x ∷ xs) ys = omega (arith, over-append f xs ys)
+over_append f [] ys = omega arith
+over_append f (x ∷ xs) ys = omega (arith, over_append f xs ys)
 
 pub count_zero : (x : ℕ) (xs : List ℕ) → (member x xs ≡ true → ⊥) → count x xs ≡ 0
 unfolding over
 count_zero x [] h = refl
 count_zero x (y ∷ ys) h =
-    let z = one-other x y (λ e. h (rw e (member_head x ys))) in
+    let z = one_other x y (λ e. h (rw e (member_head x ys))) in
     omega (arith, count_zero x ys (λ e. h (member_tail x y ys e)))
 
 pub count_some : (x : ℕ) (xs : List ℕ) → member x xs ≡ true → 0 < count x xs
 unfolding over
 count_some x [] e = absurd (false≢true (unfold member in e))
-count_some x (y ∷ ys) e = elim (member-cases x y ys e) [
+count_some x (y ∷ ys) e = elim (member_cases x y ys e) [
   | inl f ↦ omega (arith, one_is x y f)
   | inr f ↦ omega (arith, count_some x ys f)
 ]
@@ -80,10 +80,10 @@ unfolding sum
 sum_plus f g zero = omega arith
 sum_plus f g (suc n) = omega (arith, sum_plus f g n)
 
-pub sum-none : (f : ℕ → ℕ) (n : ℕ) → ((i : ℕ) → i < n → f i ≡ 0) → sum f n ≡ 0
+pub sum_none : (f : ℕ → ℕ) (n : ℕ) → ((i : ℕ) → i < n → f i ≡ 0) → sum f n ≡ 0
 unfolding sum
-sum-none f zero h = refl
-sum-none f (suc n) h = omega (arith, sum-none f n (λ i l. h i (omega arith)), h n (omega arith))
+sum_none f zero h = refl
+sum_none f (suc n) h = omega (arith, sum_none f n (λ i l. h i (omega arith)), h n (omega arith))
 
 pub sum_some : (f : ℕ → ℕ) (n i : ℕ) → i < n → f i ≤ sum f n
 unfolding sum
@@ -98,10 +98,10 @@ sum_some f (suc n) i l = go (ℕ_discrete i n) (λ l. sum_some f n i l)
 abbrev only : (ℕ → ℕ) → ℕ → ℕ → ℕ
 only f x c = cond (eqb x c) (f c) 0
 
-sum-only : (f : ℕ → ℕ) (x n : ℕ) → sum (only f x) n ≤ cond (ltb x n) (f x) 0
+sum_only : (f : ℕ → ℕ) (x n : ℕ) → sum (only f x) n ≤ cond (ltb x n) (f x) 0
 unfolding sum
-sum-only f x zero = omega arith
-sum-only f x (suc n) = go (ℕ_discrete x n) (dec_lt x n) (sum-only f x n)
+sum_only f x zero = omega arith
+sum_only f x (suc n) = go (ℕ_discrete x n) (dec_lt x n) (sum_only f x n)
   where
     go : Dec (x ≡ n) → Dec (x < n) → sum (only f x) n ≤ cond (ltb x n) (f x) 0
         → sum (only f x) n + only f x n ≤ cond (ltb x (suc n)) (f x) 0
@@ -125,18 +125,18 @@ either_most true false x = omega arith
 either_most false true x = omega arith
 either_most false false x = omega arith
 
-pub member-sum : (f : ℕ → ℕ) (xs : List ℕ) (n : ℕ) → sum (λ c. cond (member c xs) (f c) 0) n ≤ over f xs
+pub member_sum : (f : ℕ → ℕ) (xs : List ℕ) (n : ℕ) → sum (λ c. cond (member c xs) (f c) 0) n ≤ over f xs
 unfolding over member
-member-sum f [] n = omega (arith, sum-none (λ c. 0) n (λ i l. refl))
-member-sum f (x ∷ xs) n =
+member_sum f [] n = omega (arith, sum_none (λ c. 0) n (λ i l. refl))
+member_sum f (x ∷ xs) n =
     omega (
       arith,
       sum_most (λ c. cond (eqb x c || member c xs) (f c) 0) (λ c. only f x c + cond (member c xs) (f c) 0) n
           (λ i l. either_most (eqb x i) (member i xs) (f i)),
       sum_plus (only f x) (λ c. cond (member c xs) (f c) 0) n,
-      sum-only f x n,
+      sum_only f x n,
       cond_most (ltb x n) (f x),
-      member-sum f xs n,
+      member_sum f xs n,
     )
 
 -- ---- a list's sum is at most that of all numbers, if what counts stands there once
@@ -155,19 +155,19 @@ all_more m k (x ∷ xs) l a = (omega (arith, a.0), all_more m k xs l a.1)
 abbrev cut : (ℕ → ℕ) → ℕ → ℕ → ℕ
 cut f m x = cond (ltb x m) (f x) 0
 
-cut-whole : (f : ℕ → ℕ) (m : ℕ) (xs : List ℕ) → AllBelow m xs → over f xs ≡ over (cut f m) xs
+cut_whole : (f : ℕ → ℕ) (m : ℕ) (xs : List ℕ) → AllBelow m xs → over f xs ≡ over (cut f m) xs
 unfolding over
-cut-whole f m [] a = refl
-cut-whole f m (x ∷ xs) a = rw (lt-ltb x m a.0) (ap (λ (y : ℕ). f x + y) (cut-whole f m xs a.1))
+cut_whole f m [] a = refl
+cut_whole f m (x ∷ xs) a = rw (lt-ltb x m a.0) (ap (λ (y : ℕ). f x + y) (cut_whole f m xs a.1))
 
-cut-none : (f : ℕ → ℕ) (xs : List ℕ) → over (cut f 0) xs ≡ 0
+cut_none : (f : ℕ → ℕ) (xs : List ℕ) → over (cut f 0) xs ≡ 0
 unfolding over
-cut-none f [] = refl
-cut-none f (x ∷ xs) = rw (le-ltb x 0 (omega arith)) (omega (arith, cut-none f xs))
+cut_none f [] = refl
+cut_none f (x ∷ xs) = rw (le-ltb x 0 (omega arith)) (omega (arith, cut_none f xs))
 
 -- a member other than m
-cut-other : (f : ℕ → ℕ) (m x : ℕ) → (x ≡ m → ⊥) → cut f (suc m) x ≡ cut f m x
-cut-other f m x e = go (dec_lt x m)
+cut_other : (f : ℕ → ℕ) (m x : ℕ) → (x ≡ m → ⊥) → cut f (suc m) x ≡ cut f m x
+cut_other f m x e = go (dec_lt x m)
   where
     go : Dec (x < m) → cut f (suc m) x ≡ cut f m x
     go (yes l) = rw (lt-ltb x m l, lt-ltb x (suc m) (omega arith)) refl
@@ -183,7 +183,7 @@ cut_split f m (x ∷ xs) = go (ℕ_discrete x m) (cut_split f m xs)
     go (yes e) ih =
         rw (lt-ltb x (suc m) (omega arith), le-ltb x m (omega arith), eq-eqb x m e)
         (omega (arith, ih, ap f e, add-mul 1 (count m xs) (f m)))
-    go (no e) ih = rw (ne_eqb x m e) (omega (arith, ih, cut-other f m x e, add-mul 0 (count m xs) (f m)))
+    go (no e) ih = rw (ne_eqb x m e) (omega (arith, ih, cut_other f m x e, add-mul 0 (count m xs) (f m)))
 
 times_most : (x y : ℕ) → (x ≡ 0) ⊎ (y ≤ 1) → y * x ≤ x
 times_most x y (inl e) = rw e (omega arith)
@@ -192,7 +192,7 @@ times_most x y (inr l) = omega (arith, mul-le-mul_right x l)
 cut_sum : (f : ℕ → ℕ) (m : ℕ) (xs : List ℕ) → ((p : ℕ) → p < m → (f p ≡ 0) ⊎ (count p xs ≤ 1))
     → over (cut f m) xs ≤ sum f m
 unfolding sum
-cut_sum f zero xs h = omega (arith, cut-none f xs)
+cut_sum f zero xs h = omega (arith, cut_none f xs)
 cut_sum f (suc m) xs h =
     omega (
       arith,
@@ -203,4 +203,4 @@ cut_sum f (suc m) xs h =
 
 pub once_sum : (f : ℕ → ℕ) (m : ℕ) (xs : List ℕ) → AllBelow m xs → ((p : ℕ) → p < m → (f p ≡ 0) ⊎ (count p xs ≤ 1))
     → over f xs ≤ sum f m
-once_sum f m xs a h = omega (arith, cut-whole f m xs a, cut_sum f m xs h)
+once_sum f m xs a h = omega (arith, cut_whole f m xs a, cut_sum f m xs h)

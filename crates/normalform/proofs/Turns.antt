@@ -13,17 +13,17 @@ use Rattle.normalform.proofs.Nodes.{Pair, four, five, seven, eight}
 use Rattle.normalform.proofs.Fitting.{WrittenNode, leaf_built, inner_built}
 
 -- the kinds of two children that keep their sides' sense
-pub pair-kind : (k : ℕ) → 3 < k → k < 9 → (k ≡ 6 → ⊥) → Pair k
-pair-kind zero a b c = absurd (omega arith)
-pair-kind (suc zero) a b c = absurd (omega arith)
-pair-kind (suc (suc zero)) a b c = absurd (omega arith)
-pair-kind (suc (suc (suc zero))) a b c = absurd (omega arith)
-pair-kind (suc (suc (suc (suc zero)))) a b c = four
-pair-kind (suc (suc (suc (suc (suc zero))))) a b c = five
-pair-kind (suc (suc (suc (suc (suc (suc zero)))))) a b c = absurd (c refl)
-pair-kind (suc (suc (suc (suc (suc (suc (suc zero))))))) a b c = seven
-pair-kind (suc (suc (suc (suc (suc (suc (suc (suc zero)))))))) a b c = eight
-pair-kind (suc (suc (suc (suc (suc (suc (suc (suc (suc k))))))))) a b c = absurd (omega arith)
+pub pair_kind : (k : ℕ) → 3 < k → k < 9 → (k ≡ 6 → ⊥) → Pair k
+pair_kind zero a b c = absurd (omega arith)
+pair_kind (suc zero) a b c = absurd (omega arith)
+pair_kind (suc (suc zero)) a b c = absurd (omega arith)
+pair_kind (suc (suc (suc zero))) a b c = absurd (omega arith)
+pair_kind (suc (suc (suc (suc zero)))) a b c = four
+pair_kind (suc (suc (suc (suc (suc zero))))) a b c = five
+pair_kind (suc (suc (suc (suc (suc (suc zero)))))) a b c = absurd (c refl)
+pair_kind (suc (suc (suc (suc (suc (suc (suc zero))))))) a b c = seven
+pair_kind (suc (suc (suc (suc (suc (suc (suc (suc zero)))))))) a b c = eight
+pair_kind (suc (suc (suc (suc (suc (suc (suc (suc (suc k))))))))) a b c = absurd (omega arith)
 
 module _ (rule : List ℕ) (n : ℕ) (node : WrittenNode rule n) (s : Bool) where
   abbrev l : ℕ
@@ -73,9 +73,9 @@ module _ (rule : List ℕ) (n : ℕ) (node : WrittenNode rule n) (s : Bool) wher
   walk_pair k ek seven = rw (inner 7 ek (omega arith)) refl
   walk_pair k ek eight = rw (inner 8 ek (omega arith)) refl
 
-  pub walk-next : kind_at rule n ≡ 6 → node_walk rule n s ≡ pair_code n s ∷ node_walk rule l s
+  pub walk_next : kind_at rule n ≡ 6 → node_walk rule n s ≡ pair_code n s ∷ node_walk rule l s
   unfolding code below
-  walk-next ek = rw (inner 6 ek (omega arith)) refl
+  walk_next ek = rw (inner 6 ek (omega arith)) refl
 
   -- the walk in the other sense
   pub walk_not : kind_at rule n ≡ 9 → node_walk rule n s ≡ node_walk rule l (not s)
@@ -87,12 +87,12 @@ module _ (rule : List ℕ) (n : ℕ) (node : WrittenNode rule n) (s : Bool) wher
   unfolding code below
   walk_implies ek = rw (inner 10 ek (omega arith)) refl
 
-  pub walk-always : kind_at rule n ≡ 11
+  pub walk_always : kind_at rule n ≡ 11
       → node_walk rule n s ≡ pair_code n s ∷ (bit (left_constant true s) ∷ node_walk rule l s)
   unfolding code below
-  walk-always ek = rw (inner 11 ek (omega arith)) refl
+  walk_always ek = rw (inner 11 ek (omega arith)) refl
 
-  pub walk-eventually : kind_at rule n ≡ 12
+  pub walk_eventually : kind_at rule n ≡ 12
       → node_walk rule n s ≡ pair_code n s ∷ (bit (left_constant false s) ∷ node_walk rule l s)
   unfolding code below
-  walk-eventually ek = rw (inner 12 ek (omega arith)) refl
+  walk_eventually ek = rw (inner 12 ek (omega arith)) refl

@@ -20,10 +20,10 @@ use Rattle.normalform.specs.NormalForm.{size, result}
 use Rattle.normalform.specs.Memory.{OwnPlace, Named, flagged, number_in}
 use Rattle.normalform.specs.Memory.{code_bytes, with_code, Ready}
 use Rattle.normalform.proofs.Ranks.{rank_needed, rank_passed, rank_below}
-use Rattle.normalform.proofs.Shape.{Fits, bit-low, pair-high, code-low, entry_length}
-use Rattle.normalform.proofs.Fitting.{Made, made_constant, made_literal, made_negation, made-next, made_binary}
+use Rattle.normalform.proofs.Shape.{Fits, bit_low, pair_high, code_low, entry_length}
+use Rattle.normalform.proofs.Fitting.{Made, made_constant, made_literal, made_negation, made_next, made_binary}
 use Rattle.normalform.proofs.Fitting.{made_future, leaf_made, fits_node, WellWritten, well_written}
-use Rattle.normalform.proofs.Nodes.{Within, own, walk-low, root-within, within_negation}
+use Rattle.normalform.proofs.Nodes.{Within, own, walk_low, root_within, within_negation}
 use Rattle.normalform.proofs.Placed.{visit}
 
 -- ---- what a needed code names
@@ -49,7 +49,7 @@ standing_place rule n made h = go _ refl made h
     go k e (made_constant _ v low) h = absurd h
     go k e (made_literal _ v low high) h = record { constant = omega arith; negation = λ z. omega arith }
     go k e (made_negation _ nine) h = absurd h
-    go k e (made-next _ six) h = record { constant = omega arith; negation = λ z. omega arith }
+    go k e (made_next _ six) h = record { constant = omega arith; negation = λ z. omega arith }
     go k e (made_binary _ o inner two) h =
         record { constant = omega arith; negation = λ z. false≢true (sym two ∙ not_one k (sym e ∙ z)) }
     go k e (made_future _ all high) h = record { constant = omega arith; negation = λ z. omega arith }
@@ -73,8 +73,8 @@ module _ (rule : List ℕ) (passes : written_check rule ≡ fine) where
   -- a node that the walk comes to is one of the rule's
   pair_inside : (n : ℕ) (s : Bool) → is_needed (codes_of rule) (pair_code n s) ≡ true → n < m
   pair_inside n s e =
-      let low = walk-low look t m formed.fits (pair_code n s) e in
-      omega (arith, low, pair-high n s, code-low look t m false formed.fits)
+      let low = walk_low look t m formed.fits (pair_code n s) e in
+      omega (arith, low, pair_high n s, code_low look t m false formed.fits)
 
   -- and is named by its code, if it stands by itself
   module _ (n : ℕ) (s : Bool) (stands : Standing (look n)) (needed : is_needed (codes_of rule) (pair_code n s) ≡ true) where
@@ -82,8 +82,8 @@ module _ (rule : List ℕ) (passes : written_check rule ≡ fine) where
     half true = omega arith
     half false = omega arith
 
-    pair-named : Named rule (pair_code n s)
-    pair-named le =
+    pair_named : Named rule (pair_code n s)
+    pair_named le =
         let inside = pair_inside n s needed in
         let (a, b, made) = leaf_made rule n (formed.nodes n inside) in
         rw (half s) (record { inside = inside; passes = passes }, standing_place rule n made stands)
@@ -96,45 +96,45 @@ module _ (rule : List ℕ) (passes : written_check rule ≡ fine) where
   unfolding code
   named (constant v) l s f w = constant_named (turned v s)
   named (literal n v p) l s f w =
-      pair-named n s (subst Standing (sym f.1) tt) (own look t m formed.fits (literal n v p) s w)
+      pair_named n s (subst Standing (sym f.1) tt) (own look t m formed.fits (literal n v p) s w)
   named (negation n a) l s f w = named a n (not s) f.2 (within_negation look t m formed.fits n a s w)
   named (next n a) l s f w =
-      pair-named n s (subst Standing (sym f.1) tt) (own look t m formed.fits (next n a) s w)
+      pair_named n s (subst Standing (sym f.1) tt) (own look t m formed.fits (next n a) s w)
   named (binary n o a b) l s f w =
-      pair-named n s (subst Standing (sym f.1) tt) (own look t m formed.fits (binary n o a b) s w)
+      pair_named n s (subst Standing (sym f.1) tt) (own look t m formed.fits (binary n o a b) s w)
   named (future n all a) l s f w =
-      pair-named n s (subst Standing (sym f.1) tt) (own look t m formed.fits (future n all a) s w)
+      pair_named n s (subst Standing (sym f.1) tt) (own look t m formed.fits (future n all a) s w)
 
   needed_named : (c : ℕ) → is_needed (codes_of rule) c ≡ true → Named rule c
   needed_named c e =
-      let within = root-within look t m formed.fits in
+      let within = root_within look t m formed.fits in
       visit look t m formed.fits (Named rule) named t m false formed.fits within c e
 
 -- ---- numbers in memory
 
-pub rank-agree : (f g : ℕ → Bool) → ((c : ℕ) → f c ≡ g c) → (c : ℕ) → rank f c ≡ rank g c
+pub rank_agree : (f g : ℕ → Bool) → ((c : ℕ) → f c ≡ g c) → (c : ℕ) → rank f c ≡ rank g c
 unfolding rank
-rank-agree f g h zero = refl
-rank-agree f g h (suc c) = rw (rank-agree f g h c, h c)
+rank_agree f g h zero = refl
+rank_agree f g h (suc c) = rw (rank_agree f g h c, h c)
 
 -- an entry has only numbers of codes below its node's
 module _ (f g : ℕ → ℕ) (look : ℕ → Written) where
-  entry-agree : (t : Written) (m : ℕ) (s : Bool) → Fits look t m → ((c : ℕ) → c < m * 2 + 2 → f c ≡ g c)
+  entry_agree : (t : Written) (m : ℕ) (s : Bool) → Fits look t m → ((c : ℕ) → c < m * 2 + 2 → f c ≡ g c)
       → entry f t s ≡ entry g t s
   unfolding entry
-  entry-agree (constant v) m s fits h = refl
-  entry-agree (literal n v p) m s fits h = refl
-  entry-agree (negation n a) m s fits h = entry-agree a n (not s) fits.2 (λ c l. h c (omega (arith, fits.0)))
-  entry-agree (next n a) m s fits h = rw (h (code a s) (omega (arith, fits.0, code-low look a n s fits.2)))
-  entry-agree (binary n o a b) m s fits h =
+  entry_agree (constant v) m s fits h = refl
+  entry_agree (literal n v p) m s fits h = refl
+  entry_agree (negation n a) m s fits h = entry_agree a n (not s) fits.2 (λ c l. h c (omega (arith, fits.0)))
+  entry_agree (next n a) m s fits h = rw (h (code a s) (omega (arith, fits.0, code_low look a n s fits.2)))
+  entry_agree (binary n o a b) m s fits h =
       rw (
-        h (code a (left_sense o s)) (omega (arith, fits.0, code-low look a n (left_sense o s) fits.2)),
-        h (code b s) (omega (arith, fits.0, code-low look b n s fits.3)),
+        h (code a (left_sense o s)) (omega (arith, fits.0, code_low look a n (left_sense o s) fits.2)),
+        h (code b s) (omega (arith, fits.0, code_low look b n s fits.3)),
       )
-  entry-agree (future n all a) m s fits h =
+  entry_agree (future n all a) m s fits h =
       rw (
-        h (bit (left_constant all s)) (bit-low (left_constant all s) m),
-        h (code a s) (omega (arith, fits.0, code-low look a n s fits.2)),
+        h (bit (left_constant all s)) (bit_low (left_constant all s) m),
+        h (code a s) (omega (arith, fits.0, code_low look a n s fits.2)),
       )
 
 module _ {rule : List ℕ} {needed : List Bool} {numbers : List ℕ} {count : ℕ} {form : List ℕ}
@@ -142,11 +142,11 @@ module _ {rule : List ℕ} {needed : List Bool} {numbers : List ℕ} {count : �
   abbrev codes : List ℕ
   codes = codes_of rule
 
-  at-number : (c : ℕ) → c < code_end rule → number_in numbers c ≡ number codes c
-  at-number c l = ready.numbered.each c l ∙ rank-agree (flagged needed) (is_needed codes) ready.flags c
+  at_number : (c : ℕ) → c < code_end rule → number_in numbers c ≡ number codes c
+  at_number c l = ready.numbered.each c l ∙ rank_agree (flagged needed) (is_needed codes) ready.flags c
 
-  count-size : count ≡ number codes (code_end rule)
-  count-size = ready.numbered.size ∙ rank-agree (flagged needed) (is_needed codes) ready.flags (code_end rule)
+  count_size : count ≡ number codes (code_end rule)
+  count_size = ready.numbered.size ∙ rank_agree (flagged needed) (is_needed codes) ready.flags (code_end rule)
 
   module _ (c : ℕ) (l : c < code_end rule) (n : flagged needed c ≡ true) where
     is_needed_lem : is_needed codes c ≡ true
@@ -155,10 +155,10 @@ module _ {rule : List ℕ} {needed : List Bool} {numbers : List ℕ} {count : �
     names : Named rule c
     names = needed_named rule ready.passes c is_needed_lem
 
-    pub code-named : Named rule c × (number_in numbers c * 3 + 3 ≤ length form)
-    code-named = (
+    pub code_named : Named rule c × (number_in numbers c * 3 + 3 ≤ length form)
+    code_named = (
       names,
-      omega (arith, at-number c l, count-size, rank_below (is_needed codes) c (code_end rule) is_needed_lem l, ready.room),
+      omega (arith, at_number c l, count_size, rank_below (is_needed codes) c (code_end rule) is_needed_lem l, ready.room),
     )
 
     bytes_are : code_bytes rule numbers c ≡ entry_of codes (written_tree rule) c
@@ -166,15 +166,15 @@ module _ {rule : List ℕ} {needed : List Bool} {numbers : List ℕ} {count : �
       where
         go : Dec (c < 2) → code_bytes rule numbers c ≡ entry_of codes (written_tree rule) c
         go (yes low) =
-            let at : (k : ℕ) → k < 2 → number_in numbers k ≡ number codes k = λ k h. at-number k (omega arith) in
-            rw (lt-ltb c 2 low) (entry-agree (number_in numbers) (number codes) (written_tree rule) (constant false) 0 (sense c) tt at)
+            let at : (k : ℕ) → k < 2 → number_in numbers k ≡ number codes k = λ k h. at_number k (omega arith) in
+            rw (lt-ltb c 2 low) (entry_agree (number_in numbers) (number codes) (written_tree rule) (constant false) 0 (sense c) tt at)
         go (no high) =
             let k = (c - 2) / 2 in
             let inside = (names (omega arith)).0.inside in
             let fits = fits_node rule (well_written rule ready.passes).nodes k inside in
             rw (le-ltb c 2 (omega arith))
-            (entry-agree (number_in numbers) (number codes) (written_tree rule) (written_tree rule k) (suc k) (sense c) fits
-            (λ j h. at-number j (omega arith)))
+            (entry_agree (number_in numbers) (number codes) (written_tree rule) (written_tree rule k) (suc k) (sense c) fits
+            (λ j h. at_number j (omega arith)))
 
   three : (c : ℕ) → length (entry_of codes (written_tree rule) c) ≡ 3
   three c = entry_length (written_tree rule) (number codes) _ _
@@ -188,9 +188,9 @@ pub record Emitting (rule before form : List ℕ) (c : ℕ) : Type 0 where
   pub written : take (number (codes_of rule) c * 3) form
       ≡ emit (is_needed (codes_of rule)) (entry_of (codes_of rule) (written_tree rule)) c
 
-pub emit-begins : (rule before : List ℕ) → Emitting rule before before 0
+pub emit_begins : (rule before : List ℕ) → Emitting rule before before 0
 unfolding rank emit
-emit-begins rule before = record { within = omega arith; room = refl; written = refl }
+emit_begins rule before = record { within = omega arith; room = refl; written = refl }
 
 module _ {rule : List ℕ} {needed : List Bool} {numbers : List ℕ} {count : ℕ} {before : List ℕ}
     (ready : Ready rule needed numbers count before) (form : List ℕ) (c : ℕ) (inv : Emitting rule before form c) where
@@ -202,7 +202,7 @@ module _ {rule : List ℕ} {needed : List Bool} {numbers : List ℕ} {count : �
 
   pub code_room : c < code_end rule → flagged needed c ≡ true → Named rule c × (number_in numbers c * 3 + 3 ≤ length form)
   code_room l n =
-      let (names, fits) = code-named ready c l n in
+      let (names, fits) = code_named ready c l n in
       (names, omega (arith, inv.room))
 
   pub emit_steps : c < code_end rule → (after : List ℕ) → length after ≡ length form
@@ -220,10 +220,10 @@ module _ {rule : List ℕ} {needed : List Bool} {numbers : List ℕ} {count : �
       go true n put =
           let yes : wanted c ≡ true = is_needed_lem ready c l n in
           let (_, fits) = code_room l n in
-          let place : number_in numbers c * 3 ≡ rank wanted c * 3 = ap (λ (x : ℕ). x * 3) (at-number ready c l) in
+          let place : number_in numbers c * 3 ≡ rank wanted c * 3 = ap (λ (x : ℕ). x * 3) (at_number ready c l) in
           let stored : after ≡ sets form (rank wanted c * 3) (entries c) = put ∙ rw (place, bytes_are ready c l n) in
           let size : suc (rank wanted c) * 3 ≡ rank wanted c * 3 + length (entries c) = omega (arith, three ready c) in
-          let inside : suc (rank wanted c) * 3 ≤ length form = omega (arith, at-number ready c l) in
+          let inside : suc (rank wanted c) * 3 ≤ length form = omega (arith, at_number ready c l) in
           rw (rank_needed wanted c yes, yes)
           (front_more form after (rank wanted c * 3) (suc (rank wanted c) * 3) (entries c) size inside stored
           ∙ rw inv.written)
@@ -235,4 +235,4 @@ module _ {rule : List ℕ} {needed : List Bool} {numbers : List ℕ} {count : �
   unfolding result
   emit_ends le =
       let e : code_end rule ≡ c = omega (arith, inv.within) in
-      rw (count-size ready, e) inv.written
+      rw (count_size ready, e) inv.written

@@ -26,19 +26,19 @@ unfolding pack_counts pack_conflicts
 refused_none r f (both c set) p number place e = never_both (sym e)
 refused_none r f (neither n q) p number place e = omega (arith, (p.refusal n q refl).byte)
 
-counts-none : (r : Result Counts) → Proper r → conflicts_of (pack_counts r) ≡ 0
+counts_none : (r : Result Counts) → Proper r → conflicts_of (pack_counts r) ≡ 0
 unfolding pack_counts
-counts-none (accepted c) p = omega arith
-counts-none (refused number place) p = omega (arith, (p.refusal number place refl).byte)
+counts_none (accepted c) p = omega arith
+counts_none (refused number place) p = omega (arith, (p.refusal number place refl).byte)
 
-finding-none : (v : Verdict) (pairs : ℕ) → conflicts_of (pack_finding v pairs) ≡ 0
-finding-none kept pairs = omega arith
-finding-none broken pairs = omega arith
+finding_none : (v : Verdict) (pairs : ℕ) → conflicts_of (pack_finding v pairs) ≡ 0
+finding_none kept pairs = omega arith
+finding_none broken pairs = omega arith
 
-verdict-none : (r : Result Finding) → Proper r → conflicts_of (pack_verdict r) ≡ 0
+verdict_none : (r : Result Finding) → Proper r → conflicts_of (pack_verdict r) ≡ 0
 unfolding pack_verdict
-verdict-none (accepted f) p = finding-none f.verdict f.pairs
-verdict-none (refused number place) p = omega (arith, (p.refusal number place refl).byte)
+verdict_none (accepted f) p = finding_none f.verdict f.pairs
+verdict_none (refused number place) p = omega (arith, (p.refusal number place refl).byte)
 
 -- ---- the calls
 
@@ -59,14 +59,14 @@ field_refused_tells_none rule s t i =
 
 -- zimboralo_read, _judge and _decide
 pub read_tells_none : (image s t i : List ℕ) → conflicts_of (pack_counts (read_into image s t i).answer) ≡ 0
-read_tells_none image s t i = counts-none (read_into image s t i).answer (reads_proper image s t i)
+read_tells_none image s t i = counts_none (read_into image s t i).answer (reads_proper image s t i)
 
 pub judge_tells_none : (image stem cycle work : List ℕ)
     → conflicts_of (pack_verdict (judged image stem cycle work).answer) ≡ 0
 judge_tells_none image stem cycle work =
-    verdict-none (judged image stem cycle work).answer (judged_proper image stem cycle work)
+    verdict_none (judged image stem cycle work).answer (judged_proper image stem cycle work)
 
 pub decide_tells_none : (rule stem cycle s t i image work : List ℕ)
     → conflicts_of (pack_verdict (decided rule stem cycle s t i image work).answer) ≡ 0
 decide_tells_none rule stem cycle s t i image work =
-    verdict-none (decided rule stem cycle s t i image work).answer (decided_proper rule stem cycle s t i image work)
+    verdict_none (decided rule stem cycle s t i image work).answer (decided_proper rule stem cycle s t i image work)

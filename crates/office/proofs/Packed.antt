@@ -23,29 +23,29 @@ pub packed_tables_lem : (a : Result Counts) (s t i : List ℕ) (o : Outcome) (r 
 packed_tables_lem a s t i o r packs says = ap (λ (n : ℕ). packed_tables n s t i) packs ∙ ap pack_outcome says
 
 -- of translate, with its conflicts
-pub packed-translated : (a : Result Counts) (f : Result ℕ) (s t i : List ℕ) (x : Carried) (r : ℕ)
+pub packed_translated : (a : Result Counts) (f : Result ℕ) (s t i : List ℕ) (x : Carried) (r : ℕ)
     → r ≡ pack_counts a + pack_conflicts f → carried (outcome a s t i) f ≡ x → packed_tables r s t i ≡ pack_translated x
-packed-translated a f s t i x r packs says = ap (λ (n : ℕ). packed_tables n s t i) packs ∙ ap pack_translated says
+packed_translated a f s t i x r packs says = ap (λ (n : ℕ). packed_tables n s t i) packs ∙ ap pack_translated says
 
 -- of write
-pub packed-buffer : (a : Result ℕ) (image : List ℕ) (b : Buffer) (r : ℕ) → r ≡ pack_length a → buffer a image ≡ b
+pub packed_buffer : (a : Result ℕ) (image : List ℕ) (b : Buffer) (r : ℕ) → r ≡ pack_length a → buffer a image ≡ b
     → packed_slice r image ≡ pack_buffer b
-packed-buffer a image b r packs says = ap (λ (n : ℕ). packed_slice n image) packs ∙ ap pack_buffer says
+packed_buffer a image b r packs says = ap (λ (n : ℕ). packed_slice n image) packs ∙ ap pack_buffer says
 
 -- of judge
-pub packed-judgement : (a : Result Finding) (work : List ℕ) (j : Judgement) (r : ℕ) → r ≡ pack_verdict a
+pub packed_judgement : (a : Result Finding) (work : List ℕ) (j : Judgement) (r : ℕ) → r ≡ pack_verdict a
     → judgement a work ≡ j → packed_slice r work ≡ pack_judgement j
-packed-judgement a work j r packs says = ap (λ (n : ℕ). packed_slice n work) packs ∙ ap pack_judgement says
+packed_judgement a work j r packs says = ap (λ (n : ℕ). packed_slice n work) packs ∙ ap pack_judgement says
 
 -- of start and step
-pub packed-watch : (a : Result Bool) (set : List ℕ) (w : Watch) (r : ℕ) → r ≡ pack_bit a → watch a set ≡ w
+pub packed_watch : (a : Result Bool) (set : List ℕ) (w : Watch) (r : ℕ) → r ≡ pack_bit a → watch a set ≡ w
     → packed_slice r set ≡ pack_watch w
-packed-watch a set w r packs says = ap (λ (n : ℕ). packed_slice n set) packs ∙ ap pack_watch says
+packed_watch a set w r packs says = ap (λ (n : ℕ). packed_slice n set) packs ∙ ap pack_watch says
 
 -- of decide
-pub packed-decision : (a : Result Finding) (s t i image work : List ℕ) (d : Decision) (r : ℕ) → r ≡ pack_verdict a
+pub packed_decision_lem : (a : Result Finding) (s t i image work : List ℕ) (d : Decision) (r : ℕ) → r ≡ pack_verdict a
     → decision a s t i image work ≡ d → packed_decision r s t i image work ≡ pack_decision d
-packed-decision a s t i image work d r packs says =
+packed_decision_lem a s t i image work d r packs says =
     ap (λ (n : ℕ). packed_decision n s t i image work) packs ∙ ap pack_decision says
 
 -- a part that shows where a clause is broken fits 40 bits

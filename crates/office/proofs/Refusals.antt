@@ -12,9 +12,9 @@ use Rattle.answer.specs.Result.{Result, accepted, refused, and_then, Check, fine
 use Rattle.formula.specs.Rule.{node_count, release_kind, length_check, node_check, place_check, syntax_check, until_check}
 use Rattle.formula.specs.Limits.{rule_bytes}
 use Rattle.formula.specs.Rule
-use Rattle.formula.proofs.Accepted.{formed-fine}
-use Rattle.answer.proofs.Lowest.{fine-first}
-use Rattle.answer.proofs.Results.{never_both, require-fine, required}
+use Rattle.formula.proofs.Accepted.{formed_fine}
+use Rattle.answer.proofs.Lowest.{fine_first}
+use Rattle.answer.proofs.Results.{never_both, require_fine, required}
 use Rattle.normalform.specs.Written.{written_check}
 use Rattle.normalform.specs.NormalForm.{normal_form, written_checked}
 use Rattle.normalform.proofs.Passes.{normal_form_passes}
@@ -34,7 +34,7 @@ use Rattle.image.specs.Reader.{read_tables, read_image}
 use Rattle.automaton.specs.Automaton.{State}
 use Rattle.image.specs.Calls.{buffer_check, written, read_counted, writes, loaded, read_into}
 use Rattle.image.proofs.Tests.{counts_small}
-use Rattle.image.proofs.Contents.{contents-fine}
+use Rattle.image.proofs.Contents.{contents_fine}
 use Rattle.image.proofs.OnePass.{one_pass}
 use Rattle.lasso.specs.Lasso.{lasso_check}
 use Rattle.sameword.specs.Words.{of_second, lassos_check, compared}
@@ -224,7 +224,7 @@ sizes_proper : (rule : List ℕ) → Proper (sizes_checked rule)
 unfolding sizes_checked Rule.checked syntax_check
 sizes_proper rule =
     then_proper (Rule.checked rule) _ (rule_proper rule)
-    (λ u e. let few : node_count rule ≤ max_transitions = few_nodes rule (fine-first (length_check rule) _ (fine-first (syntax_check release_kind rule) _ e)) in search (proper, size_proper))
+    (λ u e. let few : node_count rule ≤ max_transitions = few_nodes rule (fine_first (length_check rule) _ (fine_first (syntax_check release_kind rule) _ e)) in search (proper, size_proper))
 
 -- 21
 product_proper : (rule : List ℕ) (place state : ℕ) → place ≤ max_transitions → Proper (product_check rule place state)
@@ -287,7 +287,7 @@ profile_proper rule =
     (λ form e. then_proper (until_check form) _ (untils_proper form) (λ _ _. none_proper form (few form e)))
   where
     few : (form : List ℕ) → normal_form rule ≡ accepted form → node_count form ≤ max_transitions
-    few form e = omega (arith, (formed-fine release_kind form (normal_form_passes rule form e)).most)
+    few form e = omega (arith, (formed_fine release_kind form (normal_form_passes rule form e)).most)
 
 -- 25, 1 to 7, 26, 29 and 20 to 24
 pub profile_translated_proper : (rule s t i : List ℕ) → Proper (profile_translated rule s t i).answer
@@ -337,7 +337,7 @@ image_proper : (image : List ℕ) → Proper (read_image image)
 unfolding read_image
 image_proper image =
     then_proper (contents_check image) _ (contents_proper image)
-    (λ u e. records_proper (counts_at image) _ _ _ (contents-fine image e).small)
+    (λ u e. records_proper (counts_at image) _ _ _ (contents_fine image e).small)
 
 -- 25 and 10 to 13
 pub reads_proper : (image s t i : List ℕ) → Proper (read_into image s t i).answer
@@ -367,7 +367,7 @@ stepped_proper image set x =
 counted_proper : (c : Counts) (s t i : List ℕ) → Proper (read_counted c s t i)
 counted_proper c s t i =
     then_proper (require (counts_fit c) 10 0) _ (search proper)
-    (λ u e. records_proper c s t i (counts_small c (require-fine (counts_fit c) 10 0 e)))
+    (λ u e. records_proper c s t i (counts_small c (require_fine (counts_fit c) 10 0 e)))
 
 -- 25 and 10 to 13
 pub writes_proper : (c : Counts) (s t i image : List ℕ) → Proper (writes c s t i image).answer

@@ -11,7 +11,7 @@ use lib.Seq.{take_all, take_at}
 use borrow.Author.Tests.{le-leb, lt-leb}
 use Rattle.judge.specs.Judge.{judged}
 use Rattle.report.specs.Report.{report_bytes, Reporting, reporting, reported, SameVerdict}
-use Rattle.report.proofs.SameReport.{report_length, same-verdict-same_report, same-verdict-all-same}
+use Rattle.report.proofs.SameReport.{report_length, same_verdict_same_report, same-verdict-all-same}
 use Rattle.office.specs.Packing.{pack_refusal, packed_result}
 use Rattle.office.specs.Sending.{pack_report, sent}
 
@@ -27,42 +27,42 @@ module _ (number : ℕ) (image stem cycle work lent : List ℕ) where
   unfolding sent
   sent_report le = rw (le-leb report_bytes (length lent) le)
 
-  pub sent-bytes : report_bytes ≤ length lent
+  pub sent_bytes : report_bytes ≤ length lent
       → {bytes after stored : List ℕ} → reporting bytes after ≡ reported number image stem cycle work
       → stored ≡ take report_bytes bytes ++ drop report_bytes lent → {r : ℕ} → r ≡ 0
       → packed_result r after stored ≡ sent number image stem cycle work lent
-  sent-bytes le {bytes} says e none =
+  sent_bytes le {bytes} says e none =
       let long : length bytes ≡ report_bytes =
       ap (λ (r : Reporting). length r.bytes) says ∙ report_length number image stem cycle work in
       rw (sent_report le, none, e, take_all report_bytes bytes (omega (arith, long)))
       (ap (λ (r : Reporting). pack_report true r work lent) says)
 
   -- the answer is 0, whatever judging says
-  sent-answer : report_bytes ≤ length lent → (sent number image stem cycle work lent).answer ≡ 0
-  sent-answer le = rw (sent_report le)
+  sent_answer : report_bytes ≤ length lent → (sent number image stem cycle work lent).answer ≡ 0
+  sent_answer le = rw (sent_report le)
 
   -- the bytes of the report come first
-  sent-first : report_bytes ≤ length lent
+  sent_first : report_bytes ≤ length lent
       → take report_bytes (sent number image stem cycle work lent).result ≡ (reported number image stem cycle work).bytes
-  sent-first le =
+  sent_first le =
       rw (sent_report le)
       (take_at (reported number image stem cycle work).bytes (drop report_bytes lent) report_bytes
       (report_length number image stem cycle work))
 
 module _ (number : ℕ) (image stem cycle work lent otherImage otherStem otherCycle : List ℕ) where
   -- R-12, sentence 2, of the call: the same verdict from judging gives the same answer, 0, and the same 32 bytes
-  pub same-verdict-same-sent : (otherWork otherLent : List ℕ)
+  pub same_verdict_same_sent : (otherWork otherLent : List ℕ)
       → report_bytes ≤ length lent → report_bytes ≤ length otherLent
       → SameVerdict (judged image stem cycle work).answer (judged otherImage otherStem otherCycle otherWork).answer
       → let one = sent number image stem cycle work lent in
       let other = sent number otherImage otherStem otherCycle otherWork otherLent in
       (one.answer ≡ 0) × (other.answer ≡ 0) × (take report_bytes one.result ≡ take report_bytes other.result)
-  same-verdict-same-sent otherWork otherLent le otherLe alike = (
-    sent-answer number image stem cycle work lent le,
-    sent-answer number otherImage otherStem otherCycle otherWork otherLent otherLe,
-    sent-first number image stem cycle work lent le
-        ∙ same-verdict-same_report number image stem cycle work otherImage otherStem otherCycle otherWork alike
-        ∙ sym (sent-first number otherImage otherStem otherCycle otherWork otherLent otherLe),
+  same_verdict_same_sent otherWork otherLent le otherLe alike = (
+    sent_answer number image stem cycle work lent le,
+    sent_answer number otherImage otherStem otherCycle otherWork otherLent otherLe,
+    sent_first number image stem cycle work lent le
+        ∙ same_verdict_same_report number image stem cycle work otherImage otherStem otherCycle otherWork alike
+        ∙ sym (sent_first number otherImage otherStem otherCycle otherWork otherLent otherLe),
   )
 
   -- and where the same bytes are lent, so many or so few, every one of them is left the same

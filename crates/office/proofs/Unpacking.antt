@@ -12,13 +12,13 @@ use lib.Dec.{eqb}
 use Rattle.answer.specs.Result.{Result, accepted, refused, and_then, Check, fine, require}
 use Rattle.formula.specs.Limits.{rule_bytes}
 use Rattle.formula.specs.Rule.{release_kind}
-use Rattle.formula.proofs.Accepted.{formed-fine}
+use Rattle.formula.proofs.Accepted.{formed_fine}
 use Rattle.normalform.specs.NormalForm.{normal_form, written_checked}
 use Rattle.normalform.specs.Normalize.{rule_room, rule_stored, normalizes}
 use Rattle.merge.specs.Merge.{merges}
 use Rattle.merge.proofs.Merging.{merged_at}
 use Rattle.normalform.proofs.Passes.{normal_form_passes}
-use Rattle.answer.proofs.Results.{never_both, require-fine, then_accepted}
+use Rattle.answer.proofs.Results.{never_both, require_fine, then_accepted}
 use Rattle.automaton.specs.Automaton.{Automaton}
 use Rattle.automaton.specs.Tables.{Counts, counts, outcome, table_check}
 use Rattle.term.specs.Size.{sizes_checked}
@@ -34,10 +34,10 @@ use Rattle.answer.specs.Buffer.{buffer}
 use Rattle.image.proofs.ImageAccepted.{image_accepted}
 use Rattle.image.proofs.Before.{follows, passes}
 use Rattle.image.proofs.Tests.{counts_small}
-use Rattle.image.proofs.Contents.{checks-sized}
+use Rattle.image.proofs.Contents.{checks_sized}
 use Rattle.image.proofs.Sizes.{image_size}
 use Rattle.image.proofs.Tables.{counts_back}
-use Rattle.image.proofs.Outcomes.{writes-of, reads_of}
+use Rattle.image.proofs.Outcomes.{writes_of, reads_of}
 use Rattle.lasso.specs.Lasso.{remaining, lasso_check}
 use Rattle.sameword.specs.Words.{compared}
 use Rattle.judge.specs.Judge.{work_bytes, Verdict, kept, broken, Finding, finding, found, judged}
@@ -53,7 +53,7 @@ use Rattle.profile.specs.Profile.{profile_checked, profile_translated, profile_c
 use Rattle.demands.specs.Demand.{room_check, input_check, concluded, decided_by, decided}
 use Rattle.automaton.proofs.WellFormed.{few_together}
 use Rattle.correctness.proofs.WellFormed.{written_well_formed}
-use Rattle.correctness.proofs.BothSigns.{conflicts-byte}
+use Rattle.correctness.proofs.BothSigns.{conflicts_byte}
 use Rattle.office.proofs.Refusals.{Refusal, Proper, normalizes_proper, merges_proper, translated_proper}
 use Rattle.office.proofs.Refusals.{reads_proper, writes_proper}
 use Rattle.office.proofs.Refusals.{profile_translated_proper, started_proper, stepped_proper}
@@ -126,7 +126,7 @@ normalizes_small rule form n e = first (rule_room form) e
     second : (r : Result (List ℕ)) → normal_form rule ≡ r → (rule_stored r form).answer ≡ accepted n → n ≤ rule_bytes
     second (accepted bytes) known e =
         let size : length bytes ≡ n = cc in
-        omega (arith, (formed-fine release_kind bytes (normal_form_passes rule bytes known)).most)
+        omega (arith, (formed_fine release_kind bytes (normal_form_passes rule bytes known)).most)
     second (refused number place) known e = never_both e
 
     first : (check : Check) → (rule_stored (and_then check (λ _. normal_form rule)) form).answer ≡ accepted n → n ≤ rule_bytes
@@ -142,10 +142,10 @@ merges_small first second merged n e =
     omega (arith, made.size, made.may.few)
 
 -- of an accepted translate, whose first walk is accepted too
-translated-walk : (rule : List ℕ) (a : Automaton) → translation rule ≡ accepted a
+translated_walk : (rule : List ℕ) (a : Automaton) → translation rule ≡ accepted a
     → (states : List ℕ) × (generalized rule ≡ accepted states)
 unfolding translation
-translated-walk rule a e =
+translated_walk rule a e =
     let (_, _, after-sizes) = then_accepted (sizes_checked rule) _ e in
     let (states, walked, _) = then_accepted (generalized rule) _ after-sizes in
     (states, walked)
@@ -178,17 +178,17 @@ unfolding profile_translated
 profile_small rule s t i = stored_small rule s t i (and_then (table_check s t i) (λ _. profile_checked rule))
 
 -- its conflicts
-pub translated-byte : (rule s t i : List ℕ) (set : ℕ) → translated_conflicts rule s t i ≡ accepted set → set < 256
+pub translated_byte : (rule s t i : List ℕ) (set : ℕ) → translated_conflicts rule s t i ≡ accepted set → set < 256
 unfolding translated_conflicts
-translated-byte rule s t i set e =
+translated_byte rule s t i set e =
     let (_, _, carried) = then_accepted (and_then (table_check s t i) (λ _. written_checked rule)) _ e in
-    conflicts-byte rule set carried
+    conflicts_byte rule set carried
 
 pub profile_byte : (rule s t i : List ℕ) (set : ℕ) → profile_conflicts rule s t i ≡ accepted set → set < 256
 unfolding profile_conflicts
 profile_byte rule s t i set e =
     let (_, _, carried) = then_accepted (and_then (table_check s t i) (λ _. profile_checked rule)) _ e in
-    conflicts-byte rule set carried
+    conflicts_byte rule set carried
 
 -- two answers that are both accepted, or refused alike
 pub data Alike {A B : Type 0} : Result A → Result B → Type 0 where
@@ -204,16 +204,16 @@ stored_alike rule s t i check = first check
         → Alike (stored made s t i).answer (rule_conflicts form)
     of_rule form (refused number place) known = unfold stored rule_conflicts in rw known (neither number place)
     of_rule form (accepted a) known = unfold stored rule_conflicts in
-        let (states, walked) = translated-walk form a known in
+        let (states, walked) = translated_walk form a known in
         rw (known, walked) (both (counts a) _)
 
-    of-written : (form : Result (List ℕ))
+    of_written : (form : Result (List ℕ))
         → Alike (stored (and_then form translation) s t i).answer (and_then form rule_conflicts)
-    of-written (accepted form) = of_rule form (translation form) refl
-    of-written (refused number place) = unfold stored in neither number place
+    of_written (accepted form) = of_rule form (translation form) refl
+    of_written (refused number place) = unfold stored in neither number place
 
     written_alike : Alike (stored (written_translation rule) s t i).answer (written_conflicts rule)
-    written_alike = unfold written_translation written_conflicts in of-written (normal_form rule)
+    written_alike = unfold written_translation written_conflicts in of_written (normal_form rule)
 
     first : (check : Check)
         → Alike (unless check (stored (written_translation rule) s t i) s t i).answer (and_then check (λ _. written_conflicts rule))
@@ -236,20 +236,20 @@ reads_small image s t i c e =
     let done = reads_of _ c s t i o.states o.transitions o.initial
     (ap (λ (r : Result Counts). outcome r o.states o.transitions o.initial) e) in
     let read = follows (table_check s t i) _ done.automaton done.answer in
-    (checks-sized image c (rw read.answer (ap accepted done.counted))).small
+    (checks_sized image c (rw read.answer (ap accepted done.counted))).small
 
 -- of an accepted write, ZIMBORALO_IMAGE_BYTES
 pub writes_small : (c : Counts) (s t i image : List ℕ) (n : ℕ) → (writes c s t i image).answer ≡ accepted n
     → n ≤ largest_image
 unfolding writes read_tables
 writes_small c s t i image n e =
-    let done = writes-of _ n image (writes c s t i image).bytes
+    let done = writes_of _ n image (writes c s t i image).bytes
     (ap (λ (r : Result ℕ). buffer r (writes c s t i image).bytes) e) in
     let a = done.automaton in
     let tables = follows (table_check s t i) _ a done.answer in
     let room = follows (buffer_check image) _ a tables.answer in
     let counted = follows (require (counts_fit c) 10 0) _ a room.answer in
-    let small = counts_small c (require-fine (counts_fit c) 10 0 counted.passed) in
+    let small = counts_small c (require_fine (counts_fit c) 10 0 counted.passed) in
     let answer = passes (records_check c s t i) a (automaton_from c s t i) (sym counted.answer) in
     let size : n ≡ image_length c =
     done.size
@@ -373,8 +373,8 @@ unpacks_refused number place h = record {
 }
 
 -- counts, with conflicts above them or none
-carried-counts : (c : Counts) → Small c → (set : ℕ) → CountsRead (pack_three c + 2 ^ 40 * set) c
-carried-counts c small set =
+carried_counts : (c : Counts) → Small c → (set : ℕ) → CountsRead (pack_three c + 2 ^ 40 * set) c
+carried_counts c small set =
     let s : c.states % 256 ≡ c.states = omega (arith, small.states) in
     let t : c.transitions % 65536 ≡ c.transitions = omega (arith, small.transitions) in
     let i : c.initial % 256 ≡ c.initial = omega (arith, small.initial) in
@@ -383,19 +383,19 @@ carried-counts c small set =
     whole : CountsRead (256 * c.states + 65536 * c.transitions + 2 ^ 32 * c.initial + 2 ^ 40 * set) c
     whole = record { states = omega arith; transitions = omega arith; initial = omega arith }
 
-three-read : (c : Counts) → Small c → CountsRead (pack_three c) c
-three-read c small =
+three_read : (c : Counts) → Small c → CountsRead (pack_three c) c
+three_read c small =
     let same : pack_three c + 2 ^ 40 * 0 ≡ pack_three c = omega arith in
-    subst (λ (packed : ℕ). CountsRead packed c) same (carried-counts c small 0)
+    subst (λ (packed : ℕ). CountsRead packed c) same (carried_counts c small 0)
 
-counts-unpack : (r : Result Counts) → Proper r → ((c : Counts) → r ≡ accepted c → Small c)
+counts_unpack : (r : Result Counts) → Proper r → ((c : Counts) → r ≡ accepted c → Small c)
     → Unpacks CountsRead (pack_counts r) r
 unfolding pack_counts
-counts-unpack (accepted c) p fits = unpacks_accepted _ c (omega arith) (three-read c (fits c refl))
-counts-unpack (refused number place) p fits = unpacks_refused number place (p.refusal number place refl)
+counts_unpack (accepted c) p fits = unpacks_accepted _ c (omega arith) (three_read c (fits c refl))
+counts_unpack (refused number place) p fits = unpacks_refused number place (p.refusal number place refl)
 
-carried-conflicts : (c : Counts) (set : ℕ) → set < 256 → ConflictsRead (pack_three c + 2 ^ 40 * set) set
-carried-conflicts c set lt = omega arith
+carried_conflicts : (c : Counts) (set : ℕ) → set < 256 → ConflictsRead (pack_three c + 2 ^ 40 * set) set
+carried_conflicts c set lt = omega arith
 
 refusal_carries : {A : Type 0} {Read : ℕ → A → Type 0} (number place : ℕ) → Refusal number place
     → Unpacks Read (pack_refusal number place + 0) (refused number place)
@@ -408,8 +408,8 @@ translation_unpacks : (r : Result Counts) (f : Result ℕ) → Alike r f → Pro
     → Unpacks CountsRead (pack_counts r + pack_conflicts f) r × Unpacks ConflictsRead (pack_counts r + pack_conflicts f) f
 unfolding pack_counts pack_conflicts
 translation_unpacks r f (both c set) p small byte = (
-  unpacks_accepted _ c (omega arith) (carried-counts c (small c refl) set),
-  unpacks_accepted _ set (omega arith) (carried-conflicts c set (byte set refl)),
+  unpacks_accepted _ c (omega arith) (carried_counts c (small c refl) set),
+  unpacks_accepted _ set (omega arith) (carried_conflicts c set (byte set refl)),
 )
 translation_unpacks r f (neither number place) p small byte =
     let refusal = p.refusal number place refl in
@@ -442,8 +442,8 @@ bit_unpacks (refused number place) p = unpacks_refused number place (p.refusal n
 
 -- a clause with its part
 module _ (stem clause from : ℕ) (few : clause < 255) (near : from < 65536) where
-  part-packed : clause_of (pack_clause clause + pack_part stem from) ≡ clause + 1
-  part-packed = go (dec_lt from stem)
+  part_packed : clause_of (pack_clause clause + pack_part stem from) ≡ clause + 1
+  part_packed = go (dec_lt from stem)
     where
       c : clause % 255 ≡ clause
       c = omega arith
@@ -452,8 +452,8 @@ module _ (stem clause from : ℕ) (few : clause < 255) (near : from < 65536) whe
       go (yes l) = rw (lt-ltb from stem l, c) (omega arith)
       go (no l) = rw (le-ltb from stem (omega arith), c) (omega arith)
 
-  part-read : PartRead stem (pack_clause clause + pack_part stem from) from
-  part-read = go (dec_lt from stem)
+  part_read : PartRead stem (pack_clause clause + pack_part stem from) from
+  part_read = go (dec_lt from stem)
     where
       c : clause % 255 ≡ clause
       c = omega arith
@@ -478,7 +478,7 @@ explained_unpacks stem (accepted holds) p fits never = unpacks_accepted _ holds 
 explained_unpacks stem (accepted (breaks c from)) p fits never =
     let (few, near) = fits c from refl in
     unpacks_accepted _ (breaks c from) (part_zero stem c from few near)
-    (part-packed stem c from few near, part-read stem c from few near)
+    (part_packed stem c from few near, part_read stem c from few near)
 explained_unpacks stem (accepted (never_comes c)) p fits never =
     let few = never c refl in
     unpacks_accepted _ (never_comes c) (omega arith) (omega arith, omega arith)
@@ -510,13 +510,13 @@ pub translate_unpacks : (rule s t i : List ℕ)
     × Unpacks ConflictsRead (packed_translation rule s t i) (translated_conflicts rule s t i)
 translate_unpacks rule s t i =
     translation_unpacks (translated rule s t i).answer (translated_conflicts rule s t i) (translated_alike rule s t i)
-    (translated_proper rule s t i) (translated_small rule s t i) (translated-byte rule s t i)
+    (translated_proper rule s t i) (translated_small rule s t i) (translated_byte rule s t i)
 
 -- zimboralo_read
 pub read_unpacks : (image s t i : List ℕ)
     → Unpacks CountsRead (pack_counts (read_into image s t i).answer) (read_into image s t i).answer
 read_unpacks image s t i =
-    counts-unpack (read_into image s t i).answer (reads_proper image s t i) (reads_small image s t i)
+    counts_unpack (read_into image s t i).answer (reads_proper image s t i) (reads_small image s t i)
 
 -- zimboralo_write
 pub write_unpacks : (c : Counts) (s t i image : List ℕ)
@@ -539,9 +539,9 @@ decide_unpacks rule stem cycle s t i image work =
     (decided_few rule stem cycle s t i image work)
 
 -- zimboralo_same_word
-pub same-word_unpacks : (stem cycle otherStem otherCycle : List ℕ)
+pub same_word_unpacks : (stem cycle otherStem otherCycle : List ℕ)
     → Unpacks BitRead (pack_bit (compared stem cycle otherStem otherCycle)) (compared stem cycle otherStem otherCycle)
-same-word_unpacks stem cycle otherStem otherCycle =
+same_word_unpacks stem cycle otherStem otherCycle =
     bit_unpacks (compared stem cycle otherStem otherCycle) (compared_proper stem cycle otherStem otherCycle)
 
 -- zimboralo_field_translate: the counts, and the conflicts
@@ -600,7 +600,7 @@ unfolding broken_part pack_explained
 cut_is_part rule stem cycle holds e = rw e (cut_nothing stem cycle 0 refl)
 cut_is_part rule stem cycle (breaks c from) e =
     let (few, near) = told_small rule stem cycle c from e in
-    rw e (cut_shown stem cycle _ from (part-read (length stem) c from (omega arith) (omega arith)))
+    rw e (cut_shown stem cycle _ from (part_read (length stem) c from (omega arith) (omega arith)))
 cut_is_part rule stem cycle (never_comes c) e = rw e (cut_nothing stem cycle (pack_clause c) (omega arith))
 
 -- zimboralo_satisfies

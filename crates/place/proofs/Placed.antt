@@ -10,17 +10,17 @@ use native.Mathlib.Decide.{dec_lt}
 use lib.ListN.{get_or, length, take, drop, length-append, length-drop}
 use Rattle.lasso.specs.Lasso.{remains, remaining, letter, remaining_before, IthRemaining}
 use Rattle.lasso.proofs.Letters.{letter_early, letter_cycle, letter_unrolled}
-use Rattle.lasso.proofs.Skipping.{remaining-kept, remaining-skipped, remaining-append, remaining-next}
+use Rattle.lasso.proofs.Skipping.{remaining_kept, remaining_skipped, remaining_append, remaining_next}
 use Rattle.place.specs.Place.{place_in, place_of}
 use Rattle.place.proofs.Standing.{Stands, place_stem, place_cycle, place_stands}
 
 -- one letter counts, or not
-one-counts : (x : ℕ) → cond (remains x) 1 0 ≡ length (remaining (x ∷ []))
-one-counts x = go (remains x) refl
+one_counts : (x : ℕ) → cond (remains x) 1 0 ≡ length (remaining (x ∷ []))
+one_counts x = go (remains x) refl
   where
     go : (b : Bool) → remains x ≡ b → cond b 1 0 ≡ length (remaining (x ∷ []))
-    go true e = unfold remaining in sym (ap length (remaining-kept x [] e))
-    go false e = unfold remaining in sym (ap length (remaining-skipped x [] e))
+    go true e = unfold remaining in sym (ap length (remaining_kept x [] e))
+    go false e = unfold remaining in sym (ap length (remaining_skipped x [] e))
 
 -- of a word that begins with a list, so many of the first n letters remain
 before_list : (xs : List ℕ) (word : ℕ → ℕ) → ((i : ℕ) → i < length xs → word i ≡ get_or xs i 0)
@@ -29,9 +29,9 @@ unfolding remaining_before remaining
 before_list xs word begins zero le = refl
 before_list xs word begins (suc n) le =
     ap₂ (λ (x y : ℕ). x + y) (before_list xs word begins n (omega arith))
-    (ap (λ (x : ℕ). cond (remains x) 1 0) (begins n (omega arith)) ∙ one-counts (get_or xs n 0))
+    (ap (λ (x : ℕ). cond (remains x) 1 0) (begins n (omega arith)) ∙ one_counts (get_or xs n 0))
     ∙ sym (length-append (remaining (take n xs)) (remaining (get_or xs n 0 ∷ [])))
-    ∙ sym (ap length (remaining-next xs n (omega arith)))
+    ∙ sym (ap length (remaining_next xs n (omega arith)))
     ∙ ap (λ (k : ℕ). length (remaining (take k xs))) (add-one n)
 
 -- before the one where remaining letter i stands, i remain
@@ -39,16 +39,16 @@ stands_before : (xs : List ℕ) (i at : ℕ) → i < length (remaining xs) → S
     → length (remaining (take at xs)) ≡ i
 stands_before xs i at l t =
     let parts : length (remaining xs) ≡ length (remaining (take at xs)) + length (drop i (remaining xs)) =
-    ap (λ (ys : List ℕ). length (remaining ys)) (sym (take-drop at xs))
-    ∙ ap length (remaining-append (take at xs) (drop at xs))
+    ap (λ (ys : List ℕ). length (remaining ys)) (sym (take_drop at xs))
+    ∙ ap length (remaining_append (take at xs) (drop at xs))
     ∙ length-append (remaining (take at xs)) (remaining (drop at xs))
     ∙ ap (λ (ys : List ℕ). length (remaining (take at xs)) + length ys) t.follow in
     omega (arith, parts, length-drop i (remaining xs))
   where
-    take-drop : (n : ℕ) (ys : List ℕ) → take n ys ++ drop n ys ≡ ys
-    take-drop zero ys = refl
-    take-drop (suc n) [] = refl
-    take-drop (suc n) (y ∷ ys) = ap (λ (zs : List ℕ). y ∷ zs) (take-drop n ys)
+    take_drop : (n : ℕ) (ys : List ℕ) → take n ys ++ drop n ys ≡ ys
+    take_drop zero ys = refl
+    take_drop (suc n) [] = refl
+    take_drop (suc n) (y ∷ ys) = ap (λ (zs : List ℕ). y ∷ zs) (take_drop n ys)
 
 module _ (stem cycle : List ℕ) (i : ℕ) (inside : i < length (remaining stem) + length (remaining cycle)) where
   abbrev s : ℕ
@@ -96,7 +96,7 @@ module _ (stem cycle : List ℕ) (i : ℕ) (inside : i < length (remaining stem)
           let counted : length (remaining (take (length stem + k) (stem ++ cycle))) ≡ s + length
           (remaining (take k cycle)) =
           ap (λ (xs : List ℕ). length (remaining xs)) (take_both stem k)
-          ∙ ap length (remaining-append stem (take k cycle))
+          ∙ ap length (remaining_append stem (take k cycle))
           ∙ length-append (remaining stem) (remaining (take k cycle)) in
           record {
             ith = record {

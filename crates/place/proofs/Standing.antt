@@ -10,7 +10,7 @@ use lib.Seq.{drop-cons}
 use lib.Dec.{eqb, ltb}
 use borrow.Author.Tests.{ne_eqb, lt-ltb, le-ltb}
 use Rattle.lasso.specs.Lasso.{remains, remaining}
-use Rattle.lasso.proofs.Skipping.{remaining-kept, remaining-skipped}
+use Rattle.lasso.proofs.Skipping.{remaining_kept, remaining_skipped}
 use Rattle.place.specs.Place.{place_in, place_of}
 
 pub place_few : (xs : List ℕ) (i : ℕ) → place_in xs i ≤ length xs
@@ -100,9 +100,9 @@ module _ (stem cycle : List ℕ) (i s : ℕ) (es : s ≡ length (remaining stem)
   place_cycle l = rw es (sym (rw (le-ltb i (length (remaining stem)) (omega arith)) refl))
 
 -- it is at most the number of letters
-pub place-within : (stem cycle : List ℕ) (i : ℕ) → place_of stem cycle i ≤ length stem + length cycle
+pub place_within : (stem cycle : List ℕ) (i : ℕ) → place_of stem cycle i ≤ length stem + length cycle
 unfolding place_of
-place-within stem cycle i = go (ltb i (length (remaining stem)))
+place_within stem cycle i = go (ltb i (length (remaining stem)))
   where
     go : (b : Bool)
         → cond b (place_in stem i) (length stem + place_in cycle (i - length (remaining stem))) ≤ length stem + length
@@ -125,14 +125,14 @@ stands_later : (x : ℕ) (xs : List ℕ) (b : Bool) → remains x ≡ b → {i a
 stands_later x xs true e t = record {
   inside = omega (arith, t.inside);
   stays = t.stays;
-  same = rw (remaining-kept x xs e) t.same;
-  follow = rw (remaining-kept x xs e) t.follow;
+  same = rw (remaining_kept x xs e) t.same;
+  follow = rw (remaining_kept x xs e) t.follow;
 }
 stands_later x xs false e t = record {
   inside = omega (arith, t.inside);
   stays = t.stays;
-  same = rw (remaining-skipped x xs e) t.same;
-  follow = rw (remaining-skipped x xs e) t.follow;
+  same = rw (remaining_skipped x xs e) t.same;
+  follow = rw (remaining_skipped x xs e) t.follow;
 }
 
 pub place_stands : (xs : List ℕ) (i : ℕ) → i < length (remaining xs) → Stands xs i (place_in xs i)
@@ -145,13 +145,13 @@ place_stands (x ∷ xs) zero l = go (remains x) refl (place_stands xs zero)
     go true e ih = record {
       inside = omega arith;
       stays = e;
-      same = rw (remaining-kept x xs e) refl;
+      same = rw (remaining_kept x xs e) refl;
       follow = refl;
     }
-    go false e ih = stands_later x xs false e (ih (omega (arith, ap length (remaining-skipped x xs e))))
+    go false e ih = stands_later x xs false e (ih (omega (arith, ap length (remaining_skipped x xs e))))
 place_stands (x ∷ xs) (suc i) l = go (remains x) refl (place_stands xs)
   where
     go : (b : Bool) → remains x ≡ b → ((j : ℕ) → j < length (remaining xs) → Stands xs j (place_in xs j))
         → Stands (x ∷ xs) (suc i) (suc (place_in xs (cond b i (suc i))))
-    go true e ih = stands_later x xs true e (ih i (omega (arith, ap length (remaining-kept x xs e))))
-    go false e ih = stands_later x xs false e (ih (suc i) (omega (arith, ap length (remaining-skipped x xs e))))
+    go true e ih = stands_later x xs true e (ih i (omega (arith, ap length (remaining_kept x xs e))))
+    go false e ih = stands_later x xs false e (ih (suc i) (omega (arith, ap length (remaining_skipped x xs e))))

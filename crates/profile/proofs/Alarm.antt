@@ -11,7 +11,7 @@ use lib.ListN.{length, length-map}
 use borrow.Author.Tests.{le-ltb}
 use Rattle.answer.specs.Result.{accepted}
 use Rattle.lasso.specs.Lasso.{letter}
-use Rattle.lasso.proofs.Letters.{letter-round}
+use Rattle.lasso.proofs.Letters.{letter_round}
 use Rattle.formula.specs.Rule.{node_count, untils}
 use Rattle.formula.specs.Satisfaction.{Satisfies}
 use Rattle.term.specs.Term.{Term}
@@ -84,6 +84,6 @@ module _ (rule : List ℕ) (free : untils rule (node_count rule) ≡ []) where
         where
           go : AcceptingPass a stem cycle → ⊥
           go p =
-              let (at, run) = pass_endless (length stem) (length cycle) pos (letter stem cycle) (letter-round stem cycle) (numbered a)
+              let (at, run) = pass_endless (length stem) (length cycle) pos (letter stem cycle) (letter_round stem cycle) (numbered a)
               ((pass_iff a stem cycle).0 p) in
               raised (at i) (path_current a (letter stem cycle) at run.begins run.steps i)

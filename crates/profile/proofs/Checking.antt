@@ -8,11 +8,11 @@ use lib.ListN.{length}
 use lib.Dec.{eqb}
 use borrow.Author.Tests.{eq-eqb, ne_eqb, not-true}
 use Rattle.answer.specs.Result.{Result, accepted, refused, and_then, Check, fine}
-use Rattle.answer.proofs.Lowest.{lowest_each, fine-first, fine_second}
-use Rattle.answer.proofs.Results.{require-fine, never_both, then_accepted}
+use Rattle.answer.proofs.Lowest.{lowest_each, fine_first, fine_second}
+use Rattle.answer.proofs.Results.{require_fine, never_both, then_accepted}
 use Rattle.formula.specs.Rule.{node_count, kind_at, untils, until_check, checked}
 use Rattle.normalform.specs.NormalForm.{normal_form, written_checked}
-use Rattle.normalform.proofs.Passes.{normal_form-checked}
+use Rattle.normalform.proofs.Passes.{normal_form_checked}
 use Rattle.automaton.specs.Automaton.{Automaton}
 use Rattle.automaton.specs.Tables.{Counts, Outcome, outcome, table_check, lengths_fit, TablesRoom}
 use Rattle.automaton.proofs.Room.{tables_short, fine_room}
@@ -28,8 +28,8 @@ use Rattle.profile.specs.Memory.{form_translates}
 
 -- ---- one node
 module _ (form : List ℕ) (n kind : ℕ) (is : kind ≡ kind_at form n) where
-  pub node-until : kind ≡ 7 → refused 29 n ≡ until_at form n
-  node-until e = rw (← is, eq-eqb kind 7 e) refl
+  pub node_until : kind ≡ 7 → refused 29 n ≡ until_at form n
+  node_until e = rw (← is, eq-eqb kind 7 e) refl
 
   pub node_free : (kind ≡ 7 → ⊥) → fine ≡ until_at form n
   node_free d = rw (← is, ne_eqb kind 7 d) refl
@@ -44,7 +44,7 @@ none_below form (suc n) h =
 none_of : (form : List ℕ) → no_untils form ≡ fine → untils form (node_count form) ≡ []
 unfolding no_untils
 none_of form e =
-    none_below form (node_count form) (λ k l. require-fine _ 29 k (lowest_each (until_at form) (node_count form) e k l))
+    none_below form (node_count form) (λ k l. require_fine _ 29 k (lowest_each (until_at form) (node_count form) e k l))
 
 -- a rule that the profile takes: its automaton is that of a normal form with no until
 module _ (rule : List ℕ) where
@@ -73,7 +73,7 @@ module _ (rule : List ℕ) where
   unfolding profile_checked written_checked
   written_passed e =
       let (form, normal, rest) = then_accepted (normal_form rule) _ e in
-      rw normal (fine-first (until_check form) (no_untils form) rest)
+      rw normal (fine_first (until_check form) (no_untils form) rest)
 
   -- what translate refuses before 20, the profile refuses alike
   written_refused : {number place : ℕ} → written_checked rule ≡ refused number place
@@ -112,11 +112,11 @@ module _ (rule s t i : List ℕ) where
     unfolding profile_translated profile_conflicts
     form_refused e = rw (fine_room s t i room, written_refused rule e)
 
-    pub form-translated : {done : Carried} (form : List ℕ) → normal_form rule ≡ accepted form → checked form ≡ fine
+    pub form_translated : {done : Carried} (form : List ℕ) → normal_form rule ≡ accepted form → checked form ≡ fine
         → done ≡ form_translates form s t i → done ≡ profile_translates rule s t i
     unfolding profile_translated profile_conflicts profile_checked written_translation written_conflicts
-    form-translated form made passes e =
-        e ∙ rw (fine_room s t i room, made, sym (normal_form-checked rule form made) ∙ passes)
+    form_translated form made passes e =
+        e ∙ rw (fine_room s t i room, made, sym (normal_form_checked rule form made) ∙ passes)
 
   -- what an accepted answer says: the profile takes the rule, and translate accepts it alike
   pub profile_accepted : (s' t' i' : List ℕ) (c : Counts) → outcome (accepted c) s' t' i' ≡ profile_translated rule s t i
@@ -130,5 +130,5 @@ module _ (rule s t i : List ℕ) where
           × (outcome (accepted c) s' t' i' ≡ unless (and_then (table_check s t i) (λ _. written_checked rule)) (stored (written_translation rule) s t i) s t i)
       go (accepted u) known is =
           let passed = fine_second (table_check s t i) (profile_checked rule) known in
-          (passed, is ∙ rw (fine-first (table_check s t i) (profile_checked rule) known, written_passed rule passed) refl)
+          (passed, is ∙ rw (fine_first (table_check s t i) (profile_checked rule) known, written_passed rule passed) refl)
       go (refused number place) known is = never_both (sym (ap (λ (o : Outcome). o.answer) is))

@@ -73,7 +73,7 @@ module _ (w : ℕ → ℕ) {X : Type 0} {automaton : AutomatonOver X} {numbered 
   good : (i : ℕ) → i ≤ s + N * n → Good i
   good zero l = record {
     valid = numbering.initial_valid (at 0) begins;
-    accepts = first (means (at 0)) (numbering.initial-means (at 0) begins);
+    accepts = first (means (at 0)) (numbering.initial_means (at 0) begins);
   }
   good (suc i) l = on (good i (omega arith))
     where
@@ -101,5 +101,5 @@ module _ (w : ℕ → ℕ) {X : Type 0} {automaton : AutomatonOver X} {numbered 
         steps = λ i l. steps i (omega (arith, inside b y));
         same = e;
         accepts = let g = good (s + a * n) (inside a (omega arith)) in
-            (s + a * n, omega arith, omega (arith, mul-le-mul_right n (let l : a ≤ b = omega arith in l)), numbering.accepting-has (at (s + a * n)) g.valid g.accepts);
+            (s + a * n, omega arith, omega (arith, mul-le-mul_right n (let l : a ≤ b = omega arith in l)), numbering.accepting_has (at (s + a * n)) g.valid g.accepts);
       }

@@ -48,12 +48,12 @@ left_alike stem cycle otherStem otherCycle work (refused number place) (refused 
 
 module _ (number : ℕ) (image stem cycle work otherImage otherStem otherCycle : List ℕ) where
   -- R-12, sentence 2: images, lassos and working bytes with the same verdict from judging give the same 32 bytes
-  pub same-verdict-same_report : (otherWork : List ℕ)
+  pub same_verdict_same_report : (otherWork : List ℕ)
       → SameVerdict (judged image stem cycle work).answer (judged otherImage otherStem otherCycle otherWork).answer
       → (reported number image stem cycle work).bytes
       ≡ (reported number otherImage otherStem otherCycle otherWork).bytes
   unfolding reported
-  same-verdict-same_report otherWork alike = ap (composed number) (byte_alike alike)
+  same_verdict_same_report otherWork alike = ap (composed number) (byte_alike alike)
 
   -- and where the same working bytes are lent, these are left the same as well
   pub same-verdict-all-same :
@@ -61,7 +61,7 @@ module _ (number : ℕ) (image stem cycle work otherImage otherStem otherCycle :
       → reported number image stem cycle work ≡ reported number otherImage otherStem otherCycle work
   unfolding reported judged
   same-verdict-all-same alike =
-      ap₂ reporting (same-verdict-same_report work alike)
+      ap₂ reporting (same_verdict_same_report work alike)
       (left_alike stem cycle otherStem otherCycle work (judgeable image stem cycle work)
       (judgeable otherImage otherStem otherCycle work) alike)
 

@@ -17,29 +17,29 @@ use Rattle.answer.specs.Bytes.{number_at}
 use Rattle.image.specs.Image.{initial_at}
 use Rattle.image.specs.Reader.{counts_at, transitions_from, numbers_from, automaton_from}
 use Rattle.image.specs.Lookup.{image_automaton, record_at, records_at, transition_count_of, Readable}
-use Rattle.image.proofs.Lookup.{automaton-transitions, records_more, numbers_more, initial_offset}
+use Rattle.image.proofs.Lookup.{automaton_transitions, records_more, numbers_more, initial_offset}
 use Rattle.image.proofs.Lookup.{target_inside, step_target}
 use Rattle.rest.specs.Search.{Point, point, visit, visit_all, read_targets, starts}
 use Rattle.rest.specs.Memory.{Buffers, buffers, Shows, Ready, Fills}
 use Rattle.rest.proofs.Points.{add_if, targets_in}
-use Rattle.rest.proofs.Marking.{visit_old, shows-met, shows_new, shows_full}
+use Rattle.rest.proofs.Marking.{visit_old, shows_met, shows_new, shows_full}
 
-visit-append : (xs ys met : List Point) → visit_all (xs ++ ys) met ≡ visit_all ys (visit_all xs met)
+visit_append : (xs ys met : List Point) → visit_all (xs ++ ys) met ≡ visit_all ys (visit_all xs met)
 unfolding visit_all
-visit-append [] ys met = refl
-visit-append (x ∷ xs) ys met = visit-append xs ys (visit x met)
+visit_append [] ys met = refl
+visit_append (x ∷ xs) ys met = visit_append xs ys (visit x met)
 
-visit-none : (xs met : List Point) → All (λ x. visit x met ≡ met) xs → visit_all xs met ≡ met
+visit_none : (xs met : List Point) → All (λ x. visit x met ≡ met) xs → visit_all xs met ≡ met
 unfolding visit_all
-visit-none [] met all = refl
-visit-none (x ∷ xs) met all =
-    ap (visit_all xs) (all x (inl refl)) ∙ visit-none xs met (λ y h. all y (inr h))
+visit_none [] met all = refl
+visit_none (x ∷ xs) met all =
+    ap (visit_all xs) (all x (inl refl)) ∙ visit_none xs met (λ y h. all y (inr h))
 
-targets-append : (x p : ℕ) (ts us : List Transition)
+targets_append : (x p : ℕ) (ts us : List Transition)
     → read_targets x p (ts ++ us) ≡ read_targets x p ts ++ read_targets x p us
 unfolding read_targets
-targets-append x p [] us = refl
-targets-append x p (t ∷ ts) us = go (reads t x) (targets-append x p ts us)
+targets_append x p [] us = refl
+targets_append x p (t ∷ ts) us = go (reads t x) (targets_append x p ts us)
   where
     go : (b : Bool) → read_targets x p (ts ++ us) ≡ read_targets x p ts ++ read_targets x p us
         → add_if b (point p t.target) (read_targets x p (ts ++ us))
@@ -55,7 +55,7 @@ module _ {n p : ℕ} {b : Buffers} {q : ℕ} (state : q < n) where
   -- the byte of the state is 1, or it is set and the state is listed
   pub fills_met : get_or b.work (max_states * p + q) 0 ≡ 1 → Fills n p b b (point p q ∷ [])
   unfolding visit_all
-  fills_met e = record { fills = λ older met h. shows-met h q state e }
+  fills_met e = record { fills = λ older met h. shows_met h q state e }
 
   pub fills_new : (get_or b.work (max_states * p + q) 0 ≡ 1 → ⊥)
       → Fills n p b (buffers (set b.work (max_states * p + q) 1) (set b.list b.count q) (b.count + 1))
@@ -74,7 +74,7 @@ module _ {n p : ℕ} {b c : Buffers} {xs : List Point} (first : Fills n p b c xs
   fills_on : {d : Buffers} {ys : List Point} → Fills n p c d ys → Fills n p b d (xs ++ ys)
   fills_on {d} {ys} then = record {
     fills = λ older met h.
-        subst (Shows n p d older) (sym (visit-append xs ys met))
+        subst (Shows n p d older) (sym (visit_append xs ys met))
         (then.fills older (visit_all xs met) (first.fills older met h));
   }
 
@@ -82,7 +82,7 @@ module _ {n p : ℕ} {b c : Buffers} {xs : List Point} (first : Fills n p b c xs
 fills_full : {n p : ℕ} {b : Buffers} {xs : List Point} → n ≤ b.count
     → ((x : Point) → In x xs → (x.position ≡ p) × (x.state < n)) → Fills n p b b xs
 fills_full {n} {p} {b} {xs} full inside = record {
-  fills = λ older met h. subst (Shows n p b older) (sym (visit-none xs met (λ x m. old older met h x (inside x m)))) h;
+  fills = λ older met h. subst (Shows n p b older) (sym (visit_none xs met (λ x m. old older met h x (inside x m)))) h;
 }
   where
     old : (older met : List Point) → Shows n p b older met → (x : Point) → (x.position ≡ p) × (x.state < n)
@@ -133,7 +133,7 @@ module _ {n p turns : ℕ} {b : Buffers} (image : List ℕ) (at x : ℕ) where
       let new : List Point = read_targets x p (record_at image (at + 4 * i) ∷ []) in
       let more : led_to image at x p (i + 1) ≡ led_to image at x p i ++ new =
       ap (led_to image at x p) (add-one i) ∙ ap (read_targets x p) (records_more i at image)
-      ∙ targets-append x p (transitions_from i (drop at image)) (record_at image (at + 4 * i) ∷ []) in
+      ∙ targets_append x p (transitions_from i (drop at image)) (record_at image (at + 4 * i) ∷ []) in
       subst (λ (ys : List Point). Filling n p turns b d ys (i + 1)) (sym more) (filling_steps i lt inv e f)
 
 -- a record of state q leads to a state
@@ -153,7 +153,7 @@ follows_end {n} {p} {turns} {at} {b} {c} image q x i lq ea et le inv =
     let e : i ≡ transition_count_of image q = omega (arith, inv.within) in
     let same : led_to image at x p i ≡ targets_of image q x p =
     (λ j. read_targets x p (transitions_from (e j) (drop (ea j) image)))
-    ∙ ap (read_targets x p) (sym (automaton-transitions image q lq)) in
+    ∙ ap (read_targets x p) (sym (automaton_transitions image q lq)) in
     subst (Fills n p b c) same inv.met
 
 -- all states are listed already

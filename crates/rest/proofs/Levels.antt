@@ -19,14 +19,14 @@ use Rattle.automaton.proofs.InRange.{InRange}
 use Rattle.image.specs.Reader.{counts_at}
 use Rattle.image.specs.Image.{rest_at}
 use Rattle.image.specs.Lookup.{image_automaton, Readable}
-use Rattle.answer.proofs.Zeros.{zeros-at}
+use Rattle.answer.proofs.Zeros.{zeros_at}
 use Rattle.rest.specs.Search.{Point, point, visit_all, read_targets, onward, starts}
 use Rattle.rest.specs.Rest.{resting, rest_taken, pairs_taken}
 use Rattle.rest.specs.Memory.{Marked, Marks, Buffers, buffers, Shows, Ready, Fills}
 use Rattle.rest.specs.Memory.{Searching, ReachedMarked, Before, Ended}
 use Rattle.rest.proofs.Queue.{at}
 use Rattle.rest.proofs.Marking.{shows_long}
-use Rattle.rest.proofs.Searching.{searching_begins, searching_few, searching_goes, rest-taken, rest_pairs}
+use Rattle.rest.proofs.Searching.{searching_begins, searching_few, searching_goes, rest_taken_lem, rest_pairs}
 use Rattle.rest.proofs.Searching.{searched_all, searched_calm, searched_pairs}
 
 -- ---- the byte of a state
@@ -43,8 +43,8 @@ module _ (image : List ℕ) (fine : Readable image) (q : ℕ) (lt : q < (counts_
   abbrev rests : Bool
   rests = at_rest q (get_or (image_automaton image).states q no_state)
 
-  pub byte-rests : get_or image (rest_at + 4 * q) 0 ≡ 1 → rests ≡ true
-  byte-rests e = one_true rests (sym (fine.rests q lt) ∙ e)
+  pub byte_rests : get_or image (rest_at + 4 * q) 0 ≡ 1 → rests ≡ true
+  byte_rests e = one_true rests (sym (fine.rests q lt) ∙ e)
 
   pub byte_calm : (get_or image (rest_at + 4 * q) 0 ≡ 1 → ⊥) → rests ≡ false
   byte_calm e = other_false rests (λ f. e (fine.rests q lt ∙ f))
@@ -159,8 +159,8 @@ module _ (a : Automaton) (stem cycle : List ℕ) where
         next_inside : taken + i < length t.met
         next_inside = omega (arith, t.long, short)
 
-        next-point : at t.met (taken + i) ≡ point p q
-        next-point =
+        next_point : at t.met (taken + i) ≡ point p q
+        next_point =
             ap (λ (xs : List Point). at xs (taken + i)) t.shows.listed
             ∙ get_or-append t.older newer (point 0 0) (taken + i) (omega (arith, t.long)) ∙ t.queue i lt
             ∙ ap (point p) (sym is)
@@ -168,12 +168,12 @@ module _ (a : Automaton) (stem cycle : List ℕ) where
         -- it is at rest
         module _ (e : at_rest q (get_or a.states q no_state) ≡ true) where
           here : resting a stem cycle (at t.met (taken + i)) ≡ true
-          here = ap (resting a stem cycle) next-point ∙ e
+          here = ap (resting a stem cycle) next_point ∙ e
 
           pub taking_rests : {total : ℕ} {c : Buffers} → Ended a stem cycle n p total true (taken + i + 1) c
           taking_rests = record {
             rested = λ r. (
-              rest-taken a stem cycle t.searching next_inside here,
+              rest_taken_lem a stem cycle t.searching next_inside here,
               add-one (taken + i) ∙ rest_pairs a stem cycle t.searching next_inside here,
             );
             goes = λ r. absurd (true≢false r);
@@ -187,9 +187,9 @@ module _ (a : Automaton) (stem cycle : List ℕ) where
           goes : Searching a stem cycle (suc (taken + i)) more
           unfolding more
           goes =
-              let calm = ap (resting a stem cycle) next-point ∙ e in
+              let calm = ap (resting a stem cycle) next_point ∙ e in
               let k = suc (taken + i) in
-              subst (λ (x : Point). Searching a stem cycle k (visit_all (onward a stem cycle x) t.met)) next-point
+              subst (λ (x : Point). Searching a stem cycle k (visit_all (onward a stem cycle x) t.met)) next_point
               (searching_goes a stem cycle t.searching range pos next_inside calm)
 
           pub taking_steps : {c : Buffers} {x next : ℕ} → length c.work ≡ length b.work
@@ -216,7 +216,7 @@ blank_marks {work} e p row = record {
   marked = λ q lq h. absurd h;
   only = λ q lq h.
       let zero : get_or work (max_states * p + q) 0 ≡ 0 =
-      ap (λ (xs : List ℕ). get_or xs (max_states * p + q) 0) e ∙ zeros-at (length work) (max_states * p + q) in
+      ap (λ (xs : List ℕ). get_or xs (max_states * p + q) 0) e ∙ zeros_at (length work) (max_states * p + q) in
       absurd (omega arith);
 }
 

@@ -47,8 +47,8 @@ module _ {n p : ℕ} {b : Buffers} {older met : List Point} (shows : Shows n p b
   shows_long = length-take-le b.count b.list (omega (arith, shows_few, shows.small, shows.size))
 
   -- a state that is listed was met
-  listed-met : (i : ℕ) → i < b.count → In (point p (get_or b.list i 0)) met
-  listed-met i lt =
+  listed_met : (i : ℕ) → i < b.count → In (point p (get_or b.list i 0)) met
+  listed_met i lt =
       let here = at_in 0 (take b.count b.list) i (omega (arith, shows_long)) in
       let among = subst (λ (q : ℕ). In q (take b.count b.list)) (get_or-take b.count b.list i 0 lt) here in
       let behind = in_map (point p) (get_or b.list i 0) (take b.count b.list) among in
@@ -81,7 +81,7 @@ module _ {n p : ℕ} {b : Buffers} {older met : List Point} (shows : Shows n p b
           go (yes l) = absurd (shows.apart i j less (omega arith) (sym (early i (omega arith)) ∙ e ∙ early j l))
           go (no l) =
               let same : get_or b.list i 0 ≡ q = sym (early i (omega arith)) ∙ e ∙ late j (omega arith) in
-              subst (λ (k : ℕ). In (point p k) met) same (listed-met i (omega arith))
+              subst (λ (k : ℕ). In (point p k) met) same (listed_met i (omega arith))
 
   module _ (q : ℕ) (state : q < n) where
     abbrev place : ℕ
@@ -91,8 +91,8 @@ module _ {n p : ℕ} {b : Buffers} {older met : List Point} (shows : Shows n p b
     fits = omega (arith, shows.bytes, shows.small)
 
     -- the byte is 1: nothing changes
-    pub shows-met : get_or b.work place 0 ≡ 1 → Shows n p b older (visit (point p q) met)
-    shows-met e =
+    pub shows_met : get_or b.work place 0 ≡ 1 → Shows n p b older (visit (point p q) met)
+    shows_met e =
         let there = (shows.marks p shows.bytes).only q (omega (arith, shows.small)) e in
         subst (Shows n p b older) (sym (visit_old (point p q) met there)) shows
 
@@ -131,7 +131,7 @@ module _ {n p : ℕ} {b : Buffers} {older met : List Point} (shows : Shows n p b
           go : Dec (j ≡ b.count) → ⊥
           go (yes f) =
               let same : get_or b.list i 0 ≡ q = sym (old i (omega arith)) ∙ e ∙ last j f in
-              new (subst (λ (k : ℕ). In (point p k) met) same (listed-met i (omega arith)))
+              new (subst (λ (k : ℕ). In (point p k) met) same (listed_met i (omega arith)))
           go (no f) = shows.apart i j lt (omega arith) (sym (old i (omega arith)) ∙ e ∙ old j (omega arith))
 
       below : (i : ℕ) → i < suc b.count → get_or list i 0 < n

@@ -10,7 +10,7 @@ use Rattle.automaton.specs.Limits.{max_states}
 use Rattle.image.specs.Image.{contents_bytes}
 use Rattle.image.specs.Reader.{counts_at}
 use Rattle.image.specs.Lookup.{records_at, transition_count_of, Readable}
-use Rattle.image.proofs.Lookup.{records_begin, records-next}
+use Rattle.image.proofs.Lookup.{records_begin, records_next}
 use Rattle.rest.specs.Memory.{Placed}
 
 -- the loop over the states that stands at q, with the records of state q at byte `at`
@@ -36,7 +36,7 @@ module _ (image : List ℕ) where
   placing_steps {places} {at} q fine lt er inv = record {
     within = omega arith;
     size = length-set places q at ∙ inv.size;
-    here = records-next image q inv.here er;
+    here = records_next image q inv.here er;
     done = λ p l. pick p l (ℕ_discrete p q);
   }
     where

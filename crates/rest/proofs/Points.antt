@@ -12,7 +12,7 @@ use lib.ListN.{get_or, length}
 use Rattle.lasso.specs.Lasso.{letter, after}
 use Rattle.automaton.specs.Automaton.{Transition, Automaton, no_state, reads, Step}
 use Rattle.sets.specs.Sets.{In}
-use Rattle.lasso.proofs.Letters.{letter-round, after_inside, after_last, after_small}
+use Rattle.lasso.proofs.Letters.{letter_round, after_inside, after_last, after_small}
 use Rattle.sets.proofs.Members.{All}
 use Rattle.automaton.proofs.InRange.{InRange}
 use Rattle.rest.specs.Search.{Point, point, read_targets, onward}
@@ -37,17 +37,17 @@ module _ (stem cycle : List ℕ) where
 
   -- the position n letters on is the same
   module _ (pos : 0 < n) where
-    onto-round : (d : ℕ) → onto (s + d + n) ≡ onto (s + d)
+    onto_round : (d : ℕ) → onto (s + d + n) ≡ onto (s + d)
     unfolding onto
-    onto-round zero =
+    onto_round zero =
         let z : s + 0 + n ≡ suc (s + (n - 1)) = omega arith in
         let y : s + 0 ≡ s = omega arith in
         ap onto z ∙ ap (after stem cycle) (onto_early (s + (n - 1)) (omega arith))
         ∙ after_last stem cycle (s + (n - 1)) (omega arith) ∙ sym (ap onto y ∙ onto_early s (omega arith))
-    onto-round (suc d) =
+    onto_round (suc d) =
         let z : s + suc d + n ≡ suc (s + d + n) = omega arith in
         let y : s + suc d ≡ suc (s + d) = omega arith in
-        ap onto z ∙ ap (after stem cycle) (onto-round d) ∙ sym (ap onto y)
+        ap onto z ∙ ap (after stem cycle) (onto_round d) ∙ sym (ap onto y)
 
     -- each pass begins at the cycle's first letter
     pub onto_pass : (k : ℕ) → onto (s + k * n) ≡ s
@@ -56,12 +56,12 @@ module _ (stem cycle : List ℕ) where
         ap onto z ∙ onto_early s (omega arith)
     onto_pass (suc k) =
         let z : s + suc k * n ≡ s + k * n + n = omega (arith, suc-mul k n) in
-        ap onto z ∙ onto-round (k * n) ∙ onto_pass k
+        ap onto z ∙ onto_round (k * n) ∙ onto_pass k
 
     -- and the letter there is the word's
-    letter-below : (b i : ℕ) → i < b → letter stem cycle (onto i) ≡ letter stem cycle i
-    letter-below zero i l = absurd (omega arith)
-    letter-below (suc b) i l = go (dec_lt i (s + n)) (letter-below b (i - n))
+    letter_below : (b i : ℕ) → i < b → letter stem cycle (onto i) ≡ letter stem cycle i
+    letter_below zero i l = absurd (omega arith)
+    letter_below (suc b) i l = go (dec_lt i (s + n)) (letter_below b (i - n))
       where
         go : Dec (i < s + n) → (i - n < b → letter stem cycle (onto (i - n)) ≡ letter stem cycle (i - n))
             → letter stem cycle (onto i) ≡ letter stem cycle i
@@ -70,11 +70,11 @@ module _ (stem cycle : List ℕ) where
             let z : i ≡ s + (i - n - s) + n = omega arith in
             let y : s + (i - n - s) ≡ i - n = omega arith in
             let x : i ≡ i - n + n = omega arith in
-            ap (letter stem cycle) (ap onto z ∙ onto-round (i - n - s) ∙ ap onto y) ∙ ih (omega arith)
-            ∙ sym (letter-round stem cycle (i - n) (omega arith)) ∙ sym (ap (letter stem cycle) x)
+            ap (letter stem cycle) (ap onto z ∙ onto_round (i - n - s) ∙ ap onto y) ∙ ih (omega arith)
+            ∙ sym (letter_round stem cycle (i - n) (omega arith)) ∙ sym (ap (letter stem cycle) x)
 
-    pub letter-onto : (i : ℕ) → letter stem cycle (onto i) ≡ letter stem cycle i
-    letter-onto i = letter-below (suc i) i (omega arith)
+    pub letter_onto : (i : ℕ) → letter stem cycle (onto i) ≡ letter stem cycle i
+    letter_onto i = letter_below (suc i) i (omega arith)
 
 -- ---- what follows from a point
 
@@ -131,8 +131,8 @@ module _ (a : Automaton) (stem cycle : List ℕ) where
       (in_targets (letter stem cycle p) (after stem cycle p) (get_or a.states q no_state).transitions t m reads-it)
 
 -- what follows from a point is within bounds
-pub onward-within : (a : Automaton) (stem cycle : List ℕ) → InRange a → 0 < length cycle → (x : Point)
+pub onward_within : (a : Automaton) (stem cycle : List ℕ) → InRange a → 0 < length cycle → (x : Point)
     → All (Within (length a.states) (length stem + length cycle)) (onward a stem cycle x)
-onward-within a stem cycle range pos x z h =
+onward_within a stem cycle range pos x z h =
     let (p, st) = onward_step a stem cycle x z h in
     record { position = omega (arith, after_small stem cycle pos x.position); state = range.targets _ _ _ st }

@@ -87,9 +87,9 @@ met_keeps {xs} {met} {more} m x h =
     let (i, l, q) = in_at (point 0 0) x met h in
     subst (λ (y : Point). In y more) (m.there i l ∙ q) (at_in (point 0 0) more i (omega (arith, m.longer)))
 
-met-one : (x : Point) (met : List Point) → Met (x ∷ []) met (visit x met)
+met_one : (x : Point) (met : List Point) → Met (x ∷ []) met (visit x met)
 unfolding visit
-met-one x met = go (member x met) refl
+met_one x met = go (member x met) refl
   where
     go : (b : Bool) → member x met ≡ b → Met (x ∷ []) met (elim b [ true ↦ met | false ↦ met ++ (x ∷ []) ])
     go true q = record {
@@ -137,7 +137,7 @@ met_all [] met = record {
   unique = λ u. u;
   from = λ y h. inl h;
 }
-met_all (x ∷ xs) met = met_on x (met-one x met) (met_all xs (visit x met))
+met_all (x ∷ xs) met = met_on x (met_one x met) (met_all xs (visit x met))
 
 -- ---- at most as many as there are
 
@@ -156,14 +156,14 @@ module _ (N L : ℕ) where
       let h : suc x.position * N ≤ L * N = mul-le-mul_right N w.position in
       omega (arith, suc-mul x.position N, mul_comm N L, w.state)
 
-  code-state : (x : Point) → Within N L x → code x % N ≡ x.state
+  code_state : (x : Point) → Within N L x → code x % N ≡ x.state
   unfolding code
-  code-state x w = mul-add-mod_self_right x.position N x.state ∙ mod-eq_of_lt w.state
+  code_state x w = mul-add-mod_self_right x.position N x.state ∙ mod-eq_of_lt w.state
 
   code_same : (x y : Point) → Within N L x → Within N L y → code x ≡ code y → x ≡ y
   unfolding code
   code_same x y v w e =
-      let s : x.state ≡ y.state = sym (code-state x v) ∙ ap (λ (k : ℕ). k % N) e ∙ code-state y w in
+      let s : x.state ≡ y.state = sym (code_state x v) ∙ ap (λ (k : ℕ). k % N) e ∙ code_state y w in
       let p : x.position ≡ y.position =
       eq_of_mul-eq-mul_right N (omega (arith, v.state)) x.position y.position (omega arith) in
       λ i. record { position = p i; state = s i }

@@ -18,7 +18,7 @@ use Rattle.rest.specs.Search.{Point, point, visit_all, onward, reach, reached_fr
 use Rattle.rest.specs.Rest.{up_to, resting, taken, rest_taken, pairs_taken}
 use Rattle.rest.specs.Memory.{Searching}
 use Rattle.rest.proofs.Queue.{at, Unique, met_all, Within, few_points}
-use Rattle.rest.proofs.Points.{onward-within}
+use Rattle.rest.proofs.Points.{onward_within}
 use Rattle.rest.proofs.Reached.{Reached, search_reaches}
 
 -- ---- a list up to the first that passes a test
@@ -44,10 +44,10 @@ module _ (test : Point → Bool) where
       cut_more x xs (calm 0 (omega arith)) (cut_at xs k (omega arith) (λ i m. calm (suc i) (omega arith)) e)
 
   -- none passes
-  cut-none : (xs : List Point) → ((i : ℕ) → i < length xs → test (at xs i) ≡ false) → Cut xs false (length xs)
+  cut_none : (xs : List Point) → ((i : ℕ) → i < length xs → test (at xs i) ≡ false) → Cut xs false (length xs)
   unfolding up_to any
-  cut-none [] calm = record { some = refl; many = refl }
-  cut-none (x ∷ xs) calm = cut_more x xs (calm 0 (omega arith)) (cut-none xs (λ i m. calm (suc i) (omega arith)))
+  cut_none [] calm = record { some = refl; many = refl }
+  cut_none (x ∷ xs) calm = cut_more x xs (calm 0 (omega arith)) (cut_none xs (λ i m. calm (suc i) (omega arith)))
 
   pub cut_short : (xs : List Point) → length (up_to test xs) ≤ length xs
   unfolding up_to
@@ -122,7 +122,7 @@ module _ (a : Automaton) (stem cycle : List ℕ) where
 
       all : Reached a stem cycle Inside (starts a stem cycle) reached
       all =
-          search_reaches a stem cycle Inside (λ x w. onward-within a stem cycle range pos x) limit few
+          search_reaches a stem cycle Inside (λ x w. onward_within a stem cycle range pos x) limit few
           (starts a stem cycle) limit (omega arith) begins
 
   -- ---- the search to rest
@@ -152,7 +152,7 @@ module _ (a : Automaton) (stem cycle : List ℕ) where
           let size : length met ≡ k = omega (arith, s.within) in
           subst (λ (xs : List Point). Cut (resting a stem cycle) xs false k) searched_all
           (subst (Cut (resting a stem cycle) met false) size
-          (cut-none (resting a stem cycle) met (λ i l. s.calm i (omega arith))))
+          (cut_none (resting a stem cycle) met (λ i l. s.calm i (omega arith))))
 
       pub searched_calm : false ≡ rest_taken a stem cycle
       unfolding rest_taken taken
@@ -165,19 +165,19 @@ module _ (a : Automaton) (stem cycle : List ℕ) where
     module _ (l : k < length met) where
       -- the next point is at rest: the search ends with it
       module _ (e : resting a stem cycle (at met k) ≡ true) where
-        cut-here : Cut (resting a stem cycle) reached true (suc k)
-        cut-here =
+        cut_here : Cut (resting a stem cycle) reached true (suc k)
+        cut_here =
             cut_at (resting a stem cycle) reached k (omega (arith, front.longer))
             (λ i m. ap (resting a stem cycle) (front.there i (omega arith)) ∙ s.calm i m)
             (ap (resting a stem cycle) (front.there k l) ∙ e)
 
-        pub rest-taken : true ≡ rest_taken a stem cycle
+        pub rest_taken_lem : true ≡ rest_taken a stem cycle
         unfolding rest_taken taken
-        rest-taken = sym cut-here.some
+        rest_taken_lem = sym cut_here.some
 
         pub rest_pairs : suc k ≡ pairs_taken a stem cycle
         unfolding pairs_taken taken
-        rest_pairs = sym cut-here.many
+        rest_pairs = sym cut_here.many
 
     module _ (range : InRange a) (pos : 0 < length cycle) where
       -- few points were met

@@ -12,7 +12,7 @@ use lib.Dec.{eqb}
 use borrow.Author.Tests.{eqb-true, eq-eqb}
 use Rattle.lasso.specs.Lasso.{letter, after}
 use Rattle.lasso.proofs.Letters.{after_small}
-use Rattle.rest.proofs.Points.{onto, letter-onto}
+use Rattle.rest.proofs.Points.{onto, letter_onto}
 use Rattle.sameword.specs.Words.{agree}
 
 module _ (word other : ℕ → ℕ) where
@@ -58,7 +58,7 @@ module _ (stem cycle : List ℕ) {at : ℕ} (i : ℕ) (stands : at ≡ onto stem
         go (suc i) = after_small stem cycle some (onto stem cycle i)
 
     pub stands_letter : {x : ℕ} → x ≡ letter stem cycle at → x ≡ letter stem cycle i
-    stands_letter e = e ∙ ap (letter stem cycle) stands ∙ letter-onto stem cycle some i
+    stands_letter e = e ∙ ap (letter stem cycle) stands ∙ letter_onto stem cycle some i
 
 -- ---- two that are followed together
 

@@ -44,10 +44,10 @@ module _ (stem cycle otherStem otherCycle : List ℕ) where
       (lasso_some stem cycle first) (lasso_some otherStem otherCycle second)))
 
   -- and where the answer is yes or no, neither is refused
-  pub compared-fine : {b : Bool} → compared stem cycle otherStem otherCycle ≡ accepted b
+  pub compared_fine : {b : Bool} → compared stem cycle otherStem otherCycle ≡ accepted b
       → (fine ≡ lasso_check stem cycle) × (fine ≡ lasso_check otherStem otherCycle)
   unfolding compared lassos_check
-  compared-fine e =
+  compared_fine e =
       let (_, checked, _) = then_accepted (lassos_check stem cycle otherStem otherCycle) _ e in
       let (_, first, second) = then_accepted (lasso_check stem cycle) _ checked in
       (sym first, second_fine (lasso_check otherStem otherCycle) second)

@@ -9,7 +9,7 @@ use native.Mathlib.Omega.{arith}
 use native.Mathlib.Decide.{dec_lt}
 use lib.ListN.{length}
 use Rattle.lasso.specs.Lasso.{letter}
-use Rattle.lasso.proofs.Letters.{letter-round}
+use Rattle.lasso.proofs.Letters.{letter_round}
 use Rattle.sameword.specs.Words.{agree, SameWord, telling, words_agree}
 use Rattle.sameword.proofs.Agreement.{agree_each, each_agree}
 
@@ -19,10 +19,10 @@ module _ (word other : ℕ → ℕ) (s p q : ℕ) (some : 0 < p) (some-other : 0
     (first : (i : ℕ) → i < s + p + q → word i ≡ other i) where
   -- a later letter of one word is the one p before it, that of the other word there, the one q before that; and back
   -- in the other order
-  agree-below : (b i : ℕ) → i < b → word i ≡ other i
-  agree-below zero i lt = absurd (omega arith)
-  agree-below (suc b) i lt =
-      go (dec_lt i (s + p + q)) (agree-below b (i - p)) (agree-below b (i - p - q)) (agree-below b (i - q))
+  agree_below : (b i : ℕ) → i < b → word i ≡ other i
+  agree_below zero i lt = absurd (omega arith)
+  agree_below (suc b) i lt =
+      go (dec_lt i (s + p + q)) (agree_below b (i - p)) (agree_below b (i - p - q)) (agree_below b (i - q))
     where
       go : Dec (i < s + p + q) → (i - p < b → word (i - p) ≡ other (i - p))
           → (i - p - q < b → word (i - p - q) ≡ other (i - p - q)) → (i - q < b → word (i - q) ≡ other (i - q))
@@ -42,7 +42,7 @@ module _ (word other : ℕ → ℕ) (s p q : ℕ) (some : 0 < p) (some-other : 0
           ∙ sym (ap other back-q ∙ round-other (i - q) (omega arith))
 
   periods_agree : (i : ℕ) → word i ≡ other i
-  periods_agree i = agree-below (suc i) i (omega arith)
+  periods_agree i = agree_below (suc i) i (omega arith)
 
 module _ (stem cycle otherStem otherCycle : List ℕ) (some : 0 < length cycle) (some-other : 0 < length otherCycle) where
   -- R-6: the letters agree for ever as soon as they agree on the longer stem and on as many behind it as both cycles
@@ -52,8 +52,8 @@ module _ (stem cycle otherStem otherCycle : List ℕ) (some : 0 < length cycle) 
       → SameWord stem cycle otherStem otherCycle
   agree_for_ever first =
       periods_agree (letter stem cycle) (letter otherStem otherCycle) (max (length stem) (length otherStem))
-      (length cycle) (length otherCycle) some some-other (λ i le. letter-round stem cycle i (omega arith))
-      (λ i le. letter-round otherStem otherCycle i (omega arith)) first
+      (length cycle) (length otherCycle) some some-other (λ i le. letter_round stem cycle i (omega arith))
+      (λ i le. letter_round otherStem otherCycle i (omega arith)) first
 
   -- so those that are looked at agree exactly where all do
   pub words_agree_exactly : (words_agree stem cycle otherStem otherCycle ≡ true)

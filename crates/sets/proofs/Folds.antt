@@ -38,9 +38,9 @@ pub record Folding (F : List ℕ → List ℕ → List ℕ) (ts : List ℕ) (n :
   pub done : Updates before c after d (F (drop j (take n ts)))
 
 -- the elements from the one below j on
-next-drop : (ts : List ℕ) (n : ℕ) → n ≤ length ts → (j : ℕ) → 0 < j → j ≤ n
+next_drop : (ts : List ℕ) (n : ℕ) → n ≤ length ts → (j : ℕ) → 0 < j → j ≤ n
     → drop (j - 1) (take n ts) ≡ get_or ts (j - 1) 0 ∷ drop j (take n ts)
-next-drop ts n le j p within =
+next_drop ts n le j p within =
     let k : suc (j - 1) ≡ j = omega arith in
     drop-cons (take n ts) (j - 1) 0 (omega (arith, length-take-le n ts le))
     ∙ rw (get_or-take n ts (j - 1) 0 (omega arith), k)
@@ -59,7 +59,7 @@ module _ {F : List ℕ → List ℕ → List ℕ} {f : ℕ → List ℕ → List
   fold_steps j p inv size turn = record {
     within = omega arith;
     size = size ∙ inv.size;
-    done = record { updates = λ vs i. rw (next-drop ts n le j p inv.within, fold.cons) (turn.updates _ (inv.done.updates vs i)) };
+    done = record { updates = λ vs i. rw (next_drop ts n le j p inv.within, fold.cons) (turn.updates _ (inv.done.updates vs i)) };
   }
 
   pub fold_ends : (j : ℕ) → j ≤ 0 → {xs ys : List ℕ} {c d : ℕ} → Folding F ts n xs c ys d j
@@ -100,7 +100,7 @@ module _ {F : List ℕ → List ℕ → List ℕ} {f : ℕ → List ℕ → List
       → Joining F G ts n xs c zs r.count (bit_or r.conflicts e) (j - 1)
   joining_steps j p inv size turn = record {
     folding = fold_steps fold ts n le j p inv.folding size (record { updates = turn.updates });
-    gathered = rw (next-drop ts n le j p inv.folding.within, gather.cons, turn.conflicts, inv.gathered);
+    gathered = rw (next_drop ts n le j p inv.folding.within, gather.cons, turn.conflicts, inv.gathered);
   }
 
   pub joining_ends : (j : ℕ) → j ≤ 0 → {xs ys : List ℕ} {c d e : ℕ} → Joining F G ts n xs c ys d e j

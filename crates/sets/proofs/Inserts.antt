@@ -34,12 +34,12 @@ module _ {A : Type 0} (less : A → A → Bool) where
   from_less zero t d (x ∷ xs) lt e = rw e
   from_less (suc i) t d (x ∷ xs) lt e = ap {B = List A} (λ r. x ∷ r) (from_less i t d xs (le_of_suc-le-suc lt) e)
 
-  pub from-same : (i : ℕ) (t d : A) (xs : List A) → i < length xs → less t (get_or xs i d) ≡ false
+  pub from_same : (i : ℕ) (t d : A) (xs : List A) → i < length xs → less t (get_or xs i d) ≡ false
       → less (get_or xs i d) t ≡ false → from i t xs ≡ xs
   unfolding from insert
-  from-same i t d [] lt e f = absurd (not-suc-le-zero lt)
-  from-same zero t d (x ∷ xs) lt e f = rw (e, f)
-  from-same (suc i) t d (x ∷ xs) lt e f = ap {B = List A} (λ r. x ∷ r) (from-same i t d xs (le_of_suc-le-suc lt) e f)
+  from_same i t d [] lt e f = absurd (not-suc-le-zero lt)
+  from_same zero t d (x ∷ xs) lt e f = rw (e, f)
+  from_same (suc i) t d (x ∷ xs) lt e f = ap {B = List A} (λ r. x ∷ r) (from_same i t d xs (le_of_suc-le-suc lt) e f)
 
   pub from_end : (n : ℕ) (t : A) (xs : List A) → length xs ≡ n → from n t xs ≡ insert_at n t xs
   unfolding from insert insert_at
@@ -49,10 +49,10 @@ module _ {A : Type 0} (less : A → A → Bool) where
   from_end (suc n) t (x ∷ xs) e = ap {B = List A} (λ r. x ∷ r) (from_end n t xs (omega arith))
 
   -- no element is lost
-  pub insert-longer : (t : A) (xs : List A) → length xs ≤ length (insert less t xs)
+  pub insert_longer : (t : A) (xs : List A) → length xs ≤ length (insert less t xs)
   unfolding insert
-  insert-longer t [] = omega arith
-  insert-longer t (x ∷ xs) = go (less t x) (less x t) (insert-longer t xs)
+  insert_longer t [] = omega arith
+  insert_longer t (x ∷ xs) = go (less t x) (less x t) (insert_longer t xs)
     where
       go : (b c : Bool) → length xs ≤ length (insert less t xs)
           → suc (length xs) ≤ length (cond b (t ∷ (x ∷ xs)) (cond c (x ∷ insert less t xs) (x ∷ xs)))

@@ -80,11 +80,11 @@ any_iff {A} test (u ∷ us) = (there (any_iff test us), back (any_iff test us))
     back ih (v, inr m, e) = (or_iff (test u) (any test us)).1 (inr (ih.1 (v, m, e)))
 
 -- a test through a map under which it stays the same
-pub any-map : {A B : Type 0} (g : A → B) (p : B → Bool) (q : A → Bool) (xs : List A)
+pub any_map : {A B : Type 0} (g : A → B) (p : B → Bool) (q : A → Bool) (xs : List A)
     → ((x : A) → In x xs → p (g x) ≡ q x) → any p (map g xs) ≡ any q xs
 unfolding any
-any-map g p q [] same = refl
-any-map g p q (x ∷ xs) same = rw (same x (inl refl), any-map g p q xs (λ y m. same y (inr m)))
+any_map g p q [] same = refl
+any_map g p q (x ∷ xs) same = rw (same x (inl refl), any_map g p q xs (λ y m. same y (inr m)))
 
 -- a test holds of one of the elements of two lists
 pub any_append : {A : Type 0} (test : A → Bool) (xs ys : List A) → any test (xs ++ ys) ≡ (any test xs || any test ys)

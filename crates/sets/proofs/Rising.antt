@@ -79,10 +79,10 @@ module _ (P : ℕ → Type 0) where
         joins_rise x high ys (insert_product_n xs ys ws) r.1 s (product_rises (suc x) high xs ys ws r.2 s t)
 
   -- the lowest goes first
-  pub insert-first : (t : ℕ) (xs : List ℕ) → Rising P (suc t) xs → insert_n t xs ≡ t ∷ xs
+  pub insert_first : (t : ℕ) (xs : List ℕ) → Rising P (suc t) xs → insert_n t xs ≡ t ∷ xs
   unfolding insert
-  insert-first t [] r = refl
-  insert-first t (x ∷ xs) r = rw (lt-ltb t x r.0)
+  insert_first t [] r = refl
+  insert_first t (x ∷ xs) r = rw (lt-ltb t x r.0)
 
 abbrev pub Consistent : ℕ → Type 0
 Consistent t = consistent_n t ≡ true
@@ -91,4 +91,4 @@ pub product_zero : (low : ℕ) (xs : List ℕ) → Rising Consistent low xs → 
 unfolding insert_product insert_joins insert_join
 product_zero low [] r = refl
 product_zero low (x ∷ xs) r =
-    rw r.1 (ap (insert_n x) (product_zero (suc x) xs r.2) ∙ insert-first Consistent x xs r.2)
+    rw r.1 (ap (insert_n x) (product_zero (suc x) xs r.2) ∙ insert_first Consistent x xs r.2)

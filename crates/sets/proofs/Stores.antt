@@ -11,7 +11,7 @@ use lib.Seq.{get_or-take, length-take-le}
 use borrow.Author.Tests.{lt-ltb, le-ltb}
 use Rattle.sets.specs.Sets.{Stores, Updates, insert_n, insert_at}
 use Rattle.sets.proofs.Lists.{put_last, take_put, length_put}
-use Rattle.sets.proofs.Inserts.{from, from_more, from_less, from-same, from_end, insert-longer}
+use Rattle.sets.proofs.Inserts.{from, from_more, from_less, from_same, from_end, insert_longer}
 
 -- no room for one more
 pub full : (xs : List ℕ) (n i t r : ℕ) → n ≡ length xs → r ≡ suc (length xs) → Stores xs r (insert_at i t (take n xs))
@@ -52,7 +52,7 @@ module _ (xs : List ℕ) (n t i : ℕ) (lt : i < n) (le : n ≤ length xs)
   pub same_in : t ≡ get_or xs i 0 → insert_n t (take n xs) ≡ take n xs
   same_in q =
       sym inv
-      ∙ from-same ltb i t 0 (take n xs) inside (rw at (le-ltb t (get_or xs i 0) (omega arith)))
+      ∙ from_same ltb i t 0 (take n xs) inside (rw at (le-ltb t (get_or xs i 0) (omega arith)))
       (rw at (le-ltb (get_or xs i 0) t (omega arith)))
 
   pub more_in : get_or xs i 0 < t → from ltb (i + 1) t (take n xs) ≡ insert_n t (take n xs)
@@ -64,7 +64,7 @@ end_in xs n t i e le inv = sym inv ∙ rw e (from_end ltb n t (take n xs) (lengt
 
 -- a count above the room stays
 pub over_in : (xs : List ℕ) (n t : ℕ) → length xs < n → Updates xs n xs n (insert_n t)
-over_in xs n t lt = record { updates = λ ws i. record { count = omega (arith, insert-longer ltb t ws, i.count); items = λ le. absurd (omega (arith, insert-longer ltb t ws, i.count)) } }
+over_in xs n t lt = record { updates = λ ws i. record { count = omega (arith, insert_longer ltb t ws, i.count); items = λ le. absurd (omega (arith, insert_longer ltb t ws, i.count)) } }
 
 -- what is right of the list held is right of each list that xs is
 pub lift_in : (xs ys vs : List ℕ) (n r t : ℕ) → n ≤ length xs → insert_n t (take n xs) ≡ vs → Stores ys r vs

@@ -15,22 +15,22 @@ above n p f g k lt =
     let e : k ≡ suc (suc (suc (suc (suc (suc (suc (suc (suc (k - 9))))))))) = omega arith in
     rw e
 
-pub of-next : (n p : ℕ) (f g : Formula) (k : ℕ) → k ≡ 6 → map pack (terms (build k n p f g)) ≡ map pack_set (cover f)
+pub of_next : (n p : ℕ) (f g : Formula) (k : ℕ) → k ≡ 6 → map pack (terms (build k n p f g)) ≡ map pack_set (cover f)
 unfolding terms
-of-next n p f g k e = rw e (pack_owing (cover f))
+of_next n p f g k e = rw e (pack_owing (cover f))
 
-pub cover-own : (n p : ℕ) (f g : Formula) (k : ℕ) → (k ≡ 0 → ⊥) → (k ≡ 1 → ⊥) → (k ≡ 4 → ⊥) → (k ≡ 5 → ⊥) → k ≤ 8 → map pack_set (cover (build k n p f g)) ≡ pack_set (2 ^ n) ∷ []
+pub cover_own : (n p : ℕ) (f g : Formula) (k : ℕ) → (k ≡ 0 → ⊥) → (k ≡ 1 → ⊥) → (k ≡ 4 → ⊥) → (k ≡ 5 → ⊥) → k ≤ 8 → map pack_set (cover (build k n p f g)) ≡ pack_set (2 ^ n) ∷ []
 unfolding cover
-cover-own n p f g zero a b c d e = absurd (a refl)
-cover-own n p f g (suc zero) a b c d e = absurd (b refl)
-cover-own n p f g (suc (suc zero)) a b c d e = refl
-cover-own n p f g (suc (suc (suc zero))) a b c d e = refl
-cover-own n p f g (suc (suc (suc (suc zero)))) a b c d e = absurd (c refl)
-cover-own n p f g (suc (suc (suc (suc (suc zero))))) a b c d e = absurd (d refl)
-cover-own n p f g (suc (suc (suc (suc (suc (suc zero)))))) a b c d e = refl
-cover-own n p f g (suc (suc (suc (suc (suc (suc (suc zero))))))) a b c d e = refl
-cover-own n p f g (suc (suc (suc (suc (suc (suc (suc (suc zero)))))))) a b c d e = refl
-cover-own n p f g (suc (suc (suc (suc (suc (suc (suc (suc (suc k))))))))) a b c d e = absurd (omega arith)
+cover_own n p f g zero a b c d e = absurd (a refl)
+cover_own n p f g (suc zero) a b c d e = absurd (b refl)
+cover_own n p f g (suc (suc zero)) a b c d e = refl
+cover_own n p f g (suc (suc (suc zero))) a b c d e = refl
+cover_own n p f g (suc (suc (suc (suc zero)))) a b c d e = absurd (c refl)
+cover_own n p f g (suc (suc (suc (suc (suc zero))))) a b c d e = absurd (d refl)
+cover_own n p f g (suc (suc (suc (suc (suc (suc zero)))))) a b c d e = refl
+cover_own n p f g (suc (suc (suc (suc (suc (suc (suc zero))))))) a b c d e = refl
+cover_own n p f g (suc (suc (suc (suc (suc (suc (suc (suc zero)))))))) a b c d e = refl
+cover_own n p f g (suc (suc (suc (suc (suc (suc (suc (suc (suc k))))))))) a b c d e = absurd (omega arith)
 
 -- what is left beside the kinds that are told apart
 pub no_kind : {k : ℕ} → 3 < k → (k ≡ 4 → ⊥) → (k ≡ 5 → ⊥) → (k ≡ 6 → ⊥) → (k ≡ 7 → ⊥) → (k ≡ 8 → ⊥) → 8 < k

@@ -10,7 +10,7 @@ use Rattle.answer.specs.Result.{fine, lowest}
 use Rattle.formula.specs.Rule.{node_count, root, kind_at, left_at, right_at}
 use Rattle.formula.specs.Rule
 use Rattle.formula.specs.Formula.{tree, formula}
-use Rattle.answer.proofs.Lowest.{lowest-below}
+use Rattle.answer.proofs.Lowest.{lowest_below}
 use Rattle.formula.proofs.Accepted.{accepted_fine}
 use Rattle.term.specs.declared.Terms.{Terms}
 use Rattle.term.specs.Limits.{max_terms}
@@ -18,9 +18,9 @@ use Rattle.term.specs.Term.{terms, cover, conflicts}
 use Rattle.term.specs.Size.{size_check, sizes_checked, Ready}
 use Rattle.term.specs.Memory.{IsPacked, IsTerms, IsCover, pack, pack_set, FromChildren}
 use Rattle.term.specs.Memory.{Over, Found, FoundTerms, FoundCover, FoundConflicts}
-use Rattle.term.proofs.ByKind.{of-next}
-use Rattle.term.proofs.Sizes.{ready_in_range, left_lower, right_lower, of_pair, bytes-fine}
-use Rattle.term.proofs.Sizes.{sizes-fine, over_above, over_many}
+use Rattle.term.proofs.ByKind.{of_next}
+use Rattle.term.proofs.Sizes.{ready_in_range, left_lower, right_lower, of_pair, bytes_fine}
+use Rattle.term.proofs.Sizes.{sizes_fine, over_above, over_many}
 
 module _ (rule : List ℕ) (n : ℕ) where
   many_terms : max_terms < length (map pack (terms (tree rule n))) → Over rule n
@@ -34,9 +34,9 @@ module _ (rule : List ℕ) (n : ℕ) where
     found is = record { within = λ _. is; over = λ lt. many (omega (arith, is.count)) }
 
     -- by the values a and b of nodes below n
-    found-pair : (k l : ℕ) → k < n → l < n → {a b : Terms} {us vs : List ℕ} → Found rule k a us → Found rule l b vs
+    found_pair : (k l : ℕ) → k < n → l < n → {a b : Terms} {us vs : List ℕ} → Found rule k a us → Found rule l b vs
         → (r.count ≤ max_terms → (a.count ≤ max_terms) × (b.count ≤ max_terms)) → (a.count ≤ max_terms → b.count ≤ max_terms → IsPacked a us → IsPacked b vs → IsPacked r ws) → Found rule n r ws
-    found-pair k l below-k below-l {a} {b} {us} {vs} fa fb both made = record {
+    found_pair k l below-k below_l {a} {b} {us} {vs} fa fb both made = record {
       within = λ le. let (p, q) = both le in made p q (fa.within p) (fb.within q);
       over = λ lt. pick lt (dec_lt max_terms a.count) (dec_lt max_terms b.count);
     }
@@ -47,11 +47,11 @@ module _ (rule : List ℕ) (n : ℕ) where
         pick lt (no p) (no q) = many (omega (arith, (made (omega arith) (omega arith) (fa.within (omega arith)) (fb.within (omega arith))).count))
 
   module _ {r : Terms} where
-    pub found-terms : IsTerms r (terms (tree rule n)) → FoundTerms rule n r
-    found-terms is = found many_terms is
+    pub found_terms : IsTerms r (terms (tree rule n)) → FoundTerms rule n r
+    found_terms is = found many_terms is
 
-    pub found-cover : IsCover r (cover (tree rule n)) → FoundCover rule n r
-    found-cover is = found many_sets is
+    pub found_cover : IsCover r (cover (tree rule n)) → FoundCover rule n r
+    found_cover is = found many_sets is
 
 -- no node up to n is a 20
 module _ (rule : List ℕ) (n : ℕ) {r : Terms} {ws : List ℕ} (fine-to : lowest (size_check rule) (suc n) ≡ fine) (found : Found rule n r ws) where
@@ -62,73 +62,73 @@ module _ (rule : List ℕ) (n : ℕ) {r : Terms} {ws : List ℕ} (fine-to : lowe
       pick (yes over) = absurd (found.over over fine-to)
       pick (no few) = omega arith
 
-  pub found-fine : IsPacked r ws
-  found-fine = found.within found_few
+  pub found_fine : IsPacked r ws
+  found_fine = found.within found_few
 
 -- an inner node n by its children l and m
 module _ {rule : List ℕ} {n kind l : ℕ} (ready : Ready rule n) (ek : kind ≡ kind_at rule n) (el : l ≡ left_at rule n) where
-  pub conflicts-next : kind ≡ 6 → {dropped : ℕ} → FoundConflicts rule l dropped → FoundConflicts rule n dropped
+  pub conflicts_next : kind ≡ 6 → {dropped : ℕ} → FoundConflicts rule l dropped → FoundConflicts rule n dropped
   unfolding conflicts
-  conflicts-next e below fine-to =
+  conflicts_next e below fine-to =
       let operand : conflicts (tree rule n) ≡ conflicts (tree rule l) =
       of_pair ready ek (λ g. conflicts g ≡ conflicts (tree rule l)) el refl (omega arith) (rw e) in
       let lower = left_lower ready ek el (omega arith) in
-      below (lowest-below (size_check rule) (suc n) fine-to (suc l) (omega arith)) ∙ sym operand
+      below (lowest_below (size_check rule) (suc n) fine-to (suc l) (omega arith)) ∙ sym operand
 
   -- whose value is r
   module _ {r : Terms} where
-    pub terms-next : kind ≡ 6 → FoundCover rule l r → FoundTerms rule n r
-    terms-next e f =
+    pub terms_next : kind ≡ 6 → FoundCover rule l r → FoundTerms rule n r
+    terms_next e f =
         let same : map pack (terms (tree rule n)) ≡ map pack_set (cover (tree rule l)) =
         of_pair ready ek (λ g. map pack (terms g) ≡ map pack_set (cover (tree rule l))) el refl (omega arith)
-        (of-next n _ _ _ kind e) in
+        (of_next n _ _ _ kind e) in
         record {
           within = λ le. rw same (f.within le);
           over = λ lt. over_above rule n l (omega (arith, left_lower ready ek el (omega arith))) (f.over lt);
         }
 
     module _ {m : ℕ} (em : m ≡ right_at rule n) (inner : 3 < kind) {a b : Terms} (made : FromChildren kind n a b r) where
-      below-l : l < n
-      below-l = left_lower ready ek el inner
+      below_l : l < n
+      below_l = left_lower ready ek el inner
 
-      below-m : m < n
-      below-m = right_lower ready ek em inner
+      below_m : m < n
+      below_m = right_lower ready ek em inner
 
-      pub terms-pair : FoundTerms rule l a → FoundTerms rule m b → FoundTerms rule n r
-      terms-pair fa fb =
-          found-pair rule n (many_terms rule n) l m below-l below-m fa fb made.handed_on
+      pub terms_pair : FoundTerms rule l a → FoundTerms rule m b → FoundTerms rule n r
+      terms_pair fa fb =
+          found_pair rule n (many_terms rule n) l m below_l below_m fa fb made.handed_on
           (λ p q x y.
           of_pair ready ek (λ f. IsTerms r (terms f)) el em inner
-          (made.has-terms p q l _ _ (ready_in_range ready l (omega (arith, below-l)))
-          (ready_in_range ready m (omega (arith, below-m))) x y))
+          (made.has_terms p q l _ _ (ready_in_range ready l (omega (arith, below_l)))
+          (ready_in_range ready m (omega (arith, below_m))) x y))
 
-      pub conflicts-pair : FoundTerms rule l a → FoundTerms rule m b → FoundConflicts rule l a.conflicts → FoundConflicts rule m b.conflicts
+      pub conflicts_pair : FoundTerms rule l a → FoundTerms rule m b → FoundConflicts rule l a.conflicts → FoundConflicts rule m b.conflicts
           → FoundConflicts rule n r.conflicts
-      conflicts-pair fa fb ca cb fine-to =
-          let fine-l = lowest-below (size_check rule) (suc n) fine-to (suc l) (omega (arith, below-l)) in
-          let fine-m = lowest-below (size_check rule) (suc n) fine-to (suc m) (omega (arith, below-m)) in
+      conflicts_pair fa fb ca cb fine-to =
+          let fine-l = lowest_below (size_check rule) (suc n) fine-to (suc l) (omega (arith, below_l)) in
+          let fine-m = lowest_below (size_check rule) (suc n) fine-to (suc m) (omega (arith, below_m)) in
           of_pair ready ek (λ f. r.conflicts ≡ conflicts f) el em inner
-          (made.has-conflicts (found_few rule l fine-l fa) (found_few rule m fine-m fb) l _ _
-          (ready_in_range ready l (omega (arith, below-l))) (ready_in_range ready m (omega (arith, below-m)))
-          (record { packed = found-fine rule l fine-l fa; conflicts = ca fine-l })
-          (record { packed = found-fine rule m fine-m fb; conflicts = cb fine-m }))
+          (made.has_conflicts (found_few rule l fine-l fa) (found_few rule m fine-m fb) l _ _
+          (ready_in_range ready l (omega (arith, below_l))) (ready_in_range ready m (omega (arith, below_m)))
+          (record { packed = found_fine rule l fine-l fa; conflicts = ca fine-l })
+          (record { packed = found_fine rule m fine-m fb; conflicts = cb fine-m }))
 
-      pub cover-pair : kind < 6 → FoundCover rule l a → FoundCover rule m b → FoundCover rule n r
-      cover-pair low fa fb =
-          found-pair rule n (many_sets rule n) l m below-l below-m fa fb made.handed_on
+      pub cover_pair : kind < 6 → FoundCover rule l a → FoundCover rule m b → FoundCover rule n r
+      cover_pair low fa fb =
+          found_pair rule n (many_sets rule n) l m below_l below_m fa fb made.handed_on
           (λ p q x y. of_pair ready ek (λ f. IsCover r (cover f)) el em inner (made.is_cover p q low l _ _ x y))
 
 -- of the root, where no node is a 20
 module _ (rule : List ℕ) (bytes : Rule.checked rule ≡ fine) (sizes : lowest (size_check rule) (node_count rule) ≡ fine) where
-  root-fine : lowest (size_check rule) (suc (root rule)) ≡ fine
-  root-fine =
+  root_fine : lowest (size_check rule) (suc (root rule)) ≡ fine
+  root_fine =
       let some = (accepted_fine rule bytes).some in
-      lowest-below (size_check rule) (node_count rule) sizes (suc (root rule)) (omega arith)
+      lowest_below (size_check rule) (node_count rule) sizes (suc (root rule)) (omega arith)
 
-  pub root-conflicts : {dropped : ℕ} → FoundConflicts rule (root rule) dropped → dropped ≡ conflicts (formula rule)
+  pub root_conflicts : {dropped : ℕ} → FoundConflicts rule (root rule) dropped → dropped ≡ conflicts (formula rule)
   unfolding formula
-  root-conflicts found = found root-fine
+  root_conflicts found = found root_fine
 
-pub root-found : (rule : List ℕ) → sizes_checked rule ≡ fine → {r : Terms} → FoundCover rule (root rule) r → IsCover r (cover (formula rule))
+pub root_found : (rule : List ℕ) → sizes_checked rule ≡ fine → {r : Terms} → FoundCover rule (root rule) r → IsCover r (cover (formula rule))
 unfolding formula
-root-found rule passed found = found-fine rule (root rule) (root-fine rule (bytes-fine rule passed) (sizes-fine rule passed)) found
+root_found rule passed found = found_fine rule (root rule) (root_fine rule (bytes_fine rule passed) (sizes_fine rule passed)) found

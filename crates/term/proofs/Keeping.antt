@@ -12,7 +12,7 @@ use lib.Seq.{get_or-take, get_or-drop, get_or-set_same, get_or-set_other, ext_ge
 use lib.Seq.{take_at, drop_at, drop-drop, length-take-le}
 use borrow.Rule.Slice.PartMut.{mid_of, put_mid}
 use Rattle.answer.specs.Result.{fine, lowest}
-use Rattle.answer.proofs.Lowest.{lowest-below}
+use Rattle.answer.proofs.Lowest.{lowest_below}
 use Rattle.formula.specs.Rule.{node_count, kind_at, left_at, right_at}
 use Rattle.formula.specs.Formula.{tree}
 use Rattle.term.specs.declared.Terms.{Terms}
@@ -21,12 +21,12 @@ use Rattle.term.specs.Term
 use Rattle.term.specs.Size.{size_check}
 use Rattle.term.specs.Memory.{pack, TermRow, TableRoom, TermTable, Reaches, FoundTerms, FoundConflicts, Kept, StoresRow, Keeps}
 use Rattle.term.proofs.Carries.{carried}
-use Rattle.term.proofs.Reached.{below_leaf, below_next, below-pair}
+use Rattle.term.proofs.Reached.{below_leaf, below_next, below_pair}
 
 -- two lists that agree on m places from a on
-same-part : (m a : ℕ) (xs ys : List ℕ) → length xs ≡ length ys
+same_part : (m a : ℕ) (xs ys : List ℕ) → length xs ≡ length ys
     → ((i : ℕ) → i < m → get_or xs (a + i) 0 ≡ get_or ys (a + i) 0) → take m (drop a xs) ≡ take m (drop a ys)
-same-part m a xs ys size same =
+same_part m a xs ys size same =
     ext_get_or 0 _ _ (simp (length-take, length-drop) (omega arith))
     (λ i lt.
     let l : i < m = omega (arith, length-take m (drop a xs)) in
@@ -43,8 +43,8 @@ module _ (xs ws : List ℕ) (a m : ℕ) (l : length ws ≡ m) (fits : a + m ≤ 
   front : length (take a xs) ≡ a
   front = length-take-le a xs (omega arith)
 
-  written-size : length written ≡ length xs
-  written-size = simp (length-append, length-drop) (omega (arith, front))
+  written_size : length written ≡ length xs
+  written_size = simp (length-append, length-drop) (omega (arith, front))
 
   written_there : take m (drop a written) ≡ ws
   written_there = rw (drop_at (take a xs) _ a front) (take_at ws _ m l)
@@ -76,21 +76,21 @@ counted table n ts = set table (n * row_places) ts.count
 
 -- the count goes in first, then the terms in the part behind it
 module _ (before : List ℕ) (n : ℕ) (ts : Terms) (room : suc n * row_places ≤ length before) where
-  first-stored : get_or (counted before n ts) (n * row_places) 0 ≡ ts.count
-  first-stored = get_or-set_same before (n * row_places) ts.count 0 (omega arith)
+  first_stored : get_or (counted before n ts) (n * row_places) 0 ≡ ts.count
+  first_stored = get_or-set_same before (n * row_places) ts.count 0 (omega arith)
 
   others_kept : (i : ℕ) → (i < n * row_places) ⊎ (suc n * row_places ≤ i)
       → get_or (counted before n ts) i 0 ≡ get_or before i 0
   others_kept i (inl below) = get_or-set_other before (n * row_places) i ts.count 0 (λ e. omega arith)
   others_kept i (inr above) = get_or-set_other before (n * row_places) i ts.count 0 (λ e. omega arith)
 
-  counted-size : length (counted before n ts) ≡ length before
-  counted-size = length-set before (n * row_places) ts.count
+  counted_size : length (counted before n ts) ≡ length before
+  counted_size = length-set before (n * row_places) ts.count
 
   pub store_over : max_terms < ts.count → StoresRow before n ts (counted before n ts)
   store_over lt = record {
-    size = counted-size;
-    count = first-stored;
+    size = counted_size;
+    count = first_stored;
     items = λ le. absurd (omega arith);
     others = others_kept;
   }
@@ -110,11 +110,11 @@ module _ (before : List ℕ) (n : ℕ) (ts : Terms) (room : suc n * row_places �
         let xs : List ℕ = counted before n ts in
         let ws : List ℕ = take ts.count ts.items in
         let l : length ws ≡ ts.count = length-take-le ts.count ts.items (omega arith) in
-        let fits : from + ts.count ≤ length xs = omega (arith, counted-size) in
+        let fits : from + ts.count ≤ length xs = omega (arith, counted_size) in
         rw (written_lent xs ws from ts.count l fits e)
         (record {
-          size = written-size xs ws from ts.count l fits ∙ counted-size;
-          count = written_others xs ws from ts.count l fits (n * row_places) (inl (omega arith)) ∙ first-stored;
+          size = written_size xs ws from ts.count l fits ∙ counted_size;
+          count = written_others xs ws from ts.count l fits (n * row_places) (inl (omega arith)) ∙ first_stored;
           items = λ _. rw (← is) (written_there xs ws from ts.count l fits);
           others = λ i o. written_others xs ws from ts.count l fits i (wider i o) ∙ others_kept i o;
         })
@@ -139,22 +139,22 @@ module _ (rule before : List ℕ) (n : ℕ) (ts : Terms) (after : List ℕ) (sto
       let small : m ≤ max_terms = omega (arith, row.count) in
       record {
         count = first ∙ row.count;
-        terms = same-part m (suc (k * row_places)) after before stored.size
+        terms = same_part m (suc (k * row_places)) after before stored.size
             (λ i lt.
             let e : k * row_places + suc i ≡ suc (k * row_places) + i = omega arith in
             rw e at (outside (suc i) (omega arith)))
             ∙ row.terms;
       }
 
-  kept-stays : Kept rule before k → Kept rule after k
-  kept-stays kept = record {
+  kept_stays : Kept rule before k → Kept rule after k
+  kept_stays kept = record {
     within = λ le. row_stays (omega (arith, first)) (kept.within (omega (arith, first)));
     over = λ lt. kept.over (omega (arith, first));
   }
 
 -- the row of n itself
-own-kept : (rule before : List ℕ) (n : ℕ) (ts : Terms) (after : List ℕ) → StoresRow before n ts after → FoundTerms rule n ts → Kept rule after n
-own-kept rule before n ts after stored found = record {
+own_kept : (rule before : List ℕ) (n : ℕ) (ts : Terms) (after : List ℕ) → StoresRow before n ts after → FoundTerms rule n ts → Kept rule after n
+own_kept rule before n ts after stored found = record {
   within = λ le. row (omega (arith, stored.count));
   over = λ lt. found.over (omega (arith, stored.count));
 }
@@ -179,8 +179,8 @@ keeps rule n before mid r after found dropped stored below stay = record {
 }
   where
     pick : (k : ℕ) → Dec (k ≡ n) → ((k ≡ n → ⊥) → Kept rule mid k) → Kept rule after k
-    pick k (yes e) kept = rw e (own-kept rule mid n r after stored found)
-    pick k (no other) kept = kept-stays rule mid n r after stored k other (kept other)
+    pick k (yes e) kept = rw e (own_kept rule mid n r after stored found)
+    pick k (no other) kept = kept_stays rule mid n r after stored k other (kept other)
 
 -- by the kind of n
 module _ (rule : List ℕ) (n : ℕ) {r : Terms} (found : FoundTerms rule n r) (dropped : FoundConflicts rule n r.conflicts) {before after : List ℕ} where
@@ -192,7 +192,7 @@ module _ (rule : List ℕ) (n : ℕ) {r : Terms} (found : FoundTerms rule n r) (
     keeps_next next stored = keeps rule n before mid r after found dropped stored (λ k reaches other. first.reached k (below_next rule n k l is_left next reaches other)) first.stay
 
     pub keeps_pair : (m : ℕ) → m ≡ right_at rule n → {last : List ℕ} {b : Terms} → Keeps rule m mid b last → StoresRow last n r after → Keeps rule n before r after
-    keeps_pair m is_right {last} {b} second stored = keeps rule n before last r after found dropped stored (λ k reaches other. pick k (below-pair rule n k l m is_left is_right reaches other)) (λ k kept. second.stay k (first.stay k kept))
+    keeps_pair m is_right {last} {b} second stored = keeps rule n before last r after found dropped stored (λ k reaches other. pick k (below_pair rule n k l m is_left is_right reaches other)) (λ k kept. second.stay k (first.stay k kept))
       where
         pick : (k : ℕ) → Reaches rule l k ⊎ Reaches rule m k → Kept rule last k
         pick k (inl reaches) = second.stay k (first.reached k reaches)
@@ -207,5 +207,5 @@ table_fine rule table room kept e = record {
 }
   where
     pick : (k : ℕ) → k < node_count rule → Dec (max_terms < get_or table (k * row_places) 0) → TermRow rule table k
-    pick k lt (yes over) = absurd ((kept k lt).over over (lowest-below (size_check rule) _ e (suc k) (omega arith)))
+    pick k lt (yes over) = absurd ((kept k lt).over over (lowest_below (size_check rule) _ e (suc k) (omega arith)))
     pick k lt (no few) = (kept k lt).within (omega arith)

@@ -38,11 +38,11 @@ module _ {A : Type 0} {less : A → A → Bool} {joined : A → A → A} {consis
   pub canonical : {xs : List A} {ns : List ℕ} → Numbers xs ns → Numbers xs (map number xs)
   canonical r = rw (numbers_are r) at r
 
-  insert-numbers : (x : A) {ys : List A} {ns : List ℕ} → Good x → Numbers ys ns → Numbers (insert less x ys) (insert_n (number x) ns)
+  insert_numbers : (x : A) {ys : List A} {ns : List ℕ} → Good x → Numbers ys ns → Numbers (insert less x ys) (insert_n (number x) ns)
   unfolding insert
-  insert-numbers x g none = more x g none
-  insert-numbers x g (more y {xs} {ns} h r) =
-      rw (packs.orders x y g h, packs.orders y x h g) (go (less x y) (less y x) (insert-numbers x g r))
+  insert_numbers x g none = more x g none
+  insert_numbers x g (more y {xs} {ns} h r) =
+      rw (packs.orders x y g h, packs.orders y x h g) (go (less x y) (less y x) (insert_numbers x g r))
     where
       go : (b c : Bool) → Numbers (insert less x xs) (insert_n (number x) ns)
           → Numbers (cond b (x ∷ (y ∷ xs)) (cond c (y ∷ insert less x xs) (y ∷ xs))) (cond b (number x ∷ (number y ∷ ns)) (cond c (number y ∷ insert_n (number x) ns) (number y ∷ ns)))
@@ -50,10 +50,10 @@ module _ {A : Type 0} {less : A → A → Bool} {joined : A → A → A} {consis
       go false true ih = more y h ih
       go false false ih = more y h r
 
-  pub union-numbers : {xs ys : List A} {ms ns : List ℕ} → Numbers xs ms → Numbers ys ns → Numbers (union less xs ys) (union_n ms ns)
+  pub union_numbers : {xs ys : List A} {ms ns : List ℕ} → Numbers xs ms → Numbers ys ns → Numbers (union less xs ys) (union_n ms ns)
   unfolding union
-  union-numbers none s = s
-  union-numbers (more x g r) s = insert-numbers x g (union-numbers r s)
+  union_numbers none s = s
+  union_numbers (more x g r) s = insert_numbers x g (union_numbers r s)
 
   join_numbers : (x y : A) {ws : List A} {ns : List ℕ} → Good x → Good y → Numbers ws ns → Numbers (insert_join less joined consistent x y ws) (insert_join_n (number x) (number y) ns)
   unfolding insert_join
@@ -61,7 +61,7 @@ module _ {A : Type 0} {less : A → A → Bool} {joined : A → A → A} {consis
       rw (packs.joins x y g h, packs.drops (joined x y) (packs.good x y g h)) (go (consistent (joined x y)))
     where
       go : (b : Bool) → Numbers (cond b (insert less (joined x y) ws) ws) (cond b (insert_n (number (joined x y)) ns) ns)
-      go true = insert-numbers (joined x y) (packs.good x y g h) s
+      go true = insert_numbers (joined x y) (packs.good x y g h) s
       go false = s
 
   joins_numbers : (x : A) {ys ws : List A} {ms ns : List ℕ} → Good x → Numbers ys ms → Numbers ws ns → Numbers (insert_joins less joined consistent x ys ws) (insert_joins_n (number x) ms ns)
@@ -69,10 +69,10 @@ module _ {A : Type 0} {less : A → A → Bool} {joined : A → A → A} {consis
   joins_numbers x g none s = s
   joins_numbers x g (more y h r) s = join_numbers x y g h (joins_numbers x g r s)
 
-  pub product-numbers : {xs ys : List A} {ms ns : List ℕ} → Numbers xs ms → Numbers ys ns → Numbers (insert_product less joined consistent xs ys []) (insert_product_n ms ns [])
+  pub product_numbers : {xs ys : List A} {ms ns : List ℕ} → Numbers xs ms → Numbers ys ns → Numbers (insert_product less joined consistent xs ys []) (insert_product_n ms ns [])
   unfolding insert_product
-  product-numbers none s = none
-  product-numbers (more x g r) s = joins_numbers x g s (product-numbers r s)
+  product_numbers none s = none
+  product_numbers (more x g r) s = joins_numbers x g s (product_numbers r s)
 
 -- ---- terms: must and mustNot are bytes
 pub record Bytes (t : Term) : Type 0 where
@@ -107,17 +107,17 @@ pack_joins : (x y : Term) → Bytes x → Bytes y → bit_or (pack x) (pack y) �
 pack_joins x y g h =
     rw (pack_blocks x, pack_blocks y, pack_blocks (joined x y), or_block 8 (x.obligations * 256 + x.must) (y.obligations * 256 + y.must) x.must_not y.must_not g.must_not h.must_not, or_block 8 x.obligations y.obligations x.must y.must g.must h.must)
 
-pack-conflict : (t : Term) → Bytes t → conflict_n (pack t) ≡ conflict t
-pack-conflict t g =
+pack_conflict : (t : Term) → Bytes t → conflict_n (pack t) ≡ conflict t
+pack_conflict t g =
     let a : pack t / 256 ≡ t.obligations * 256 + t.must = omega arith in
     let b : pack t % 256 ≡ 0 * 256 + t.must_not = omega arith in
     rw (a, b, and_block 8 t.obligations 0 t.must t.must_not g.must g.must_not, and_zero_r) (omega arith)
 
 pack_drops : (t : Term) → Bytes t → consistent_n (pack t) ≡ consistent t
-pack_drops t g = rw (pack-conflict t g)
+pack_drops t g = rw (pack_conflict t g)
 
-pub of-terms : Packs less joined consistent pack Bytes
-of-terms = record {
+pub of_terms : Packs less joined consistent pack Bytes
+of_terms = record {
   orders = pack_orders;
   joins = pack_joins;
   drops = pack_drops;
@@ -125,24 +125,24 @@ of-terms = record {
 }
 
 -- terms that have numbers are such
-pub numbers-bytes : {ts : List Term} {ns : List ℕ} → Numbers of-terms ts ns → All Bytes ts
-numbers-bytes none t h = absurd h
-numbers-bytes (more u own rest) t (inl e) = subst Bytes (sym e) own
-numbers-bytes (more u own rest) t (inr h) = numbers-bytes rest t h
+pub numbers_bytes : {ts : List Term} {ns : List ℕ} → Numbers of_terms ts ns → All Bytes ts
+numbers_bytes none t h = absurd h
+numbers_bytes (more u own rest) t (inl e) = subst Bytes (sym e) own
+numbers_bytes (more u own rest) t (inr h) = numbers_bytes rest t h
 
 -- and the conflicts of their joins are those of the numbers' joins
-join_conflicts_lem : (x : Term) {ys : List Term} {ns : List ℕ} → Bytes x → Numbers of-terms ys ns
+join_conflicts_lem : (x : Term) {ys : List Term} {ns : List ℕ} → Bytes x → Numbers of_terms ys ns
     → join_conflicts_n (pack x) ns ≡ join_conflicts joined conflict x ys
 unfolding join_conflicts
 join_conflicts_lem x g none = refl
 join_conflicts_lem x g (more y h r) =
-    rw (pack_joins x y g h, pack-conflict (joined x y) (of-terms.good x y g h), join_conflicts_lem x g r)
+    rw (pack_joins x y g h, pack_conflict (joined x y) (of_terms.good x y g h), join_conflicts_lem x g r)
 
-pub conflicts-numbers : {xs ys : List Term} {ms ns : List ℕ} → Numbers of-terms xs ms → Numbers of-terms ys ns
+pub conflicts_numbers : {xs ys : List Term} {ms ns : List ℕ} → Numbers of_terms xs ms → Numbers of_terms ys ns
     → product_conflicts_n ms ns ≡ conflicts_between xs ys
 unfolding product_conflicts
-conflicts-numbers none s = refl
-conflicts-numbers (more x g r) s = rw (join_conflicts_lem x g s, conflicts-numbers r s)
+conflicts_numbers none s = refl
+conflicts_numbers (more x g r) s = rw (join_conflicts_lem x g s, conflicts_numbers r s)
 
 -- ---- cover sets
 set_joins : (c d : ℕ) → bit_or (pack_set c) (pack_set d) ≡ pack_set (bit_or c d)
@@ -156,23 +156,23 @@ set_drops c =
     let b : pack_set c % 256 ≡ 0 = omega arith in
     rw (b, and_zero_r)
 
-of-sets : Packs ltb bit_or (λ _. true) pack_set (λ _. Unit {0})
-of-sets = record {
+of_sets : Packs ltb bit_or (λ _. true) pack_set (λ _. Unit {0})
+of_sets = record {
   orders = λ c d _ _. same_test c d (pack_set c) (pack_set d) (λ l. omega arith) (λ l. omega arith);
   joins = λ c d _ _. set_joins c d;
   drops = λ c _. set_drops c;
   good = λ _ _ _ _. tt;
 }
 
-all-sets : (cs : List ℕ) → Numbers of-sets cs (map pack_set cs)
-all-sets [] = none
-all-sets (c ∷ cs) = more c tt (all-sets cs)
+all_sets : (cs : List ℕ) → Numbers of_sets cs (map pack_set cs)
+all_sets [] = none
+all_sets (c ∷ cs) = more c tt (all_sets cs)
 
-pub pack-unions : (cs ds : List ℕ) → map pack_set (unions cs ds) ≡ insert_product_n (map pack_set cs) (map pack_set ds) []
-pack-unions cs ds = sym (numbers_are of-sets (product-numbers of-sets (all-sets cs) (all-sets ds)))
+pub pack_unions : (cs ds : List ℕ) → map pack_set (unions cs ds) ≡ insert_product_n (map pack_set cs) (map pack_set ds) []
+pack_unions cs ds = sym (numbers_are of_sets (product_numbers of_sets (all_sets cs) (all_sets ds)))
 
-pub pack-union : (cs ds : List ℕ) → map pack_set (union ltb cs ds) ≡ union_n (map pack_set cs) (map pack_set ds)
-pack-union cs ds = sym (numbers_are of-sets (union-numbers of-sets (all-sets cs) (all-sets ds)))
+pub pack_union : (cs ds : List ℕ) → map pack_set (union ltb cs ds) ≡ union_n (map pack_set cs) (map pack_set ds)
+pack_union cs ds = sym (numbers_are of_sets (union_numbers of_sets (all_sets cs) (all_sets ds)))
 
 -- ---- the terms of a formula
 pub pack_must : (m : ℕ) → pack (term m 0 0) ≡ m * 256
@@ -187,43 +187,43 @@ pack_owing (c ∷ cs) =
     let e : pack (term 0 0 c) ≡ pack_set c = omega arith in
     rw (e, pack_owing cs)
 
-pub owing_numbers : (cs : List ℕ) → Numbers of-terms (map (term 0 0) cs) (map pack (map (term 0 0) cs))
+pub owing_numbers : (cs : List ℕ) → Numbers of_terms (map (term 0 0) cs) (map pack (map (term 0 0) cs))
 owing_numbers [] = none
 owing_numbers (c ∷ cs) = more (term 0 0 c) (record { must = omega arith; must_not = omega arith }) (owing_numbers cs)
 
-own-numbers : (c : ℕ) → Numbers of-terms (term 0 0 c ∷ []) (pack_set c ∷ [])
-own-numbers c = rw (pack_owing (c ∷ [])) at (owing_numbers (c ∷ []))
+own_numbers : (c : ℕ) → Numbers of_terms (term 0 0 c ∷ []) (pack_set c ∷ [])
+own_numbers c = rw (pack_owing (c ∷ [])) at (owing_numbers (c ∷ []))
 
-pub terms-numbers : (f : Formula) → InRange f → Numbers of-terms (terms f) (map pack (terms f))
+pub terms_numbers : (f : Formula) → InRange f → Numbers of_terms (terms f) (map pack (terms f))
 unfolding terms InRange
-terms-numbers bottom m = none
-terms-numbers top m = owing_numbers (0 ∷ [])
-terms-numbers (proposition n p) m = more (term (2 ^ p) 0 0) (record { must = omega (arith, pow-lt {j = propositions} m); must_not = omega arith }) none
-terms-numbers (negatedProposition n p) m = more (term 0 (2 ^ p) 0) (record { must = omega arith; must_not = omega (arith, pow-lt {j = propositions} m) }) none
-terms-numbers (conjunction a b) m = canonical of-terms (product-numbers of-terms (terms-numbers a m.0) (terms-numbers b m.1))
-terms-numbers (disjunction a b) m = canonical of-terms (union-numbers of-terms (terms-numbers a m.0) (terms-numbers b m.1))
-terms-numbers (next n a) m = owing_numbers (cover a)
-terms-numbers (until n a b) m = canonical of-terms (union-numbers of-terms (terms-numbers b m.1) (product-numbers of-terms (terms-numbers a m.0) (own-numbers (2 ^ n))))
-terms-numbers (release n a b) m = canonical of-terms (product-numbers of-terms (terms-numbers b m.1) (union-numbers of-terms (terms-numbers a m.0) (own-numbers (2 ^ n))))
+terms_numbers bottom m = none
+terms_numbers top m = owing_numbers (0 ∷ [])
+terms_numbers (proposition n p) m = more (term (2 ^ p) 0 0) (record { must = omega (arith, pow-lt {j = propositions} m); must_not = omega arith }) none
+terms_numbers (negatedProposition n p) m = more (term 0 (2 ^ p) 0) (record { must = omega arith; must_not = omega (arith, pow-lt {j = propositions} m) }) none
+terms_numbers (conjunction a b) m = canonical of_terms (product_numbers of_terms (terms_numbers a m.0) (terms_numbers b m.1))
+terms_numbers (disjunction a b) m = canonical of_terms (union_numbers of_terms (terms_numbers a m.0) (terms_numbers b m.1))
+terms_numbers (next n a) m = owing_numbers (cover a)
+terms_numbers (until n a b) m = canonical of_terms (union_numbers of_terms (terms_numbers b m.1) (product_numbers of_terms (terms_numbers a m.0) (own_numbers (2 ^ n))))
+terms_numbers (release n a b) m = canonical of_terms (product_numbers of_terms (terms_numbers b m.1) (union_numbers of_terms (terms_numbers a m.0) (own_numbers (2 ^ n))))
 
 module _ (n : ℕ) (a b : Formula) (ma : InRange a) (mb : InRange b) where
   pub pack_conjunction : map pack (product (terms a) (terms b)) ≡ insert_product_n (map pack (terms a)) (map pack (terms b)) []
-  pack_conjunction = sym (numbers_are of-terms (product-numbers of-terms (terms-numbers a ma) (terms-numbers b mb)))
+  pack_conjunction = sym (numbers_are of_terms (product_numbers of_terms (terms_numbers a ma) (terms_numbers b mb)))
 
   pub pack_disjunction : map pack (union less (terms a) (terms b)) ≡ union_n (map pack (terms a)) (map pack (terms b))
-  pack_disjunction = sym (numbers_are of-terms (union-numbers of-terms (terms-numbers a ma) (terms-numbers b mb)))
+  pack_disjunction = sym (numbers_are of_terms (union_numbers of_terms (terms_numbers a ma) (terms_numbers b mb)))
 
-  pub pack-until : map pack (union less (terms b) (product (terms a) (term 0 0 (2 ^ n) ∷ []))) ≡ union_n (map pack (terms b)) (insert_product_n (map pack (terms a)) (pack_set (2 ^ n) ∷ []) [])
-  pack-until = sym (numbers_are of-terms (union-numbers of-terms (terms-numbers b mb) (product-numbers of-terms (terms-numbers a ma) (own-numbers (2 ^ n)))))
+  pub pack_until : map pack (union less (terms b) (product (terms a) (term 0 0 (2 ^ n) ∷ []))) ≡ union_n (map pack (terms b)) (insert_product_n (map pack (terms a)) (pack_set (2 ^ n) ∷ []) [])
+  pack_until = sym (numbers_are of_terms (union_numbers of_terms (terms_numbers b mb) (product_numbers of_terms (terms_numbers a ma) (own_numbers (2 ^ n)))))
 
-  pub pack-release : map pack (product (terms b) (union less (terms a) (term 0 0 (2 ^ n) ∷ []))) ≡ insert_product_n (map pack (terms b)) (union_n (map pack (terms a)) (pack_set (2 ^ n) ∷ [])) []
-  pack-release = sym (numbers_are of-terms (product-numbers of-terms (terms-numbers b mb) (union-numbers of-terms (terms-numbers a ma) (own-numbers (2 ^ n)))))
+  pub pack_release : map pack (product (terms b) (union less (terms a) (term 0 0 (2 ^ n) ∷ []))) ≡ insert_product_n (map pack (terms b)) (union_n (map pack (terms a)) (pack_set (2 ^ n) ∷ [])) []
+  pack_release = sym (numbers_are of_terms (product_numbers of_terms (terms_numbers b mb) (union_numbers of_terms (terms_numbers a ma) (own_numbers (2 ^ n)))))
 
   pub conflicts_conjunction : product_conflicts_n (map pack (terms a)) (map pack (terms b)) ≡ conflicts_between (terms a) (terms b)
-  conflicts_conjunction = conflicts-numbers (terms-numbers a ma) (terms-numbers b mb)
+  conflicts_conjunction = conflicts_numbers (terms_numbers a ma) (terms_numbers b mb)
 
-  pub conflicts-until : product_conflicts_n (map pack (terms a)) (pack_set (2 ^ n) ∷ []) ≡ conflicts_between (terms a) (term 0 0 (2 ^ n) ∷ [])
-  conflicts-until = conflicts-numbers (terms-numbers a ma) (own-numbers (2 ^ n))
+  pub conflicts_until : product_conflicts_n (map pack (terms a)) (pack_set (2 ^ n) ∷ []) ≡ conflicts_between (terms a) (term 0 0 (2 ^ n) ∷ [])
+  conflicts_until = conflicts_numbers (terms_numbers a ma) (own_numbers (2 ^ n))
 
-  pub conflicts-release : product_conflicts_n (map pack (terms b)) (union_n (map pack (terms a)) (pack_set (2 ^ n) ∷ [])) ≡ conflicts_between (terms b) (union less (terms a) (term 0 0 (2 ^ n) ∷ []))
-  conflicts-release = conflicts-numbers (terms-numbers b mb) (union-numbers of-terms (terms-numbers a ma) (own-numbers (2 ^ n)))
+  pub conflicts_release : product_conflicts_n (map pack (terms b)) (union_n (map pack (terms a)) (pack_set (2 ^ n) ∷ [])) ≡ conflicts_between (terms b) (union less (terms a) (term 0 0 (2 ^ n) ∷ []))
+  conflicts_release = conflicts_numbers (terms_numbers b mb) (union_numbers of_terms (terms_numbers a ma) (own_numbers (2 ^ n)))

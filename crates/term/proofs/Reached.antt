@@ -22,10 +22,10 @@ below_next rule n k l e next (here m) other = absurd (other refl)
 below_next rule n k l e next (left m j inner r) other = rw e r
 below_next rule n k l e next (right m j inner pair r) other = absurd (pair next)
 
-pub below-pair : (rule : List ℕ) (n k l r : ℕ) → l ≡ left_at rule n → r ≡ right_at rule n → Reaches rule n k → (k ≡ n → ⊥) → Reaches rule l k ⊎ Reaches rule r k
-below-pair rule n k l r e f (here m) other = absurd (other refl)
-below-pair rule n k l r e f (left m j inner s) other = inl (rw e s)
-below-pair rule n k l r e f (right m j inner pair s) other = inr (rw f s)
+pub below_pair : (rule : List ℕ) (n k l r : ℕ) → l ≡ left_at rule n → r ≡ right_at rule n → Reaches rule n k → (k ≡ n → ⊥) → Reaches rule l k ⊎ Reaches rule r k
+below_pair rule n k l r e f (here m) other = absurd (other refl)
+below_pair rule n k l r e f (left m j inner s) other = inl (rw e s)
+below_pair rule n k l r e f (right m j inner pair s) other = inr (rw f s)
 
 -- a child of a node that is reached
 step : (rule : List ℕ) {n p : ℕ} (k : ℕ) → Reaches rule n p → Parent rule p k → Reaches rule n k
@@ -36,15 +36,15 @@ step rule k (right n p inner pair r) is = right n k inner pair (step rule k r is
 
 module _ (rule : List ℕ) (passed : checked rule ≡ fine) where
   -- by the distance from the root
-  reached-within : (distance k : ℕ) → k < node_count rule → root rule ≤ k + distance → Reaches rule (root rule) k
-  reached-within zero k lt near =
+  reached_within : (distance k : ℕ) → k < node_count rule → root rule ≤ k + distance → Reaches rule (root rule) k
+  reached_within zero k lt near =
       let e : k ≡ root rule = omega arith in
       rw e (here (root rule))
-  reached-within (suc distance) k lt near = pick (ℕ_discrete k (root rule)) (reached-within distance)
+  reached_within (suc distance) k lt near = pick (ℕ_discrete k (root rule)) (reached_within distance)
     where
       pick : Dec (k ≡ root rule) → ((p : ℕ) → p < node_count rule → root rule ≤ p + distance → Reaches rule (root rule) p) → Reaches rule (root rule) k
       pick (yes e) ih = rw e (here (root rule))
       pick (no other) ih = let (p, inside, above, is) = parent_of rule passed k lt other in step rule k (ih p inside (omega arith)) is
 
-  pub reached-whole : (k : ℕ) → k < node_count rule → Reaches rule (root rule) k
-  reached-whole k lt = reached-within (root rule) k lt (omega arith)
+  pub reached_whole : (k : ℕ) → k < node_count rule → Reaches rule (root rule) k
+  reached_whole k lt = reached_within (root rule) k lt (omega arith)

@@ -13,8 +13,8 @@ use Rattle.formula.specs.Limits.{propositions}
 use Rattle.formula.specs.Formula.{Formula, bottom, top, proposition, negatedProposition, conjunction, disjunction, next, until, release, InRange}
 use Rattle.term.specs.Term.{cover, terms}
 use Rattle.term.specs.Memory.{pack, pack_set}
-use Rattle.term.proofs.Packing.{set_drops, pack_must, pack_must_not, pack-unions, pack-union, pack_owing}
-use Rattle.term.proofs.Packing.{pack_conjunction, pack_disjunction, pack-until, pack-release}
+use Rattle.term.proofs.Packing.{set_drops, pack_must, pack_must_not, pack_unions, pack_union, pack_owing}
+use Rattle.term.proofs.Packing.{pack_conjunction, pack_disjunction, pack_until, pack_release}
 
 -- a join that is kept is consistent
 kept : (x y : ℕ) → Consistent x → Consistent y → Consistent (bit_or x y) → Consistent (bit_or x y)
@@ -29,8 +29,8 @@ cover_rises bottom = tt
 cover_rises top = one_rises _ (set_drops 0)
 cover_rises (proposition n p) = one_rises _ (set_drops (2 ^ n))
 cover_rises (negatedProposition n p) = one_rises _ (set_drops (2 ^ n))
-cover_rises (conjunction a b) = rw (pack-unions (cover a) (cover b)) (product_rises Consistent kept 0 0 _ _ _ (cover_rises a) (cover_rises b) tt)
-cover_rises (disjunction a b) = rw (pack-union (cover a) (cover b)) (union_rises Consistent 0 _ _ (cover_rises a) (cover_rises b))
+cover_rises (conjunction a b) = rw (pack_unions (cover a) (cover b)) (product_rises Consistent kept 0 0 _ _ _ (cover_rises a) (cover_rises b) tt)
+cover_rises (disjunction a b) = rw (pack_union (cover a) (cover b)) (union_rises Consistent 0 _ _ (cover_rises a) (cover_rises b))
 cover_rises (next n a) = one_rises _ (set_drops (2 ^ n))
 cover_rises (until n a b) = one_rises _ (set_drops (2 ^ n))
 cover_rises (release n a b) = one_rises _ (set_drops (2 ^ n))
@@ -59,13 +59,13 @@ terms_rise (disjunction a b) m =
     rw (pack_disjunction 0 a b m.0 m.1) (union_rises Consistent 0 _ _ (terms_rise a m.0) (terms_rise b m.1))
 terms_rise (next n a) m = rw (pack_owing (cover a)) (cover_rises a)
 terms_rise (until n a b) m =
-    rw (pack-until n a b m.0 m.1) (union_rises Consistent 0 _ _ (terms_rise b m.1) (product_rises Consistent kept 0 0 _ _ _ (terms_rise a m.0) (one_rises _ (set_drops (2 ^ n))) tt))
+    rw (pack_until n a b m.0 m.1) (union_rises Consistent 0 _ _ (terms_rise b m.1) (product_rises Consistent kept 0 0 _ _ _ (terms_rise a m.0) (one_rises _ (set_drops (2 ^ n))) tt))
 terms_rise (release n a b) m =
-    rw (pack-release n a b m.0 m.1) (product_rises Consistent kept 0 0 _ _ _ (terms_rise b m.1) (union_rises Consistent 0 _ _ (terms_rise a m.0) (one_rises _ (set_drops (2 ^ n)))) tt)
+    rw (pack_release n a b m.0 m.1) (product_rises Consistent kept 0 0 _ _ _ (terms_rise b m.1) (union_rises Consistent 0 _ _ (terms_rise a m.0) (one_rises _ (set_drops (2 ^ n)))) tt)
 
 -- a product begun with the term that asks nothing: no join is dropped
-pub product-one : (f : Formula) → InRange f → insert_product_n (0 ∷ []) (map pack (terms f)) [] ≡ map pack (terms f)
-product-one f m = product_zero 0 (map pack (terms f)) (terms_rise f m)
+pub product_one : (f : Formula) → InRange f → insert_product_n (0 ∷ []) (map pack (terms f)) [] ≡ map pack (terms f)
+product_one f m = product_zero 0 (map pack (terms f)) (terms_rise f m)
 
-pub product-one_apart : (f : Formula) → InRange f → product_conflicts_n (0 ∷ []) (map pack (terms f)) ≡ 0
-product-one_apart f m = product_apart 0 (map pack (terms f)) (terms_rise f m)
+pub product_one_apart : (f : Formula) → InRange f → product_conflicts_n (0 ∷ []) (map pack (terms f)) ≡ 0
+product_one_apart f m = product_apart 0 (map pack (terms f)) (terms_rise f m)

@@ -13,9 +13,9 @@ use Rattle.formula.specs.Limits.{max_nodes}
 use Rattle.formula.specs.Rule.{node_count, root, kind_at, left_at, right_at}
 use Rattle.formula.specs.Rule
 use Rattle.formula.specs.Formula.{Formula, build, tree, InRange}
-use Rattle.answer.proofs.Lowest.{not_fine, fine-first, fine_second, lowest_each, lowest-below}
+use Rattle.answer.proofs.Lowest.{not_fine, fine_first, fine_second, lowest_each, lowest_below}
 use Rattle.formula.proofs.Accepted.{Node, accepted_fine}
-use Rattle.formula.proofs.Trees.{left_below, right-below, leaf_in, pair_in, tree_in_range}
+use Rattle.formula.proofs.Trees.{left_below, right_below, leaf_in, pair_in, tree_in_range}
 use Rattle.term.specs.Limits.{max_terms}
 use Rattle.term.specs.Term.{terms, cover}
 use Rattle.term.specs.Size.{size_check, sizes_checked, Ready}
@@ -49,8 +49,8 @@ module _ {rule : List ℕ} {n : ℕ} (ready : Ready rule n) where
   ready_node : (k : ℕ) → k ≤ n → Node rule k
   ready_node k le = (accepted_fine rule ready.accepted).nodes k (omega (arith, ready.inside))
 
-  pub own-node : Node rule n
-  own-node = ready_node n (omega arith)
+  pub own_node : Node rule n
+  own_node = ready_node n (omega arith)
 
   pub ready_small : n < max_nodes
   ready_small = omega (arith, ready.inside, (accepted_fine rule ready.accepted).most)
@@ -64,28 +64,28 @@ module _ {rule : List ℕ} {n : ℕ} (ready : Ready rule n) where
   -- its children stand below it, and its tree is made of theirs
   module _ {k : ℕ} (ek : k ≡ kind_at rule n) where
     pub left_lower : {l : ℕ} → l ≡ left_at rule n → 3 < k → l < n
-    left_lower el inner = left_below rule n ready.inside own-node k ek inner _ el
+    left_lower el inner = left_below rule n ready.inside own_node k ek inner _ el
 
     pub right_lower : {r : ℕ} → r ≡ right_at rule n → 3 < k → r < n
-    right_lower er inner = right-below rule n ready.inside own-node k ek inner _ er
+    right_lower er inner = right_below rule n ready.inside own_node k ek inner _ er
 
     pub of_leaf : (P : Formula → Type 0) {l : ℕ} → l ≡ left_at rule n → ((f g : Formula) → P (build k n l f g))
         → P (tree rule n)
-    of_leaf P el = leaf_in rule n ready.inside own-node P k ek _ el
+    of_leaf P el = leaf_in rule n ready.inside own_node P k ek _ el
 
     pub of_pair : (P : Formula → Type 0) {l r : ℕ} → l ≡ left_at rule n → r ≡ right_at rule n → 3 < k
         → P (build k n l (tree rule l) (tree rule r)) → P (tree rule n)
-    of_pair P el er = pair_in rule n ready.inside own-node P k ek _ _ el er
+    of_pair P el er = pair_in rule n ready.inside own_node P k ek _ _ el er
 
 -- a rule that 1 to 7 and 20 let pass
 module _ (rule : List ℕ) (passed : sizes_checked rule ≡ fine) where
-  pub bytes-fine : Rule.checked rule ≡ fine
+  pub bytes_fine : Rule.checked rule ≡ fine
   unfolding sizes_checked
-  bytes-fine = fine-first (Rule.checked rule) _ passed
+  bytes_fine = fine_first (Rule.checked rule) _ passed
 
-  pub sizes-fine : lowest (size_check rule) (node_count rule) ≡ fine
+  pub sizes_fine : lowest (size_check rule) (node_count rule) ≡ fine
   unfolding sizes_checked
-  sizes-fine = fine_second (Rule.checked rule) _ passed
+  sizes_fine = fine_second (Rule.checked rule) _ passed
 
 pub root_ready : (rule : List ℕ) → Rule.checked rule ≡ fine → Ready rule (root rule)
 root_ready rule bytes = record { accepted = bytes; inside = omega (arith, (accepted_fine rule bytes).some) }
@@ -93,15 +93,15 @@ root_ready rule bytes = record { accepted = bytes; inside = omega (arith, (accep
 -- a node up to n that is a 20
 module _ (rule : List ℕ) (n : ℕ) where
   pub over_above : (k : ℕ) → k ≤ n → Over rule k → Over rule n
-  over_above k le over e = over (lowest-below (size_check rule) (suc n) e (suc k) (omega arith))
+  over_above k le over e = over (lowest_below (size_check rule) (suc n) e (suc k) (omega arith))
 
   pub over_many : (Few rule n → ⊥) → Over rule n
   over_many many e = many (few_fine rule n (lowest_each (size_check rule) (suc n) e n (omega arith)))
 
   -- it is n, if none below n is one
-  pub over-own : lowest (size_check rule) n ≡ fine → Over rule n → refused 20 n ≡ size_check rule n
+  pub over_own : lowest (size_check rule) n ≡ fine → Over rule n → refused 20 n ≡ size_check rule n
   unfolding size_check lowest
-  over-own below over = go (few_terms rule n && few_sets rule n) refl
+  over_own below over = go (few_terms rule n && few_sets rule n) refl
     where
       go : (b : Bool) → (few_terms rule n && few_sets rule n) ≡ b → refused 20 n ≡ require b 20 n
       go true e = absurd (over (rw (below, e) refl))

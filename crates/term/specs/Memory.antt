@@ -59,9 +59,9 @@ IsNode r f = IsJoined r (map pack (terms f)) (Term.conflicts f)
 -- of an and, an or its cover from theirs; if the count of a or b is above maxTerms, then so is that of r
 pub record FromChildren (kind n : ℕ) (a b r : Terms) : Type 0 where
   pub handed_on : r.count ≤ max_terms → (a.count ≤ max_terms) × (b.count ≤ max_terms)
-  pub has-terms : a.count ≤ max_terms → b.count ≤ max_terms → (p : ℕ) (f g : Formula) → InRange f → InRange g
+  pub has_terms : a.count ≤ max_terms → b.count ≤ max_terms → (p : ℕ) (f g : Formula) → InRange f → InRange g
       → IsTerms a (terms f) → IsTerms b (terms g) → IsTerms r (terms (build kind n p f g))
-  pub has-conflicts : a.count ≤ max_terms → b.count ≤ max_terms → (p : ℕ) (f g : Formula) → InRange f → InRange g
+  pub has_conflicts : a.count ≤ max_terms → b.count ≤ max_terms → (p : ℕ) (f g : Formula) → InRange f → InRange g
       → IsNode a f → IsNode b g → r.conflicts ≡ Term.conflicts (build kind n p f g)
   pub is_cover : a.count ≤ max_terms → b.count ≤ max_terms → kind < 6 → (p : ℕ) (f g : Formula)
       → IsCover a (cover f) → IsCover b (cover g) → IsCover r (cover (build kind n p f g))

@@ -16,36 +16,36 @@ use Rattle.translation.specs.Degeneralized.{numbers}
 use Rattle.translation.specs.Memory.{code_of, level_places, Within, PairsNumbered}
 use Rattle.translation.proofs.Numbering.{find_none, unmet}
 
-pub numbers-length : (n : ℕ) → length (numbers n) ≡ n
+pub numbers_length : (n : ℕ) → length (numbers n) ≡ n
 unfolding numbers
-numbers-length zero = refl
-numbers-length (suc n) = rw length-append (omega (arith, numbers-length n))
+numbers_length zero = refl
+numbers_length (suc n) = rw length-append (omega (arith, numbers_length n))
 
 -- the first n states at level 0
 abbrev pub starts : ℕ → List ℕ
 starts n = map (λ i. code_of i 0) (numbers n)
 
-pub starts-within : (n k : ℕ) → n ≤ k → Within k (starts n)
+pub starts_within : (n k : ℕ) → n ≤ k → Within k (starts n)
 unfolding numbers
-starts-within zero k le = λ c h. absurd h
-starts-within (suc n) k le =
-    rw (map-append (λ i. code_of i 0) (numbers n) (n ∷ [])) (all_last (λ c. c / level_places < k) (starts n) (code_of n 0) (starts-within n k (omega arith)) (omega arith))
+starts_within zero k le = λ c h. absurd h
+starts_within (suc n) k le =
+    rw (map-append (λ i. code_of i 0) (numbers n) (n ∷ [])) (all_last (λ c. c / level_places < k) (starts n) (code_of n 0) (starts_within n k (omega arith)) (omega arith))
 
 -- a code of a state from n on is not among them
 beyond : (n code : ℕ) → n ≤ code / level_places → n ≤ find eqb code (starts n)
 beyond n code le =
     omega (
       arith,
-      find_none code (starts n) (λ y h same. omega (arith, starts-within n n (omega arith) y h)),
+      find_none code (starts n) (λ y h same. omega (arith, starts_within n n (omega arith) y h)),
       length-map (numbers n) (λ k. code_of k 0),
-      numbers-length n,
+      numbers_length n,
     )
 
 pub starts_once : (n : ℕ) → Once eqb 0 (starts n)
 unfolding numbers
 starts_once zero i lt = absurd (omega arith)
 starts_once (suc n) i lt =
-    let many = length-map (numbers n) (λ k. code_of k 0) ∙ numbers-length n in
+    let many = length-map (numbers n) (λ k. code_of k 0) ∙ numbers_length n in
     let more =
     once_more eqb 0 (code_of n 0) (starts n) (eq-eqb (code_of n 0) (code_of n 0) refl)
     (omega (arith, many, beyond n (code_of n 0) (omega arith))) (starts_once n) in
@@ -57,9 +57,9 @@ pub record Starting (n : ℕ) (pairs index : List ℕ) (i : ℕ) : Type 0 where
   pub numbered : PairsNumbered pairs index i
   pub listed : take i pairs ≡ starts i
 
-pub start-begins : (n : ℕ) (pairs index : List ℕ) → PairsNumbered pairs index 0 → Starting n pairs index 0
+pub start_begins : (n : ℕ) (pairs index : List ℕ) → PairsNumbered pairs index 0 → Starting n pairs index 0
 unfolding numbers
-start-begins n pairs index inv = record { within = omega arith; numbered = inv; listed = refl }
+start_begins n pairs index inv = record { within = omega arith; numbered = inv; listed = refl }
 
 module _ (n : ℕ) (pairs index : List ℕ) (i : ℕ) (inv : Starting n pairs index i) where
   pub start_new : (code : ℕ) → n ≤ max_terms → i < n → code ≡ code_of i 0 → get_or index code 0 ≡ 0

@@ -13,9 +13,9 @@ use Rattle.answer.proofs.Filling.{front_more}
 use Rattle.automaton.proofs.Records.{records_last}
 use Rattle.translation.specs.Memory.{AddsRecords}
 
-pub transition-length : (must must_not target : ℕ) → length (transition_bytes must must_not target) ≡ 4
+pub transition_length : (must must_not target : ℕ) → length (transition_bytes must must_not target) ≡ 4
 unfolding two_bytes
-transition-length must must_not target = refl
+transition_length must must_not target = refl
 
 -- ---- the front
 

@@ -77,8 +77,8 @@ module _ (rule : List ℕ) (passed : sizes_checked rule ≡ fine) {initial : ℕ
       walk_explored (state_walk rule) eqb-true (λ x. eq-eqb x x refl) (omega (arith, initial_few rule passed)) w.found
 
   -- the initial states are the first
-  pub initial-states : length (cover (formula rule)) ≤ length xs
-  initial-states = extends_longer whole.extends
+  pub initial_states : length (cover (formula rule)) ≤ length xs
+  initial_states = extends_longer whole.extends
 
   -- the transitions of the states before s, and of s
   abbrev earlier : ℕ → List Term
@@ -148,7 +148,7 @@ module _ (rule : List ℕ) (passed : sizes_checked rule ≡ fine) {initial : ℕ
           let met = in_map (λ u. u.obligations) t (own s) h in
           (whole.numbered t.obligations ((whole.taken s (omega arith) lt).closed t.obligations met)).0
 
-    pub row-leads : (x : ℕ) → In x (row ends kepts s) → kept_target x < length xs
-    row-leads x h =
+    pub row_leads : (x : ℕ) → In x (row ends kepts s) → kept_target x < length xs
+    row_leads x h =
         let (t, m, e) = map_in (kept rule xs) x (own s) (rw row_is at h) in
         rw (e, (parts_of t m).target) (target_found t m)

@@ -13,7 +13,7 @@ use Rattle.formula.specs.Limits.{max_untils}
 use Rattle.term.specs.Term.{Term}
 use Rattle.generalized.specs.Limits.{max_generalized_states}
 use Rattle.acceptance.specs.Acceptance.{until_count, fulfils_next, fulfilment}
-use Rattle.acceptance.proofs.Bits.{fulfilment-has}
+use Rattle.acceptance.proofs.Bits.{fulfilment_has}
 use Rattle.generalized.specs.Memory.{kept_target, kept_untils}
 use Rattle.translation.specs.Degeneralized.{climb, next_level}
 use Rattle.translation.specs.Memory.{level_places, code_places, climb_n, next_level_n, target_n}
@@ -37,13 +37,13 @@ module _ (untils r j : ℕ) where
       let none : r - j ≡ 0 = omega arith in
       rw (none, climb_n)
 
-  pub next-below : j < r → next_level_n untils r j ≡ climb_n untils (r - j) j
+  pub next_below : j < r → next_level_n untils r j ≡ climb_n untils (r - j) j
   unfolding next_level_n
-  next-below lt = rw (lt-ltb j r lt)
+  next_below lt = rw (lt-ltb j r lt)
 
-  pub next-again : r ≤ j → next_level_n untils r j ≡ climb_n untils (r - 0) 0
+  pub next_again : r ≤ j → next_level_n untils r j ≡ climb_n untils (r - 0) 0
   unfolding next_level_n
-  next-again le =
+  next_again le =
       let e : r - 0 ≡ r = omega arith in
       rw (le-ltb j r le, e)
 
@@ -70,11 +70,11 @@ module _ (r level x : ℕ) (few : r ≤ max_untils) where
   pub level_fits : next_level_n (kept_untils x) r level < level_places
   level_fits = omega (arith, next_most (kept_untils x) r level)
 
-  pub target-state : target_n r level x / level_places ≡ kept_target x
-  target-state = omega (arith, level_fits)
+  pub target_state : target_n r level x / level_places ≡ kept_target x
+  target_state = omega (arith, level_fits)
 
-  pub target-level : target_n r level x % level_places ≡ next_level_n (kept_untils x) r level
-  target-level = omega (arith, level_fits)
+  pub target_level : target_n r level x % level_places ≡ next_level_n (kept_untils x) r level
+  target_level = omega (arith, level_fits)
 
   pub target_inside : kept_target x < max_generalized_states → target_n r level x < code_places
   target_inside lt = omega (arith, level_fits)
@@ -85,16 +85,16 @@ module _ (rule : List ℕ) (t : Term) where
   climb_is : (left j : ℕ) → j + left ≤ until_count rule → climb_n (fulfilment rule t) left j ≡ climb rule left j t
   unfolding climb_n climb
   climb_is zero j le = refl
-  climb_is (suc left) j le = rw (fulfilment-has rule t j (omega arith), climb_n, climb) (go (fulfils_next rule j t) (climb_is left (suc j) (omega arith)))
+  climb_is (suc left) j le = rw (fulfilment_has rule t j (omega arith), climb_n, climb) (go (fulfils_next rule j t) (climb_is left (suc j) (omega arith)))
     where
       go : (b : Bool) → climb_n (fulfilment rule t) left (suc j) ≡ climb rule left (suc j) t
           → ◌≡◌ {A = ℕ} (elim b [ true ↦ climb_n (fulfilment rule t) left (suc j) | false ↦ j ]) (elim b [ true ↦ climb rule left (suc j) t | false ↦ j ])
       go true next = next
       go false next = refl
 
-  pub next-level_is : (j : ℕ) → next_level_n (fulfilment rule t) (until_count rule) j ≡ next_level rule j t
+  pub next_level_is : (j : ℕ) → next_level_n (fulfilment rule t) (until_count rule) j ≡ next_level rule j t
   unfolding next_level_n next_level
-  next-level_is j = go (ltb j (until_count rule)) refl
+  next_level_is j = go (ltb j (until_count rule)) refl
     where
       go : (b : Bool) → ltb j (until_count rule) ≡ b
           → cond b (climb_n (fulfilment rule t) (until_count rule - j) j) (climb_n (fulfilment rule t) (until_count rule) 0) ≡ cond b (climb rule (until_count rule - j) j t) (climb rule (until_count rule) 0 t)

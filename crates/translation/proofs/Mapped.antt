@@ -9,8 +9,8 @@ use native.Mathlib.Omega.{arith}
 use lib.ListN.{length, get_or, length-map, get_or-map}
 use Rattle.answer.specs.Result.{Result, accepted, refused, Check, fine}
 use Rattle.generalized.specs.Explore.{find, meet, Numbering, meet_all, Walk, explore}
-use Rattle.generalized.proofs.Exploring.{meet_seen, meet-next, meet_full, all_refused, all_full, all-next, all-met}
-use Rattle.generalized.proofs.Exploring.{explore-next, explore_refused, explore_ends}
+use Rattle.generalized.proofs.Exploring.{meet_seen, meet_next, meet_full, all_refused, all_full, all_next, all_met}
+use Rattle.generalized.proofs.Exploring.{explore_next, explore_refused, explore_ends}
 use Rattle.sets.proofs.Members.{All, at_in}
 use Rattle.generalized.proofs.Explored.{all_grows}
 
@@ -24,10 +24,10 @@ module _ {A B : Type 0} (n : Numbering A) (sameB : B → B → Bool) (f : A → 
   abbrev m : Numbering B
   m = record { same = sameB; limit = n.limit; full = n.full; each = n.each }
 
-  pub find-map : (x : A) (xs : List A) → find sameB (f x) (map f xs) ≡ find n.same x xs
+  pub find_map : (x : A) (xs : List A) → find sameB (f x) (map f xs) ≡ find n.same x xs
   unfolding find
-  find-map x [] = refl
-  find-map x (y ∷ ys) = rw (keeps x y) (go (n.same x y) (find-map x ys))
+  find_map x [] = refl
+  find_map x (y ∷ ys) = rw (keeps x y) (go (n.same x y) (find_map x ys))
     where
       place : Bool → ℕ → ℕ
       place b k = elim b [ true ↦ 0 | false ↦ suc k ]
@@ -43,21 +43,21 @@ module _ {A B : Type 0} (n : Numbering A) (sameB : B → B → Bool) (f : A → 
   abbrev meet_b : (place : ℕ) → B → List B → Result (List B)
   meet_b = meet sameB n.limit n.full
 
-  meet-map : (place : ℕ) (x : A) (xs : List A) → meet_b place (f x) (map f xs) ≡ mapped f (meet_a place x xs)
-  meet-map place x xs = pick (dec_lt (find n.same x xs) (length xs)) (dec_lt (length xs) n.limit)
+  meet_map : (place : ℕ) (x : A) (xs : List A) → meet_b place (f x) (map f xs) ≡ mapped f (meet_a place x xs)
+  meet_map place x xs = pick (dec_lt (find n.same x xs) (length xs)) (dec_lt (length xs) n.limit)
     where
       late : length xs ≤ find n.same x xs → length (map f xs) ≤ find sameB (f x) (map f xs)
-      late le = rw (find-map x xs, length-map xs f) le
+      late le = rw (find_map x xs, length-map xs f) le
 
       pick : Dec (find n.same x xs < length xs) → Dec (length xs < n.limit)
           → meet_b place (f x) (map f xs) ≡ mapped f (meet_a place x xs)
       pick (yes lt) room =
-          meet_seen sameB n.limit n.full place (f x) (map f xs) (rw (find-map x xs, length-map xs f) lt)
+          meet_seen sameB n.limit n.full place (f x) (map f xs) (rw (find_map x xs, length-map xs f) lt)
           ∙ sym (ap (mapped f) (meet_seen n.same n.limit n.full place x xs lt))
       pick (no ge) (yes lt) =
-          meet-next sameB n.limit n.full place (f x) (map f xs) (late (omega arith)) (rw (length-map xs f) lt)
+          meet_next sameB n.limit n.full place (f x) (map f xs) (late (omega arith)) (rw (length-map xs f) lt)
           ∙ ap accepted (sym (map-append f xs (x ∷ [])))
-          ∙ sym (ap (mapped f) (meet-next n.same n.limit n.full place x xs (omega arith) lt))
+          ∙ sym (ap (mapped f) (meet_next n.same n.limit n.full place x xs (omega arith) lt))
       pick (no ge) (no over) =
           meet_full sameB n.limit n.full place (f x) (map f xs) (late (omega arith))
           (rw (length-map xs f) (omega arith))
@@ -65,7 +65,7 @@ module _ {A B : Type 0} (n : Numbering A) (sameB : B → B → Bool) (f : A → 
 
   all_map : (place : ℕ) (ts : List A) (count : ℕ) (xs : List A)
       → meet_all m place (map f ts) count (map f xs) ≡ mapped f (meet_all n place ts count xs)
-  all_map place [] count xs = all-met m place count (map f xs) ∙ sym (ap (mapped f) (all-met n place count xs))
+  all_map place [] count xs = all_met m place count (map f xs) ∙ sym (ap (mapped f) (all_met n place count xs))
   all_map place (y ∷ ts) count xs =
       go (n.each place count) refl (meet_a place y xs) refl (λ more. all_map place ts (suc count) more)
     where
@@ -74,11 +74,11 @@ module _ {A B : Type 0} (n : Numbering A) (sameB : B → B → Bool) (f : A → 
           ≡ mapped f (meet_all n place ts (suc count) more))
           → meet_all m place (map f (y ∷ ts)) count (map f xs) ≡ mapped f (meet_all n place (y ∷ ts) count xs)
       go (accepted u) p (accepted more) q rest =
-          all-next m place (f y) (map f ts) count (map f xs) p (meet-map place y xs ∙ ap (mapped f) q)
+          all_next m place (f y) (map f ts) count (map f xs) p (meet_map place y xs ∙ ap (mapped f) q)
           ∙ rest more
-          ∙ sym (ap (mapped f) (all-next n place y ts count xs p q))
+          ∙ sym (ap (mapped f) (all_next n place y ts count xs p q))
       go (accepted u) p (refused number at) q rest =
-          all_full m place (f y) (map f ts) count (map f xs) p (meet-map place y xs ∙ ap (mapped f) q)
+          all_full m place (f y) (map f ts) count (map f xs) p (meet_map place y xs ∙ ap (mapped f) q)
           ∙ sym (ap (mapped f) (all_full n place y ts count xs p q))
       go (refused number at) p met q rest =
           all_refused m place (f y) (map f ts) count (map f xs) p
@@ -111,12 +111,12 @@ module _ {A B : Type 0} (n : Numbering A) (sameB : B → B → Bool) (f : A → 
       inside : place < length (map f xs)
       inside = rw (length-map xs f) lt
 
-    pub explore-map : (fuel place count : ℕ) (xs : List A) → All P xs
+    pub explore_map : (fuel place count : ℕ) (xs : List A) → All P xs
         → explore walk_b fuel place count (map f xs) ≡ mapped f (explore walk_a fuel place count xs)
     unfolding explore
-    explore-map zero place count xs all = refl
-    explore-map (suc fuel) place count xs all =
-        pick (dec_lt place (length xs)) (λ more c ps. explore-map fuel (suc place) c more ps)
+    explore_map zero place count xs all = refl
+    explore_map (suc fuel) place count xs all =
+        pick (dec_lt place (length xs)) (λ more c ps. explore_map fuel (suc place) c more ps)
       where
         pick : Dec (place < length xs)
             → ((more : List A) (c : ℕ) → All P more
@@ -128,11 +128,11 @@ module _ {A B : Type 0} (n : Numbering A) (sameB : B → B → Bool) (f : A → 
                 → explore walk_b (suc fuel) place count (map f xs) ≡ mapped f (explore walk_a (suc fuel) place count xs)
             go (accepted more) e =
                 let grown = all_grows n place _ count xs more e in
-                explore-next walk_b fuel place count (map f xs) (inside place count xs all lt)
+                explore_next walk_b fuel place count (map f xs) (inside place count xs all lt)
                 (taken place count xs all lt ∙ ap (mapped f) e)
                 ∙ rw (counts place count xs all lt)
                 (next more _ (grown.every P (keep _ (all _ (at_in none xs place lt))) all))
-                ∙ sym (ap (mapped f) (explore-next walk_a fuel place count xs lt e))
+                ∙ sym (ap (mapped f) (explore_next walk_a fuel place count xs lt e))
             go (refused number at) e =
                 explore_refused walk_b fuel place count (map f xs) (inside place count xs all lt)
                 (taken place count xs all lt ∙ ap (mapped f) e)

@@ -14,8 +14,8 @@ use Rattle.sets.specs.Sets.{In}
 use Rattle.sets.proofs.Members.{at_in}
 use Rattle.generalized.specs.Explore.{find, meet, meet_all}
 use Rattle.generalized.specs.Memory.{kept_must, kept_must_not}
-use Rattle.generalized.proofs.Exploring.{meet_seen, meet-next, meet_full, all_full, all-next, all-met}
-use Rattle.generalized.proofs.Numbers.{find-stays, find-next}
+use Rattle.generalized.proofs.Exploring.{meet_seen, meet_next, meet_full, all_full, all_next, all_met}
+use Rattle.generalized.proofs.Numbers.{find_stays, find_next}
 use Rattle.automaton.specs.Limits.{max_states}
 use Rattle.automaton.specs.Records.{records, transition_bytes}
 use Rattle.automaton.proofs.Records.{records_last}
@@ -24,16 +24,16 @@ use Rattle.translation.specs.declared.Met.{Met}
 use Rattle.translation.specs.declared.Met.TheVariants.{Number, Full}
 use Rattle.translation.specs.Memory.{code_places, target_n, code_numbering, number_n, transition_n, PairsNumbered, NumberedPair, MeetsPair, AddsRecords, AddedRows}
 use Rattle.translation.proofs.Numbering.{seen, unseen, number_is}
-use Rattle.translation.proofs.Filling.{transition-length, adds_more}
+use Rattle.translation.proofs.Filling.{transition_length, adds_more}
 use Rattle.answer.proofs.Filling.{front_more}
 
 -- the pair at a place of those that are numbered
 module _ (pairs index : List ℕ) (n place : ℕ) (inv : PairsNumbered pairs index n) (lt : place < n) where
-  pub numbered-length : length (take n pairs) ≡ n
-  numbered-length = length-take-le n pairs (omega (arith, inv.room, inv.few))
+  pub numbered_length : length (take n pairs) ≡ n
+  numbered_length = length-take-le n pairs (omega (arith, inv.room, inv.few))
 
   pub among : In (get_or pairs place 0) (take n pairs)
-  among = rw (← get_or-take n pairs place 0 lt) (at_in 0 (take n pairs) place (omega (arith, numbered-length)))
+  among = rw (← get_or-take n pairs place 0 lt) (at_in 0 (take n pairs) place (omega (arith, numbered_length)))
 
 -- ---- one target
 
@@ -69,10 +69,10 @@ module _ (pairs index : List ℕ) (n code : ℕ) (inv : PairsNumbered pairs inde
         → PairsNumbered pairs' index' (n + 1) × (take (n + 1) pairs' ≡ take n pairs ++ (code ∷ [])) → (place : ℕ)
         → NumberedPair code (take n pairs) (meets place) n (n + 1) pairs' index'
     met_next room pairs' index' added place = record {
-      are = meet-next eqb max_states 24 place code (take n pairs) late (rw size room) ∙ rw added.1;
+      are = meet_next eqb max_states 24 place code (take n pairs) late (rw size room) ∙ rw added.1;
       numbered = added.0;
       first = rw added.1 (take-append_seam (take n pairs) (code ∷ []));
-      found = rw added.1 (sym (find-next eqb code (take n pairs) (eq-eqb code code refl) late ∙ size));
+      found = rw added.1 (sym (find_next eqb code (take n pairs) (eq-eqb code code refl) late ∙ size));
       inside = omega arith;
     }
 
@@ -121,7 +121,7 @@ module _ {row : List ℕ} {r level place : ℕ} where
         let last : i ≡ length row = omega (arith, inv.within) in
         record {
           are = sym (inv.left count)
-              ∙ rw (drop_of_length-le row {i = i} le) (all-met code_numbering place _ codes);
+              ∙ rw (drop_of_length-le row {i = i} le) (all_met code_numbering place _ codes);
           numbered = inv.numbered;
           inside = omega (arith, inv.size);
           written = λ more. rw (← last) (rw (take_all i row le) at (inv.written more));
@@ -174,12 +174,12 @@ module _ {row : List ℕ} {r level place : ℕ} where
 
             -- the number stays, whatever pairs come after
             stays : (more : List ℕ) → number.0 ≡ find eqb to (codes' ++ more)
-            stays more = m.found ∙ sym (find-stays eqb to codes' more (omega (arith, size', m.found, m.inside)))
+            stays more = m.found ∙ sym (find_stays eqb to codes' more (omega (arith, size', m.found, m.inside)))
 
             one : (more : List ℕ)
                 → AddsRecords table (w + i) (transition_n (codes' ++ more) r level x) table' (w + i + 1)
             one more =
-                let four = transition-length (kept_must x) (kept_must_not x) in
+                let four = transition_length (kept_must x) (kept_must_not x) in
                 record {
                   count = rw (four (find eqb to (codes' ++ more))) (omega arith);
                   front = rw (← stays more)
@@ -200,7 +200,7 @@ module _ {row : List ℕ} {r level place : ℕ} where
                   size = same ∙ inv.size;
                   left = λ count.
                       let next : count + (i + 1) ≡ suc (count + i) = omega arith in
-                      let met_next = all-next code_numbering place _ _ (count + i) codes refl m.are in
+                      let met_next = all_next code_numbering place _ _ (count + i) codes refl m.are in
                       rw (next, add-one) (sym met_next ∙ left_is count);
                   written = λ more.
                       let bytes = transition_n (codes' ++ more) r level in

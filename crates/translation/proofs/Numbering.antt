@@ -14,7 +14,7 @@ use lib.Dec.{eqb, ltb}
 use borrow.Author.Tests.{eq-eqb, lt-ltb, le-ltb, eqb-true}
 use Rattle.sets.specs.Sets.{In}
 use Rattle.generalized.specs.Explore.{find}
-use Rattle.generalized.proofs.Numbers.{find-stays}
+use Rattle.generalized.proofs.Numbers.{find_stays}
 use Rattle.automaton.specs.Limits.{max_states}
 use Rattle.translation.specs.Memory.{code_places, PairsNumbered, number_n}
 
@@ -101,7 +101,7 @@ module _ (pairs index : List ℕ) (n : ℕ) (inv : PairsNumbered pairs index n) 
             find_behind eqb code (take n pairs) (code ∷ []) (omega (arith, before, unseen new)) ∙ rw (before, find, eq-eqb code code refl) (omega arith) in
             rw (e, get_or-set_same index code (n + 1) 0 (omega (arith, inv.size)), last, lt-ltb n (n + 1) (omega arith), add-one)
         each other l (no ne) (yes f) =
-            let same : find eqb other (take n pairs ++ (code ∷ [])) ≡ find eqb other (take n pairs) = find-stays eqb other (take n pairs) (code ∷ []) (omega (arith, before)) in
+            let same : find eqb other (take n pairs ++ (code ∷ [])) ≡ find eqb other (take n pairs) = find_stays eqb other (take n pairs) (code ∷ []) (omega (arith, before)) in
             rw (get_or-set_other index code other (n + 1) 0 ne, same, lt-ltb (find eqb other (take n pairs)) (n + 1) (omega arith), inv.number other l, lt-ltb (find eqb other (take n pairs)) n f)
         each other l (no ne) (no ge) =
             let most : n + 1 ≤ find eqb other (take n pairs ++ (code ∷ [])) =

@@ -15,27 +15,27 @@ use Rattle.formula.specs.Limits.{max_untils}
 use Rattle.generalized.specs.Explore.{meet_all, Walk, explore, walked}
 use Rattle.generalized.specs.Memory.{kept_target}
 use Rattle.generalized.proofs.Explored.{Grows, all_grows}
-use Rattle.generalized.proofs.Exploring.{explore-next, explore_refused, explore_ends}
+use Rattle.generalized.proofs.Exploring.{explore_next, explore_refused, explore_ends}
 use Rattle.automaton.specs.Limits.{max_states, max_of_state, transitions_bytes}
 use Rattle.automaton.specs.Records.{records}
-use Rattle.automaton.proofs.Records.{records_last, records-length}
+use Rattle.automaton.proofs.Records.{records_last, records_length}
 use Rattle.translation.specs.declared.StateNumber.{StateNumber}
 use Rattle.translation.specs.declared.Paired.{Paired}
 use Rattle.translation.specs.declared.Paired.TheVariants.{Count, Stop}
 use Rattle.translation.specs.Memory.{row_start, row_count, row, level_places, target_n, targets_n, code_numbering, code_walk, transition_n, row_n, rows_n, Within, Leads, PairRows, PairsNumbered, AddsRecords, AddedRows, AddsRows}
-use Rattle.translation.proofs.Levels.{target-state}
-use Rattle.translation.proofs.Within.{state-within, row_rises, row_inside, row_few}
-use Rattle.translation.proofs.Within.{OwnRow, own_is, own-begins, own_fits, own-leads}
+use Rattle.translation.proofs.Levels.{target_state}
+use Rattle.translation.proofs.Within.{state_within, row_rises, row_inside, row_few}
+use Rattle.translation.proofs.Within.{OwnRow, own_is, own_begins, own_fits, own_leads}
 use Rattle.translation.proofs.Filling.{adds_more}
 use Rattle.translation.proofs.Meeting.{among}
 
 -- a pair within the tables leads to such pairs
-pub targets-within : (ends transitions : List ℕ) (r n : ℕ) → r ≤ max_untils
+pub targets_within : (ends transitions : List ℕ) (r n : ℕ) → r ≤ max_untils
     → ((s : ℕ) → s < n → (x : ℕ) → In x (row ends transitions s) → kept_target x < n)
     → (code : ℕ) → code / level_places < n → Within n (targets_n ends transitions r code)
-targets-within ends transitions r n levels closed code lt x h =
+targets_within ends transitions r n levels closed code lt x h =
     let (y, m, e) = map_in (target_n r (code % level_places)) x (row ends transitions (code / level_places)) h in
-    rw (e, target-state r (code % level_places) y levels) (closed (code / level_places) lt y m)
+    rw (e, target_state r (code % level_places) y levels) (closed (code / level_places) lt y m)
 
 -- the walk that stands at place, with k pairs numbered and count transitions before, comes to what it is to come to; m
 -- transitions are written
@@ -104,8 +104,8 @@ module _ {ends transitions : List ℕ} {r : ℕ} where
       here : In code codes
       here = among pairs index k place inv.numbered lt
 
-      state-here : state < inv.rows.listed.states
-      state-here = state-within ends codes code inv.rows.listed here state refl
+      state_here : state < inv.rows.listed.states
+      state_here = state_within ends codes code inv.rows.listed here state refl
 
       rises : row_start ends state ≤ get_or ends state 0
       rises = row_rises ends codes code inv.rows.listed here state refl
@@ -113,27 +113,27 @@ module _ {ends transitions : List ℕ} {r : ℕ} where
       ends_inside : get_or ends state 0 ≤ length transitions
       ends_inside = rw inv.rows.size (row_inside ends codes code inv.rows.listed here state refl)
 
-      own-size : length own ≡ row_count ends state
-      own-size =
+      own_size : length own ≡ row_count ends state
+      own_size =
           length-take-le (row_count ends state) (drop (row_start ends state) transitions)
           (omega (arith, length-drop (row_start ends state) transitions, rises, ends_inside))
 
       few_own : length own ≤ max_of_state
-      few_own = omega (arith, own-size, row_few ends codes code inv.rows.listed here state refl)
+      few_own = omega (arith, own_size, row_few ends codes code inv.rows.listed here state refl)
 
       -- the row as the code reads it
       module _ {start end : ℕ} (at : OwnRow ends code start end) where
         abbrev read : List ℕ
         read = take (end - start) (drop start transitions)
 
-        pub row-begins : start ≤ end
-        row-begins = own-begins inv.rows here at
+        pub row_begins : start ≤ end
+        row_begins = own_begins inv.rows here at
 
         pub row_fits : end ≤ length transitions
         row_fits = own_fits inv.rows here at
 
-        pub row-leads : Leads read
-        row-leads = own-leads inv.rows here at
+        pub row_leads : Leads read
+        row_leads = own_leads inv.rows here at
 
         pub row_room : (m + length read) * 4 ≤ length table
         row_room =
@@ -196,8 +196,8 @@ module _ {ends transitions : List ℕ} {r : ℕ} where
             within : Within inv.rows.listed.states codes'
             within =
                 let states = inv.rows.listed.states in
-                let onward = targets-within ends transitions r states inv.rows.levels inv.rows.closed code in
-                grown.every (λ c. c / level_places < states) (onward state-here) inv.rows.listed.within
+                let onward = targets_within ends transitions r states inv.rows.levels inv.rows.closed code in
+                grown.every (λ c. c / level_places < states) (onward state_here) inv.rows.listed.within
 
             done_more : take (suc place) pairs' ≡ take place pairs ++ (code ∷ [])
             done_more =
@@ -212,14 +212,14 @@ module _ {ends transitions : List ℕ} {r : ℕ} where
 
             left_now : explore walk (max_states - suc place) (suc place) (inv.count + length targets) codes' ≡ all
             left_now =
-                let next = explore-next walk (max_states - suc place) place inv.count codes {ys = codes'} inside
+                let next = explore_next walk (max_states - suc place) place inv.count codes {ys = codes'} inside
                 (rw at_place counted.are) in
                 rw (← at_place) (sym next ∙ rw (← fuel) inv.left)
 
             pub pairing_steps : Pairing ends transitions r all before pairs' index' table' n after (place + 1)
             unfolding two_bytes
             pairing_steps =
-                let bytes-many = records-length (transition_n (codes' ++ []) r (code % level_places)) 4 (λ x. refl) own in
+                let bytes-many = records_length (transition_n (codes' ++ []) r (code % level_places)) 4 (λ x. refl) own in
                 record {
                   count = inv.count + length targets;
                   numbered = counted.numbered;

@@ -14,7 +14,7 @@ use borrow.Author.Tests.{eqb-true, eq-eqb, ne_eqb}
 use Rattle.answer.specs.Result.{accepted, refused, fine}
 use Rattle.answer.specs.Bytes.{two_bytes, filled}
 use Rattle.sets.specs.Sets.{In, any}
-use Rattle.sets.proofs.Members.{at_in, any-map}
+use Rattle.sets.proofs.Members.{at_in, any_map}
 use Rattle.formula.specs.Limits.{max_untils}
 use Rattle.term.specs.Term.{Term}
 use Rattle.term.specs.Size.{sizes_checked}
@@ -28,7 +28,7 @@ use Rattle.automaton.specs.Automaton.{Transition, State, Automaton, free_to, at_
 use Rattle.automaton.specs.Limits.{max_states}
 use Rattle.automaton.specs.Records.{records, numbered, numbered_records, state_bytes, state_record, transition_record, state_records, transition_records, initial_records}
 use Rattle.automaton.specs.Tables.{transition_count, counts, outcome, Outcome}
-use Rattle.automaton.proofs.Records.{transitions-count}
+use Rattle.automaton.proofs.Records.{transitions_count}
 use Rattle.translation.specs.Degeneralized.{Pair, pair, same_pair, numbers, initial_numbers, next_level, pair_transitions, target, pair_walk, degeneralized, transition_of, state_of, translation}
 use Rattle.translation.specs.Translate.{stored}
 use Rattle.generalized.specs.Memory.{kept, kept_target}
@@ -36,15 +36,15 @@ use Rattle.generalized.proofs.Kept.{Parts}
 use Rattle.translation.specs.Memory.{row, level_places, code_of, pair_of, target_n, targets_n, code_numbering, code_walk}
 use Rattle.translation.specs.Memory.{stays_n, pair_bytes, transition_n, row_n, rows_n, FirstWalk, Within, PairRows}
 use Rattle.translation.specs.Memory.{PairsNumbered, AddsRecords, AddedRows, AddsRows, WalksPairs}
-use Rattle.translation.proofs.Levels.{target-state, target-level, next-level_is}
+use Rattle.translation.proofs.Levels.{target_state, target_level, next_level_is}
 use Rattle.generalized.proofs.Explored.{find_at, Explored, walk_explored}
 use Rattle.generalized.proofs.Passed.{initial_few}
 use Rattle.acceptance.proofs.Gathering.{untils_few}
-use Rattle.term.proofs.Sizes.{bytes-fine}
-use Rattle.translation.proofs.Mapped.{mapped, find-map, explore-map}
-use Rattle.translation.proofs.FirstWalk.{count_is, rows_of, row_is, parts_of, row-leads, initial-states}
-use Rattle.translation.proofs.Pairing.{targets-within}
-use Rattle.translation.proofs.Codes.{numbers-length, starts, starts-within, starts_once}
+use Rattle.term.proofs.Sizes.{bytes_fine}
+use Rattle.translation.proofs.Mapped.{mapped, find_map, explore_map}
+use Rattle.translation.proofs.FirstWalk.{count_is, rows_of, row_is, parts_of, row_leads, initial_states}
+use Rattle.translation.proofs.Pairing.{targets_within}
+use Rattle.translation.proofs.Codes.{numbers_length, starts, starts_within, starts_once}
 use Rattle.answer.proofs.Filling.{filled_as}
 
 -- the state and the level of a code
@@ -68,23 +68,23 @@ same_codes x y = pick (ℕ_discrete x y)
         states (no m) = rw (ne_eqb (state_n x) (state_n y) m)
 
 -- records of the same bytes
-records-same : {A B : Type 0} (f : A → List ℕ) (g : B → List ℕ) (h : A → B) (ys : List A)
+records_same : {A B : Type 0} (f : A → List ℕ) (g : B → List ℕ) (h : A → B) (ys : List A)
     → ((x : A) → In x ys → f x ≡ g (h x)) → records f ys ≡ records g (map h ys)
 unfolding records
-records-same f g h [] same = refl
-records-same f g h (x ∷ ys) same = rw (same x (inl refl), records-same f g h ys (λ y m. same y (inr m)))
+records_same f g h [] same = refl
+records_same f g h (x ∷ ys) same = rw (same x (inl refl), records_same f g h ys (λ y m. same y (inr m)))
 
 -- and where each knows its number
-numbered-same : {A B : Type 0} (f : ℕ → A → List ℕ) (g : ℕ → B → List ℕ) (h : A → B) (none : A) (from : ℕ)
+numbered_same : {A B : Type 0} (f : ℕ → A → List ℕ) (g : ℕ → B → List ℕ) (h : A → B) (none : A) (from : ℕ)
     (ys : List A)
     → ((i : ℕ) → i < length ys → f (from + i) (get_or ys i none) ≡ g (from + i) (h (get_or ys i none)))
     → numbered_records f from ys ≡ numbered_records g from (map h ys)
 unfolding records numbered
-numbered-same f g h none from [] same = refl
-numbered-same f g h none from (x ∷ ys) same =
+numbered_same f g h none from [] same = refl
+numbered_same f g h none from (x ∷ ys) same =
     let first : from + 0 ≡ from = omega arith in
     let next : (i : ℕ) → from + suc i ≡ suc from + i = λ i. omega arith in
-    let later = numbered-same f g h none (suc from) ys (λ i l. rw (← next i) (same (suc i) (omega arith))) in
+    let later = numbered_same f g h none (suc from) ys (λ i l. rw (← next i) (same (suc i) (omega arith))) in
     rw (rw first at (same 0 (omega arith)), later)
 
 map_same : {A B : Type 0} (f g : A → B) (ys : List A) → ((x : A) → In x ys → f x ≡ g x) → map f ys ≡ map g ys
@@ -102,7 +102,7 @@ starts_are (i ∷ ns) =
 
 pub record Begun (rule : List ℕ) (initial : ℕ) (kepts ends : List ℕ) (r : ℕ) (pairs index : List ℕ) : Type 0 where
   pub passed : sizes_checked rule ≡ fine
-  pub walked-first : FirstWalk rule initial kepts ends
+  pub walked_first : FirstWalk rule initial kepts ends
   pub levels : r ≡ until_count rule
   pub numbered : PairsNumbered pairs index initial
   pub start : take initial pairs ≡ starts initial
@@ -110,21 +110,21 @@ pub record Begun (rule : List ℕ) (initial : ℕ) (kepts ends : List ℕ) (r : 
 module _ {rule : List ℕ} {initial : ℕ} {kepts ends : List ℕ} {r : ℕ} {pairs₀ index₀ : List ℕ}
     (b : Begun rule initial kepts ends r pairs₀ index₀) where
   abbrev states : List ℕ
-  states = b.walked-first.states
+  states = b.walked_first.states
 
   abbrev n : ℕ
-  n = length b.walked-first.states
+  n = length b.walked_first.states
 
   few_untils : r ≤ max_untils
-  few_untils = rw b.levels (untils_few rule (bytes-fine rule b.passed))
+  few_untils = rw b.levels (untils_few rule (bytes_fine rule b.passed))
 
   closed_are : (s : ℕ) → s < n → (x : ℕ) → In x (row ends kepts s) → kept_target x < n
-  closed_are s lt = row-leads rule b.passed b.walked-first s lt
+  closed_are s lt = row_leads rule b.passed b.walked_first s lt
 
   rows_over : (codes : List ℕ) → Within n codes → PairRows ends kepts r codes
   rows_over codes within = record {
-    listed = record { states = n; rows = rows_of rule b.passed b.walked-first; within = within };
-    size = b.walked-first.room;
+    listed = record { states = n; rows = rows_of rule b.passed b.walked_first; within = within };
+    size = b.walked_first.room;
     levels = few_untils;
     closed = closed_are;
   }
@@ -134,7 +134,7 @@ module _ {rule : List ℕ} {initial : ℕ} {kepts ends : List ℕ} {r : ℕ} {pa
     own = transitions rule (get_or states (state_n code) 0)
 
     own_row : row ends kepts (state_n code) ≡ map (kept rule states) own
-    own_row = row_is rule b.passed b.walked-first (state_n code) lt
+    own_row = row_is rule b.passed b.walked_first (state_n code) lt
 
     -- the code of the pair that the transition t leads to
     abbrev target_of : Term → ℕ
@@ -142,16 +142,16 @@ module _ {rule : List ℕ} {initial : ℕ} {kepts ends : List ℕ} {r : ℕ} {pa
 
     module _ (t : Term) (h : In t own) where
       parts : Parts rule states t
-      parts = parts_of rule b.passed b.walked-first (state_n code) lt t h
+      parts = parts_of rule b.passed b.walked_first (state_n code) lt t h
 
       target_is : pair_of (target_of t) ≡ target rule states (pair_of code) t
       unfolding target
       target_is =
           let s : state_n (target_of t) ≡ find eqb t.obligations states =
-          target-state r (level_n code) (kept rule states t) few_untils ∙ parts.target in
+          target_state r (level_n code) (kept rule states t) few_untils ∙ parts.target in
           let l : level_n (target_of t) ≡ next_level rule (level_n code) t =
-          target-level r (level_n code) (kept rule states t) few_untils
-          ∙ rw (parts.untils, b.levels) (next-level_is rule t (level_n code)) in
+          target_level r (level_n code) (kept rule states t) few_untils
+          ∙ rw (parts.untils, b.levels) (next_level_is rule t (level_n code)) in
           rw (s, l)
 
     targets_are : (pair_walk rule states).targets (pair_of code) ≡ map pair_of (targets_n ends kepts r code)
@@ -163,27 +163,27 @@ module _ {rule : List ℕ} {initial : ℕ} {kepts ends : List ℕ} {r : ℕ} {pa
         ∙ sym (map-map pair_of (target_n r (level_n code)) (row ends kepts (state_n code)))
 
     keeps_within : Within n (targets_n ends kepts r code)
-    keeps_within = targets-within ends kepts r n few_untils closed_are code lt
+    keeps_within = targets_within ends kepts r n few_untils closed_are code lt
 
-  first-within : Within n (starts initial)
-  first-within =
-      let least = initial-states rule b.passed b.walked-first in
-      starts-within initial n (omega (arith, b.walked-first.begun, least))
+  first_within : Within n (starts initial)
+  first_within =
+      let least = initial_states rule b.passed b.walked_first in
+      starts_within initial n (omega (arith, b.walked_first.begun, least))
 
   first_few : length (starts initial) ≤ max_states
   first_few =
-      let size = length-map (numbers initial) (λ i. code_of i 0) ∙ numbers-length initial in
-      omega (arith, size, b.walked-first.begun, initial_few rule b.passed)
+      let size = length-map (numbers initial) (λ i. code_of i 0) ∙ numbers_length initial in
+      omega (arith, size, b.walked_first.begun, initial_few rule b.passed)
 
   pub first_rows : PairRows ends kepts r (take initial pairs₀)
-  first_rows = rw b.start (rows_over (starts initial) first-within)
+  first_rows = rw b.start (rows_over (starts initial) first_within)
 
   walk_is : degeneralized rule states ≡ mapped pair_of (walked (code_walk ends kepts r) (starts initial))
   unfolding degeneralized initial_numbers
   walk_is =
-      rw (← b.walked-first.begun, starts_are (numbers initial))
-      (explore-map code_numbering same_pair pair_of same_codes 0 (λ code. state_n code < n) (targets_n ends kepts r)
-      (pair_walk rule states).targets targets_are keeps_within max_states 0 0 (starts initial) first-within)
+      rw (← b.walked_first.begun, starts_are (numbers initial))
+      (explore_map code_numbering same_pair pair_of same_codes 0 (λ code. state_n code < n) (targets_n ends kepts r)
+      (pair_walk rule states).targets targets_are keeps_within max_states 0 0 (starts initial) first_within)
 
   -- ---- what the walk over the pairs comes to
 
@@ -194,18 +194,18 @@ module _ {rule : List ℕ} {initial : ℕ} {kepts ends : List ℕ} {r : ℕ} {pa
 
   module _ (t : List ℕ) (met : Paired) (pairs index table : List ℕ)
       (comes : WalksPairs ends kepts r initial pairs₀ t met pairs index table) where
-    from-starts : AddsRows (walked (code_walk ends kepts r) (starts initial)) (rows_n ends kepts r) t 0 met pairs index table
-    from-starts = rw (← b.start) comes
+    from_starts : AddsRows (walked (code_walk ends kepts r) (starts initial)) (rows_n ends kepts r) t 0 met pairs index table
+    from_starts = rw (← b.start) comes
 
     pub walk_done : {count written : ℕ} → met ≡ Count count written → Done t count written pairs index table
-    walk_done e = rw e at from-starts
+    walk_done e = rw e at from_starts
 
     pub walk_stopped : {at : StateNumber} → met ≡ Stop at → length table ≡ length t → {o : Outcome} (s i : List ℕ)
         → o ≡ stored (refused 24 at.0) s table i → o ≡ stored (translation rule) s t i
     unfolding stored translation
     walk_stopped {at} e same s i is =
-        let full : walked (code_walk ends kepts r) (starts initial) ≡ refused 24 at.0 = rw e at from-starts in
-        is ∙ rw (same, b.passed, b.walked-first.found, walk_is, full)
+        let full : walked (code_walk ends kepts r) (starts initial) ≡ refused 24 at.0 = rw e at from_starts in
+        is ∙ rw (same, b.passed, b.walked_first.found, walk_is, full)
 
   module _ {t : List ℕ} {count written : ℕ} {pairs index table : List ℕ}
       (done : Done t count written pairs index table) where
@@ -215,20 +215,20 @@ module _ {rule : List ℕ} {initial : ℕ} {kepts ends : List ℕ} {r : ℕ} {pa
     pub count_inside : count ≤ length pairs
     count_inside = omega (arith, done.numbered.room, done.numbered.few)
 
-    pub codes-count : length codes ≡ count
-    codes-count = length-take-le count pairs count_inside
+    pub codes_count : length codes ≡ count
+    codes_count = length-take-le count pairs count_inside
 
     pub codes_few : length codes ≤ max_states
-    codes_few = omega (arith, codes-count, done.numbered.few)
+    codes_few = omega (arith, codes_count, done.numbered.few)
 
     whole : Explored (code_walk ends kepts r) 0 (starts initial) codes
     whole = walk_explored (code_walk ends kepts r) eqb-true (λ x. eq-eqb x x refl) first_few done.are
 
-    codes-within : Within n codes
-    codes-within = whole.every (λ code. state_n code < n) keeps_within first-within
+    codes_within : Within n codes
+    codes_within = whole.every (λ code. state_n code < n) keeps_within first_within
 
     pub all_rows : PairRows ends kepts r codes
-    all_rows = rows_over codes codes-within
+    all_rows = rows_over codes codes_within
 
     -- the pairs by number, and each of them as a state of the automaton
     abbrev pairs_are : List Pair
@@ -247,30 +247,30 @@ module _ {rule : List ℕ} {initial : ℕ} {kepts ends : List ℕ} {r : ℕ} {pa
     number_is : (code : ℕ) (inside : state_n code < n) (u : Term) → In u (own code inside)
         → find eqb (target_of code inside u) codes ≡ (moved code u).target
     number_is code inside u h =
-        sym (find-map code_numbering same_pair pair_of same_codes (target_of code inside u) codes)
+        sym (find_map code_numbering same_pair pair_of same_codes (target_of code inside u) codes)
         ∙ rw (target_is code inside u h)
 
-    row-bytes : (code : ℕ) → In code codes
+    row_bytes : (code : ℕ) → In code codes
         → row_n ends kepts r codes code ≡ records transition_record (made code).transitions
     unfolding state_of pair_transitions transition_record
-    row-bytes code m =
+    row_bytes code m =
         ap (records (transition_n codes r (level_n code))) (own_row code inside)
-        ∙ sym (records-same (bytes code) (transition_n codes r (level_n code)) (kept rule states) own-terms (λ u _. refl))
-        ∙ records-same (bytes code) transition_record (moved code) own-terms each
+        ∙ sym (records_same (bytes code) (transition_n codes r (level_n code)) (kept rule states) own_terms (λ u _. refl))
+        ∙ records_same (bytes code) transition_record (moved code) own_terms each
       where
         inside : state_n code < n
-        inside = codes-within code m
+        inside = codes_within code m
 
-        own-terms : List Term
-        own-terms = own code inside
+        own_terms : List Term
+        own_terms = own code inside
 
         each : (u : Term) → In u (own code inside) → bytes code u ≡ transition_record (moved code u)
         each u h =
             rw ((parts code inside u h).must, (parts code inside u h).must_not, number_is code inside u h)
 
     -- a pair leads to itself where it leads to its own number
-    own-number : (i : ℕ) → i < length codes → (x : ℕ) → eqb x (get_or codes i 0) ≡ eqb (find eqb x codes) i
-    own-number i lt x = pick (ℕ_discrete x (get_or codes i 0))
+    own_number : (i : ℕ) → i < length codes → (x : ℕ) → eqb x (get_or codes i 0) ≡ eqb (find eqb x codes) i
+    own_number i lt x = pick (ℕ_discrete x (get_or codes i 0))
       where
         pick : Dec (x ≡ get_or codes i 0) → eqb x (get_or codes i 0) ≡ eqb (find eqb x codes) i
         pick (yes e) =
@@ -290,7 +290,7 @@ module _ {rule : List ℕ} {initial : ℕ} {kepts ends : List ℕ} {r : ℕ} {pa
         rw (
           (parts code inside u h).must,
           (parts code inside u h).must_not,
-          own-number i lt (target_of code inside u),
+          own_number i lt (target_of code inside u),
           number_is code inside u h,
         )
 
@@ -299,18 +299,18 @@ module _ {rule : List ℕ} {initial : ℕ} {kepts ends : List ℕ} {r : ℕ} {pa
     unfolding state_record state_of pair_transitions at_rest
     state_is i lt =
         let code = get_or codes i 0 in
-        let inside = codes-within code (at_in 0 codes i lt) in
-        let own-terms = own code inside in
+        let inside = codes_within code (at_in 0 codes i lt) in
+        let own_terms = own code inside in
         let free : Term → Bool = λ u. free_to i (moved code u) in
-        let stays = any-map (kept rule states) (stays_n r code) free own-terms (stays_is i lt inside) in
-        let frees = any-map (moved code) (free_to i) free own-terms (λ u _. refl) in
+        let stays = any_map (kept rule states) (stays_n r code) free own_terms (stays_is i lt inside) in
+        let frees = any_map (moved code) (free_to i) free own_terms (λ u _. refl) in
         rw (
           own_row code inside,
-          count_is rule b.passed b.walked-first (state_n code) inside,
+          count_is rule b.passed b.walked_first (state_n code) inside,
           length-map,
           stays,
           frees,
-        ) (ap (λ (q : ℕ). state_bytes (length own-terms) (eqb (level_n code) q) (eqb (level_n code) q && any free own-terms))
+        ) (ap (λ (q : ℕ). state_bytes (length own_terms) (eqb (level_n code) q) (eqb (level_n code) q && any free own_terms))
         b.levels)
 
     abbrev automaton : Automaton
@@ -318,28 +318,28 @@ module _ {rule : List ℕ} {initial : ℕ} {kepts ends : List ℕ} {r : ℕ} {pa
 
     walk_accepted : translation rule ≡ accepted automaton
     unfolding translation
-    walk_accepted = rw (b.passed, b.walked-first.found, walk_is, done.are)
+    walk_accepted = rw (b.passed, b.walked_first.found, walk_is, done.are)
 
     states_are : numbered_records (pair_bytes ends kepts r) 0 codes ≡ state_records automaton
     unfolding state_records
     states_are =
         rw (map-map (state_of rule states pairs_are) pair_of codes)
-        (numbered-same (pair_bytes ends kepts r) state_record made 0 0 codes
+        (numbered_same (pair_bytes ends kepts r) state_record made 0 0 codes
         (λ i l. let e : 0 + i ≡ i = omega arith in rw e (state_is i l)))
 
     transitions_are : records (row_n ends kepts r codes) codes ≡ transition_records automaton
     unfolding transition_records
     transitions_are =
         rw (map-map (state_of rule states pairs_are) pair_of codes)
-        (records-same (row_n ends kepts r codes) (λ s. records transition_record s.transitions) made codes row-bytes)
+        (records_same (row_n ends kepts r codes) (λ s. records transition_record s.transitions) made codes row_bytes)
 
     initial_is : records two_bytes (numbers initial) ≡ initial_records automaton
     unfolding initial_records initial_numbers
-    initial_is = rw b.walked-first.begun
+    initial_is = rw b.walked_first.begun
 
-    transitions-total : length (transition_records automaton) ≡ transition_count automaton.states * 4
+    transitions_total : length (transition_records automaton) ≡ transition_count automaton.states * 4
     unfolding transition_records
-    transitions-total = transitions-count automaton.states
+    transitions_total = transitions_count automaton.states
 
     rows_written : AddsRecords t 0 (transition_records automaton) table written
     rows_written = rw (← transitions_are) (rw append-nil at (done.written []))
@@ -347,11 +347,11 @@ module _ {rule : List ℕ} {initial : ℕ} {kepts ends : List ℕ} {r : ℕ} {pa
     counted : record { states = count; transitions = written; initial = initial } ≡ counts automaton
     unfolding initial_numbers
     counted =
-        let states-many = length-map pairs_are (state_of rule states pairs_are) ∙ length-map codes pair_of ∙ codes-count in
+        let states-many = length-map pairs_are (state_of rule states pairs_are) ∙ length-map codes pair_of ∙ codes_count in
         let many : written ≡ transition_count automaton.states =
-        omega (arith, rows_written.count, transitions-total) in
+        omega (arith, rows_written.count, transitions_total) in
         let initial-many : initial ≡ length automaton.initial =
-        sym (rw (← b.walked-first.begun) (numbers-length initial)) in
+        sym (rw (← b.walked_first.begun) (numbers_length initial)) in
         λ k. record { states = sym states-many k; transitions = many k; initial = initial-many k }
 
     -- tables filled with these records have the automaton

@@ -12,7 +12,7 @@ use Rattle.formula.specs.Rule.{node_count}
 use Rattle.formula.specs.Rule
 use Rattle.formula.specs.Formula.{formula}
 use Rattle.normalform.specs.NormalForm.{normal_form, written_checked}
-use Rattle.normalform.proofs.Passes.{normal_form-checked}
+use Rattle.normalform.proofs.Passes.{normal_form_checked}
 use Rattle.term.specs.declared.Tabulated.{Tabulated}
 use Rattle.term.specs.Term.{conflicts}
 use Rattle.term.specs.Size.{size_check, sizes_checked}
@@ -102,4 +102,4 @@ module _ (rule s t i : List ℕ) where
     unfolding translated written_translation written_checked translated_conflicts written_conflicts
     built form made passes done =
         (λ k. carried (done.tables k) (done.conflicts k))
-        ∙ rw (fine_room s t i room, made, ← normal_form-checked rule form made, passes)
+        ∙ rw (fine_room s t i room, made, ← normal_form_checked rule form made, passes)

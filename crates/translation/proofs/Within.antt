@@ -13,20 +13,20 @@ use Rattle.translation.specs.Memory.{row_start, row_count, row, level_places, In
 
 -- the pair of a code, with its state's number as it is read of the code
 module _ (ends codes : List ℕ) (code : ℕ) (listed : InRows ends codes) (among : In code codes) (s : ℕ) (is : s ≡ code / level_places) where
-  pub state-within : s < listed.states
-  state-within = omega (arith, listed.within code among)
+  pub state_within : s < listed.states
+  state_within = omega (arith, listed.within code among)
 
   pub state_inside : s < length ends
-  state_inside = omega (arith, state-within, listed.rows.states, listed.rows.size)
+  state_inside = omega (arith, state_within, listed.rows.states, listed.rows.size)
 
   pub row_rises : row_start ends s ≤ get_or ends s 0
-  row_rises = listed.rows.rising s state-within
+  row_rises = listed.rows.rising s state_within
 
   pub row_inside : get_or ends s 0 ≤ max_generalized_transitions
-  row_inside = listed.rows.inside s state-within
+  row_inside = listed.rows.inside s state_within
 
   pub row_few : row_count ends s ≤ max_of_state
-  row_few = listed.rows.few s state-within
+  row_few = listed.rows.few s state_within
 
 -- one of several pairs by itself
 pub one_alone : {ends transitions : List ℕ} {r : ℕ} {codes : List ℕ} (code : ℕ) → PairRows ends transitions r codes
@@ -59,8 +59,8 @@ module _ {ends transitions : List ℕ} {r : ℕ} {codes : List ℕ} {code : ℕ}
   pub own_is : take (end - start) (drop start transitions) ≡ row ends transitions (code / level_places)
   own_is = rw (at.begins, at.ending)
 
-  pub own-begins : start ≤ end
-  own-begins = rw (at.begins, at.ending) (row_rises ends codes code rows.listed among (code / level_places) refl)
+  pub own_begins : start ≤ end
+  own_begins = rw (at.begins, at.ending) (row_rises ends codes code rows.listed among (code / level_places) refl)
 
   pub own_fits : end ≤ length transitions
   own_fits = rw (at.ending, rows.size) (row_inside ends codes code rows.listed among (code / level_places) refl)
@@ -68,7 +68,7 @@ module _ {ends transitions : List ℕ} {r : ℕ} {codes : List ℕ} {code : ℕ}
   pub own_few : end - start ≤ max_of_state
   own_few = rw (at.begins, at.ending) (row_few ends codes code rows.listed among (code / level_places) refl)
 
-  pub own-leads : Leads (take (end - start) (drop start transitions))
-  own-leads =
-      let here = state-within ends codes code rows.listed among (code / level_places) refl in
+  pub own_leads : Leads (take (end - start) (drop start transitions))
+  own_leads =
+      let here = state_within ends codes code rows.listed among (code / level_places) refl in
       rw own_is (λ x h. omega (arith, rows.closed (code / level_places) here x h, rows.listed.rows.states))

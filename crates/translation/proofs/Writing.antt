@@ -17,7 +17,7 @@ use Rattle.translation.specs.Memory.{row_count, row, level_places, rests_n, pair
 use Rattle.translation.proofs.Within.{OwnRow, own_is}
 use Rattle.translation.proofs.Filling.{front_record}
 use Rattle.answer.proofs.Filling.{filled_as}
-use Rattle.automaton.proofs.Records.{numbered_last, number-length, state-length}
+use Rattle.automaton.proofs.Records.{numbered_last, number_length, state_length}
 
 -- ---- the initial numbers
 
@@ -36,7 +36,7 @@ unfolding numbers
 initials_step before n table after i room lt inv same e = record {
   within = omega arith;
   size = same ∙ inv.size;
-  front = rw (add-one i) (front_record two_bytes (numbers i) i table after (i * 2) (suc i * 2) inv.front (rw (number-length i) (omega arith)) (omega (arith, inv.size)) e);
+  front = rw (add-one i) (front_record two_bytes (numbers i) i table after (i * 2) (suc i * 2) inv.front (rw (number_length i) (omega arith)) (omega (arith, inv.size)) e);
 }
 
 pub initials_end : (before : List ℕ) (n : ℕ) (table after : List ℕ) (i : ℕ) → n ≤ i → Initials before n table i → after ≡ filled table (take (n * 2) table) → after ≡ filled before (records two_bytes (numbers n))
@@ -58,9 +58,9 @@ states_begin ends kept r pairs before = record { within = omega arith; size = re
 
 module _ (ends kept : List ℕ) (r : ℕ) (pairs before table : List ℕ) (p : ℕ)
     (inv : States ends kept r pairs before table p) where
-  pub states-end : (after : List ℕ) → length pairs ≤ p → after ≡ filled table (take (length pairs * 4) table)
+  pub states_end : (after : List ℕ) → length pairs ≤ p → after ≡ filled table (take (length pairs * 4) table)
       → after ≡ filled before (numbered_records (pair_bytes ends kept r) 0 pairs)
-  states-end after le e =
+  states_end after le e =
       let last : p ≡ length pairs = omega (arith, inv.within) in
       let all : take p pairs ≡ pairs = take_all p pairs le in
       filled_as before table after (numbered_records (pair_bytes ends kept r) 0 pairs) (length pairs * 4)
@@ -77,7 +77,7 @@ module _ (ends kept : List ℕ) (r : ℕ) (pairs before table : List ℕ) (p : �
         let number : 0 + length (take p pairs) ≡ p = omega (arith, length-take-le p pairs inv.within) in
         let code = get_or pairs p 0 in
         let size =
-        state-length (row_count ends (code / level_places)) (eqb (code % level_places) r)
+        state_length (row_count ends (code / level_places)) (eqb (code % level_places) r)
         (rests_n r code (row ends kept (code / level_places))) in
         record {
           within = omega arith;

@@ -18,8 +18,8 @@ use Rattle.term.specs.Memory.{unpack, row_of}
 use Rattle.term.proofs.Rows.{row_is, row_fits}
 use Rattle.acceptance.specs.Acceptance.{fulfils_next, bits_of, fulfilment}
 use Rattle.acceptance.specs.Memory.{Known, fulfils_n}
-use Rattle.acceptance.proofs.Gathering.{untils_few, untils-below}
-use Rattle.acceptance.proofs.Tests.{fulfils-number}
+use Rattle.acceptance.proofs.Gathering.{untils_few, untils_below}
+use Rattle.acceptance.proofs.Tests.{fulfils_number}
 use Rattle.acceptance.proofs.Bits.{bits_small}
 use Rattle.acceptance.proofs.fulfilment.Statement.{statement}
 use Rattle.acceptance.proofs.fulfilment.Tie as tie
@@ -51,7 +51,7 @@ module _ {rule table nodes : List ℕ} {count : ℕ} (known : Known rule table n
     node-is = rw (← known.untils.gathered) (sym (get_or-take count nodes k 0 lt))
 
     inside : get_or nodes k 0 < node_count rule
-    inside = rw node-is (untils-below rule (node_count rule) k (omega (arith, known.untils.counted)))
+    inside = rw node-is (untils_below rule (node_count rule) k (omega (arith, known.untils.counted)))
 
     node-small : get_or nodes k 0 < max_nodes
     node-small = omega (arith, inside, (accepted_fine rule known.accepted).most)
@@ -61,7 +61,7 @@ module _ {rule table nodes : List ℕ} {count : ℕ} (known : Known rule table n
 
     next : {b : Bool} (t : ℕ) → b ≡ fulfils_n (get_or nodes k 0) (row_of table (get_or nodes k 0)) t → b ≡ fulfils_next rule k (unpack t)
     next t is =
-        is ∙ rw (row_is (known.terms.rows (get_or nodes k 0) inside), fulfils-number rule (get_or nodes k 0) t (accepted_in_range rule known.accepted (get_or nodes k 0) inside), node-is)
+        is ∙ rw (row_is (known.terms.rows (get_or nodes k 0) inside), fulfils_number rule (get_or nodes k 0) t (accepted_in_range rule known.accepted (get_or nodes k 0) inside), node-is)
 
     fulfil-steps : {t byte after : ℕ} {b : Bool} → Fulfilling rule count t byte k → b ≡ fulfils_n (get_or nodes k 0) (row_of table (get_or nodes k 0)) t → after ≡ byte + cond b (2 ^ k) 0 → Fulfilling rule count t after (k + 1)
     unfolding bits_of

@@ -13,7 +13,7 @@ use Rattle.sets.specs.Sets.{any}
 use Rattle.sets.proofs.Members.{map_at}
 use Rattle.domination.specs.Domination.{sift, stays}
 use Rattle.domination.specs.Memory.{dominates_n, Sorted, Drops}
-use Rattle.domination.proofs.Undominated.{sift-append, dominated_before}
+use Rattle.domination.proofs.Undominated.{sift_append, dominated_before}
 use Rattle.domination.proofs.Packed.{number_falls, number_follows}
 use Rattle.domination.proofs.drop_dominated.Statement.{statement}
 use Rattle.domination.proofs.drop_dominated.Tie as tie
@@ -96,7 +96,7 @@ module _ (ts₀ bytes₀ : List ℕ) (count : ℕ) where
         unfolding sift
         next-are b e =
             rw
-            (take-suc xs i 0 (omega (arith, count_is)), sift-append (stays (dominates_n untils) xs), e, s.are, here-is)
+            (take-suc xs i 0 (omega (arith, count_is)), sift_append (stays (dominates_n untils) xs), e, s.are, here-is)
             (go b)
           where
             front : List ℕ

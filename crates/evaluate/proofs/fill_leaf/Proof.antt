@@ -6,7 +6,7 @@ use lib.ListN.{length}
 use borrow.Author.Rules.{rules}
 use native.Mathlib.Omega.{arith}
 use Rattle.evaluate.specs.Memory.{leaf_step, Swept}
-use Rattle.evaluate.proofs.Sweeping.{sweep-begins, sweep_steps, leaf_flag}
+use Rattle.evaluate.proofs.Sweeping.{sweep_begins, sweep_steps, leaf_flag}
 use Rattle.evaluate.proofs.fill_leaf.Statement.{statement}
 use Rattle.evaluate.proofs.fill_leaf.Tie as tie
 
@@ -18,7 +18,7 @@ abbrev decreases-loop : tie.decreases-loop
 decreases-loop kind p stem cycle table₀ at i₀ table i = i
 
 loop-holds : tie.Need-loop-init invariant-loop decreases-loop
-loop-holds c = sweep-begins _ _ _ _ _
+loop-holds c = sweep_begins _ _ _ _ _
 
 letter-at-requires : tie.Need-letter-at-requires invariant-loop decreases-loop
 letter-at-requires c κs = omega (arith, c.before.loop.invariant.within)

@@ -1,7 +1,7 @@
 -- `evaluate::fill_node` meets its contract: the row of a leaf, of a pair, or of two rounds. Assumes nothing.
 use borrow.Author.Rules.{rules}
 use native.Mathlib.Omega.{arith}
-use Rattle.evaluate.proofs.Filling.{AtNode, few, proposition_known, left-low, right-low, leaf_done, pair_done}
+use Rattle.evaluate.proofs.Filling.{AtNode, few, proposition_known, left_low, right_low, leaf_done, pair_done}
 use Rattle.evaluate.proofs.Filling.{round_done}
 use Rattle.evaluate.proofs.fill_node.Statement.{statement}
 use Rattle.evaluate.proofs.fill_node.Tie as tie
@@ -37,18 +37,18 @@ returns c =
     leaf_done (node c.before.before.before.before.before) _ (omega arith) c.before.before.fill-leaf.ensures
 
 mul-a : tie.Need-overflow-mul-a
-mul-a c = omega (arith, few (node c.before), left-low (node c.before) (omega arith))
+mul-a c = omega (arith, few (node c.before), left_low (node c.before) (omega arith))
 
 mul-b : tie.Need-overflow-mul-b
 mul-b c =
     let f = c.before.before in
-    omega (arith, few (node f), right-low (node f) c.right_of.ensures (omega arith))
+    omega (arith, few (node f), right_low (node f) c.right_of.ensures (omega arith))
 
 fill-pair-requires : tie.Need-fill-pair-requires
 fill-pair-requires c κs =
     let f = c.before.before.before.before in
-    let l = left-low (node f) (omega arith) in
-    let r = right-low (node f) c.before.before.right_of.ensures (omega arith) in
+    let l = left_low (node f) (omega arith) in
+    let r = right_low (node f) c.before.before.right_of.ensures (omega arith) in
     let m = few (node f) in
     let room = (start f).requires.2 in
     (room.some, omega (arith, room.few), omega (arith, room.few), omega (arith, room.few, room.places))
@@ -62,8 +62,8 @@ returns-2 c =
 fill-round-requires : tie.Need-fill-round-requires
 fill-round-requires c κs =
     let f = c.before.before.before.before in
-    let l = left-low (node f) (omega arith) in
-    let r = right-low (node f) c.before.before.right_of.ensures (omega arith) in
+    let l = left_low (node f) (omega arith) in
+    let r = right_low (node f) c.before.before.right_of.ensures (omega arith) in
     let m = few (node f) in
     let room = (start f).requires.2 in
     (room.some, omega (arith, room.few), omega (arith, room.few), omega (arith, room.few, room.places))

@@ -7,7 +7,7 @@ use borrow.Author.Rules.{rules}
 use native.Mathlib.Omega.{arith}
 use Rattle.lasso.proofs.Letters.{after_small}
 use Rattle.evaluate.specs.Memory.{pair_step, Swept}
-use Rattle.evaluate.proofs.Sweeping.{sweep-begins, sweep_steps, pair-flag}
+use Rattle.evaluate.proofs.Sweeping.{sweep_begins, sweep_steps, pair_flag}
 use Rattle.evaluate.proofs.fill_pair.Statement.{statement}
 use Rattle.evaluate.proofs.fill_pair.Tie as tie
 
@@ -22,7 +22,7 @@ abbrev start : tie.At-loop invariant-loop decreases-loop → tie.Start invariant
 start c = c.before.before.before.before
 
 loop-holds : tie.Need-loop-init invariant-loop decreases-loop
-loop-holds c = sweep-begins _ _ _ _ _
+loop-holds c = sweep_begins _ _ _ _ _
 
 position-after-requires : tie.Need-position-after-requires invariant-loop decreases-loop
 position-after-requires c κs = (omega (arith, c.before.loop.invariant.within), (start c.before).pre.0)
@@ -74,7 +74,7 @@ loop-again c =
     let f = c.before.before.before.before.before.before in
     let s = (start f).args in
     sweep_steps _ _ _ _ _ _ f.loop.i (f.loop.i - 1) _ (omega arith) (omega arith)
-    (pair-flag s.kind s.a s.b s.at (length s.stem.now + length s.cycle.now) false _ s.table.now
+    (pair_flag s.kind s.a s.b s.at (length s.stem.now + length s.cycle.now) false _ s.table.now
     f.loop.table
     (omega arith) (omega arith) s.stem.now s.cycle.now refl (start f).requires.0 (f.loop.i - 1) f.loop.i _ _
     false

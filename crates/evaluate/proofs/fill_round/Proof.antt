@@ -2,7 +2,7 @@
 use borrow.Author.Rules.{rules}
 use mathlib.Core.Path.{refl}
 use native.Mathlib.Omega.{arith}
-use Rattle.evaluate.proofs.Filling.{rounds-stored}
+use Rattle.evaluate.proofs.Filling.{rounds_stored}
 use Rattle.evaluate.proofs.fill_round.Statement.{statement}
 use Rattle.evaluate.proofs.fill_round.Tie as tie
 
@@ -10,7 +10,7 @@ returns : tie.Need-returns
 returns c =
     let first = c.before.before.before.before.before.before.sweep-back in
     let s = c.before.before.before.before.before.before.before.before.before.before.before.args in
-    rounds-stored s.kind s.a s.b s.at _ s.stem.now s.cycle.now s.table.now _ _ _ first.result
+    rounds_stored s.kind s.a s.b s.at _ s.stem.now s.cycle.now s.table.now _ _ _ first.result
     refl refl (omega arith) (omega arith) first.ensures.0 first.ensures.1
     c.before.before.sweep-back2.ensures.1
 

@@ -4,7 +4,7 @@ use mathlib.Core.Path.{◌≡◌}
 use borrow.Author.Rules.{rules}
 use native.Mathlib.Omega.{arith}
 use Rattle.evaluate.specs.Memory.{round_step}
-use Rattle.evaluate.proofs.Sweeping.{round-flag, Carrying, carry_begins, carry_steps}
+use Rattle.evaluate.proofs.Sweeping.{round_flag, Carrying, carry_begins, carry_steps}
 use Rattle.evaluate.proofs.sweep_back.Statement.{statement}
 use Rattle.evaluate.proofs.sweep_back.Tie as tie
 
@@ -42,7 +42,7 @@ loop-again c =
     let s = c.before.before.before.before.before.before.args in
     carry_steps _ _ _ _ _ _ _ at.loop.i (at.loop.i - 1) c.round-here.result at.loop.next (omega arith)
     (omega arith) (omega arith)
-    (round-flag s.kind s.a s.b s.at s.total s.behind _ s.table.now at.loop.table (omega arith)
+    (round_flag s.kind s.a s.b s.at s.total s.behind _ s.table.now at.loop.table (omega arith)
     (omega arith) (at.loop.i - 1) at.loop.i c.round-here.result at.loop.next (omega arith)
     at.loop.invariant.swept c.round-here.ensures) at.loop.invariant
 

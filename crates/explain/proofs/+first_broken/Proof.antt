@@ -3,7 +3,7 @@ use borrow.Author.Rules.{rules}
 use mathlib.Core.Path.{sym, ◌∙◌}
 use native.Mathlib.Omega.{arith}
 use Rattle.formula.proofs.Accepted.{accepted_few}
-use Rattle.explain.proofs.Clauses.{left-low, right-low}
+use Rattle.explain.proofs.Clauses.{left_low, right_low}
 use Rattle.explain.proofs.Naming.{no_and, in_left, in_right}
 use Prim.Native.Nat.{ℕ, ◌<◌}
 use borrow.Fn.Kinds.{In}
@@ -78,8 +78,8 @@ first-broken-first-broken-requires t c κs =
     let left = c.before in
     let s = left.before.before.before.before.before in
     let e = sym left.before.before.kind-of.ensures ∙ left.before.if1.false in
-    let l = left-low s.args.rule.now s.requires.1.0 s.args.n s.requires.1.1 e in
-    let r = right-low s.args.rule.now s.requires.1.0 s.args.n s.requires.1.1 e in
+    let l = left_low s.args.rule.now s.requires.1.0 s.args.n s.requires.1.1 e in
+    let r = right_low s.args.rule.now s.requires.1.0 s.args.n s.requires.1.1 e in
     let x = left.left-of.ensures in
     let y = c.right_of.ensures in
     (omega (arith, x, y), (s.requires.1.0, omega (arith, x, y), s.requires.1.2))
@@ -100,8 +100,8 @@ first-broken-first-broken-requires-2 t c κs =
     let left = right.before in
     let s = left.before.before.before.before.before in
     let e = sym left.before.before.kind-of.ensures ∙ left.before.if1.false in
-    let l = left-low s.args.rule.now s.requires.1.0 s.args.n s.requires.1.1 e in
-    let r = right-low s.args.rule.now s.requires.1.0 s.args.n s.requires.1.1 e in
+    let l = left_low s.args.rule.now s.requires.1.0 s.args.n s.requires.1.1 e in
+    let r = right_low s.args.rule.now s.requires.1.0 s.args.n s.requires.1.1 e in
     let x = left.left-of.ensures in
     let y = right.right_of.ensures in
     (omega (arith, x, y), (s.requires.1.0, omega (arith, x, y), s.requires.1.2))

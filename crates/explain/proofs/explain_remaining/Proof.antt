@@ -8,7 +8,7 @@ use lib.Seq.{length-take-le}
 use native.Mathlib.Omega.{arith}
 use Rattle.lasso.specs.Lasso.{remaining, max_letters}
 use Rattle.lasso.proofs.Checking.{lasso_few}
-use Rattle.explain.proofs.Calling.{letters_fit, letters-told}
+use Rattle.explain.proofs.Calling.{letters_fit, letters_told}
 use Rattle.explain.proofs.explain_remaining.Statement.{statement}
 use Rattle.explain.proofs.explain_remaining.Tie as tie
 
@@ -39,7 +39,7 @@ returns : tie.Need-returns
 returns c =
     let then = c.before.before in
     let pre = (start then.before).requires in
-    letters-told _ _ _ pre.0 pre.1 (whole then).0 (whole then).1
+    letters_told _ _ _ pre.0 pre.1 (whole then).0 (whole then).1
     (λ x told. c.as_lent.ensures x (c.before.explain-letters.ensures ∙ told))
 
 -- ---- what remains is gathered in the first places
@@ -82,7 +82,7 @@ returns-2 c =
     let second = c.before.before.before.before.before in
     let first = stem-kept second in
     let pre = (start (told-skipped first)).requires in
-    letters-told _ _ _ pre.0 pre.1 first.keep-remaining.ensures.1 second.keep-remaining2.ensures.1
+    letters_told _ _ _ pre.0 pre.1 first.keep-remaining.ensures.1 second.keep-remaining2.ensures.1
     (λ x told. c.as-lent2.ensures x (c.before.explain-letters2.ensures ∙ told))
 
 pub explain-remaining-spec : {M : Type 1} → statement M

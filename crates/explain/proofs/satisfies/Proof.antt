@@ -6,7 +6,7 @@ use lib.Seq.{length-take-le}
 use Rattle.answer.specs.declared.Stored.TheVariants.{Accepted}
 use Rattle.normalform.specs.Memory.{Forms}
 use Rattle.normalform.proofs.Normalizing.{forms_as}
-use Rattle.explain.proofs.Calling.{form_refused, form-explained}
+use Rattle.explain.proofs.Calling.{form_refused, form_explained}
 use Rattle.explain.proofs.satisfies.Statement.{statement}
 use Rattle.explain.proofs.satisfies.Tie as tie
 
@@ -32,7 +32,7 @@ returns c =
 returns-2 : tie.Need-returns-2
 returns-2 c =
     let made = forms c.before.before.before.before in
-    form-explained _ _ _ _ made.0 c.verdict-only.ensures c.before.explain-lasso.ensures
+    form_explained _ _ _ _ made.0 c.verdict-only.ensures c.before.explain-lasso.ensures
 
 pub satisfies-spec : {M : Type 1} → statement M
 satisfies-spec =

@@ -4,7 +4,7 @@ use mathlib.Core.Path.{sym, ◌∙◌}
 use borrow.Author.Rules.{rules}
 use native.Mathlib.Omega.{arith}
 use Rattle.explain.specs.Memory.{both_fail_at}
-use Rattle.explain.proofs.Looking.{Looking, look-begins, look_steps, look_finds, look_ends}
+use Rattle.explain.proofs.Looking.{Looking, look_begins, look_steps, look_finds, look_ends}
 use Rattle.explain.proofs.until_break.Statement.{statement}
 use Rattle.explain.proofs.until_break.Tie as tie
 
@@ -15,7 +15,7 @@ abbrev decreases-loop : tie.decreases-loop
 decreases-loop table a b total i₀ i = total - i
 
 loop-holds : tie.Need-loop-init invariant-loop decreases-loop
-loop-holds c = look-begins _ _
+loop-holds c = look_begins _ _
 
 returns : tie.Need-returns invariant-loop decreases-loop
 returns c =

@@ -4,7 +4,7 @@ use Prim.Native.Nat.{◌-◌}
 use native.Mathlib.Omega.{arith}
 use Rattle.image.proofs.Lookup.{initial_offset}
 use Rattle.field.proofs.Adding.{added_as, Adding, adding_begins, adding_steps, adding_ends}
-use Rattle.field.proofs.Adding.{named, named_none, named_more, named-all, initial_fits}
+use Rattle.field.proofs.Adding.{named, named_none, named_more, named_all, initial_fits}
 use Rattle.field.proofs.add_initial.Statement.{statement}
 use Rattle.field.proofs.add_initial.Tie as tie
 
@@ -47,7 +47,7 @@ returns c =
     let l = c.before in
     let s = start l in
     let e = l.before.number-at.ensures in
-    added_as (named-all _ _ _ (initial_offset s.args.image.now s.pre.0 _ e) e)
+    added_as (named_all _ _ _ (initial_offset s.args.image.now s.pre.0 _ e) e)
     (adding_ends _ _ _ _ l.loop.i (omega arith) l.loop.invariant)
 
 pub add-initial-spec : {M : Type 1} → statement M

@@ -4,7 +4,7 @@ use Prim.Native.Nat.{◌-◌}
 use mathlib.Core.Path.{sym, ◌∙◌}
 use native.Mathlib.Omega.{arith}
 use Rattle.field.specs.Sets.{in_set}
-use Rattle.field.proofs.Emptiness.{NoneYet, none-begins, none_steps, none_stops, none_ends}
+use Rattle.field.proofs.Emptiness.{NoneYet, none_begins, none_steps, none_stops, none_ends}
 use Rattle.field.proofs.is_empty.Statement.{statement}
 use Rattle.field.proofs.is_empty.Tie as tie
 
@@ -15,7 +15,7 @@ abbrev decreases-loop : tie.decreases-loop
 decreases-loop set n q₀ q = n - q
 
 loop-holds : tie.Need-loop-init invariant-loop decreases-loop
-loop-holds c = none-begins _ _
+loop-holds c = none_begins _ _
 
 has-state-requires : tie.Need-has-state-requires invariant-loop decreases-loop
 has-state-requires c κs = omega arith

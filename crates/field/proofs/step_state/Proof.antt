@@ -6,7 +6,7 @@ use native.Mathlib.Omega.{arith}
 use Rattle.answer.specs.Bytes.{number_at}
 use Rattle.automaton.specs.Limits.{max_states}
 use Rattle.field.proofs.Adding.{added_as, Adding, adding_begins, adding_steps, adding_ends}
-use Rattle.field.proofs.Adding.{followed, followed-none, followed_more, followed-all, record_fits}
+use Rattle.field.proofs.Adding.{followed, followed_none, followed_more, followed_all, record_fits}
 use Rattle.field.proofs.step_state.Statement.{statement}
 use Rattle.field.proofs.step_state.Tie as tie
 
@@ -20,7 +20,7 @@ abbrev start : tie.At-loop invariant-loop decreases-loop → tie.Start invariant
 start c = c.before.before.before.before
 
 loop-holds : tie.Need-loop-init invariant-loop decreases-loop
-loop-holds c = adding_begins _ _ _ (followed-none _ _ _)
+loop-holds c = adding_begins _ _ _ (followed_none _ _ _)
 
 -- where the record that is looked at lies, and where it leads
 fits : (c : tie.In-loop invariant-loop decreases-loop) → let s = (start c.before).args in let i = c.before.loop.i in
@@ -48,7 +48,7 @@ returns : tie.Need-returns invariant-loop decreases-loop
 returns c =
     let l = c.before in
     let s = start l in
-    added_as (followed-all _ _ _ s.args.p _ s.pre.1 s.pre.2 l.before.number-at.ensures)
+    added_as (followed_all _ _ _ s.args.p _ s.pre.1 s.pre.2 l.before.number-at.ensures)
     (adding_ends _ _ _ _ l.loop.i (omega arith) l.loop.invariant)
 
 pub step-state-spec : {M : Type 1} → statement M

@@ -6,9 +6,9 @@ use mathlib.Core.List.{List}
 use lib.ListN.{length}
 use native.Mathlib.Omega.{arith}
 use Rattle.image.specs.Lookup.{records_at}
-use Rattle.image.proofs.Lookup.{records_begin, records-next, records-end}
+use Rattle.image.proofs.Lookup.{records_begin, records_next, records_end}
 use Rattle.field.proofs.Adding.{Adding, adding_begins, adding_steps, adding_ends}
-use Rattle.field.proofs.Adding.{reached, reached-none, reached_more}
+use Rattle.field.proofs.Adding.{reached, reached_none, reached_more}
 use Rattle.field.proofs.step_states.Statement.{statement}
 use Rattle.field.proofs.step_states.Tie as tie
 
@@ -31,7 +31,7 @@ loop-holds c =
     let s = c.before.before.before in
     record {
       here = records_begin s.args.image.now s.args.n s.requires.1;
-      adding = adding_begins _ _ _ (reached-none _ _ _);
+      adding = adding_begins _ _ _ (reached_none _ _ _);
     }
 
 step-from-requires : tie.Need-step-from-requires invariant-loop decreases-loop
@@ -50,14 +50,14 @@ ends c =
       arith,
       l.loop.invariant.here,
       c.number-at.ensures,
-      records-end s.args.image.now s.pre.0 l.loop.p (omega arith),
+      records_end s.args.image.now s.pre.0 l.loop.p (omega arith),
     )
 
 loop-again : tie.Need-loop-preserved invariant-loop decreases-loop
 loop-again c =
     let l = c.before.before.before.before.before.before in
     record {
-      here = records-next (start l).args.image.now l.loop.p l.loop.invariant.here c.number-at.ensures;
+      here = records_next (start l).args.image.now l.loop.p l.loop.invariant.here c.number-at.ensures;
       adding =
           adding_steps _ _ _ _ _ l.loop.p _ (omega arith) (reached_more _ _ _ l.loop.p) l.loop.invariant.adding
           c.before.before.before.step_from.ensures;

@@ -3,7 +3,7 @@
 use borrow.Author.Rules.{rules}
 use mathlib.Core.Path.{sym, ap, ◌∙◌}
 use Rattle.answer.specs.Result.{answer}
-use Rattle.formula.proofs.Checks.{syntax_refused, untils-left}
+use Rattle.formula.proofs.Checks.{syntax_refused, untils_left}
 use Rattle.formula.proofs.check.Statement.{statement}
 use Rattle.formula.proofs.check.Tie as tie
 
@@ -17,7 +17,7 @@ returns-2 : tie.Need-returns-2
 returns-2 c =
     let syntax = c.before in
     c.check-untils.ensures
-    ∙ untils-left _ (sym syntax.before.before.check-syntax.ensures ∙ ap answer syntax.enum_told.given.1)
+    ∙ untils_left _ (sym syntax.before.before.check-syntax.ensures ∙ ap answer syntax.enum_told.given.1)
 
 pub check-spec : {M : Type 1} → statement M
 check-spec =

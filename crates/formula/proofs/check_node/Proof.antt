@@ -34,8 +34,8 @@ right-byte c e =
     read_test right_operand byte_fits read.before.before.kind-of.ensures read.right_of.ensures
     c.before.right_operand.ensures c.byte-fits2.ensures e
 
-left-child : (c : tie.After-child-fits) {t : Bool} → not c.child-fits.result ≡ t → not (left_child_fits (ruleOf c.before.before.before.before.before.before.before.before.before) (node_of c.before.before.before.before.before.before.before.before.before)) ≡ t
-left-child c e =
+left_child : (c : tie.After-child-fits) {t : Bool} → not c.child-fits.result ≡ t → not (left_child_fits (ruleOf c.before.before.before.before.before.before.before.before.before) (node_of c.before.before.before.before.before.before.before.before.before)) ≡ t
+left_child c e =
     let read = c.before.before.before.before.before.before.before.before.before in
     read_test left_operand (λ operand byte. child_fits operand byte (node_of read))
     read.before.before.kind-of.ensures read.before.left-of.ensures c.before.left-operand2.ensures
@@ -64,7 +64,7 @@ returns-4 c =
     let two = c.before.before.before in
     let one = two.before.before.before in
     left_above _ _ _ (omega arith) (left-byte one.before one.if2.false)
-    (right-byte two.before two.if3.false) (left-child c.before c.if4.true)
+    (right-byte two.before two.if3.false) (left_child c.before c.if4.true)
 
 returns-5 : tie.Need-returns-5
 returns-5 c =
@@ -72,7 +72,7 @@ returns-5 c =
     let two = three.before.before.before in
     let one = two.before.before.before in
     right_above _ _ _ (omega arith) (left-byte one.before one.if2.false)
-    (right-byte two.before two.if3.false) (left-child three.before three.if4.false)
+    (right-byte two.before two.if3.false) (left_child three.before three.if4.false)
     (right_child c.before c.if5.true)
 
 returns-6 : tie.Need-returns-6
@@ -81,7 +81,7 @@ returns-6 c =
     let two = three.before.before.before in
     let one = two.before.before.before in
     all_fits _ _ _ (omega arith) (left-byte one.before one.if2.false) (right-byte two.before two.if3.false)
-    (left-child three.before three.if4.false) (right_child c.before c.if5.false)
+    (left_child three.before three.if4.false) (right_child c.before c.if5.false)
 
 pub check-node-spec : {M : Type 1} → statement M
 check-node-spec =

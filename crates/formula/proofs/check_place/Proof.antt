@@ -2,12 +2,12 @@
 -- Assumes nothing.
 use borrow.Author.Rules.{rules}
 use native.Mathlib.Omega.{arith}
-use Rattle.formula.proofs.Checks.{place-root, place_none, place_once, place_leaf, place_twice}
+use Rattle.formula.proofs.Checks.{place_root, place_none, place_once, place_leaf, place_twice}
 use Rattle.formula.proofs.check_place.Statement.{statement}
 use Rattle.formula.proofs.check_place.Tie as tie
 
 returns : tie.Need-returns
-returns c = place-root _ _ (omega arith) (omega arith)
+returns c = place_root _ _ (omega arith) (omega arith)
 
 returns-2 : tie.Need-returns-2
 returns-2 c = place_none _ _ (omega arith) c.if2.false

@@ -4,7 +4,7 @@ use borrow.Author.Rules.{rules}
 use native.Mathlib.Omega.{arith}
 use mathlib.Core.Path.{refl, sym, ap, ◌∙◌}
 use Rattle.answer.specs.Result.{answer}
-use Rattle.formula.proofs.Checks.{too_long, empty, broken, node_refused, places-left, children_below}
+use Rattle.formula.proofs.Checks.{too_long, empty, broken, node_refused, places_left, children_below}
 use Rattle.formula.proofs.check_syntax.Statement.{statement}
 use Rattle.formula.proofs.check_syntax.Tie as tie
 
@@ -34,7 +34,7 @@ returns-5 : tie.Need-returns-5
 returns-5 c =
     let nodes = c.before in
     c.check-places.ensures
-    ∙ places-left _ _ (omega arith) (omega arith) (omega arith)
+    ∙ places_left _ _ (omega arith) (omega arith) (omega arith)
     (sym nodes.before.before.check-nodes.ensures ∙ ap answer nodes.enum_told.given.1)
 
 pub check-syntax-spec : {M : Type 1} → statement M

@@ -9,7 +9,7 @@ use Rattle.formula.specs.declared.Operand.{Operand}
 use Rattle.formula.specs.declared.Operand.TheVariants.{Unused, Proposition, Child}
 use Rattle.formula.specs.Rule.{is_child}
 use Rattle.formula.specs.contracts.Operand.{the_type}
-use Rattle.formula.proofs.Places.{child-below, one_more}
+use Rattle.formula.proofs.Places.{child_below, one_more}
 use borrow.Author.Rules.{rules}
 use Rattle.formula.proofs.count_child.Statement.{statement}
 use Rattle.formula.proofs.count_child.Tie as tie
@@ -23,13 +23,13 @@ no-child Child byte k (inl tag) = absurd (omega arith)
 no-child Child byte k (inr tag) = absurd (omega arith)
 
 slice-read-counts : tie.Need-slice-read-counts
-slice-read-counts c = child-below _ c.before.enum_told.given.1 _ _ c.before.before.before.requires.0
+slice-read-counts c = child_below _ c.before.enum_told.given.1 _ _ c.before.before.before.requires.0
 
 add-counts : tie.Need-overflow-add-counts
 add-counts c = omega (arith, c.before.before.before.requires.1 c.before.before.before.args.byte)
 
 slice-write-counts : tie.Need-slice-write-counts
-slice-write-counts c = child-below _ c.before.enum_told.given.1 _ _ c.before.before.before.requires.0
+slice-write-counts c = child_below _ c.before.enum_told.given.1 _ _ c.before.before.before.requires.0
 
 returns : tie.Need-returns
 returns c =

@@ -3,7 +3,7 @@
 use borrow.Author.Rules.{rules}
 use native.Mathlib.Omega.{arith}
 use Prim.Native.Nat.{◌-◌}
-use Rattle.formula.proofs.Places.{Counting, count-begins, count_ends, left_fits, right_fits, count_steps}
+use Rattle.formula.proofs.Places.{Counting, count_begins, count_ends, left_fits, right_fits, count_steps}
 use Rattle.formula.proofs.count_places.Statement.{statement}
 use Rattle.formula.proofs.count_places.Tie as tie
 
@@ -14,7 +14,7 @@ abbrev decreases-loop : tie.decreases-loop
 decreases-loop rule n counts₀ i₀ counts i = n - i
 
 loop-holds : tie.Need-loop-init invariant-loop decreases-loop
-loop-holds c = count-begins _ _
+loop-holds c = count_begins _ _
 
 count-child-requires : tie.Need-count-child-requires invariant-loop decreases-loop
 count-child-requires c κs =

@@ -4,7 +4,7 @@ use borrow.Author.Rules.{rules}
 use native.Mathlib.Omega.{arith}
 use Prim.Native.Nat.{◌-◌}
 use lib.Dec.{eqb}
-use Rattle.formula.proofs.Untils.{CountingUntils, one_at_most, untils_begin, untils_step, untils-end}
+use Rattle.formula.proofs.Untils.{CountingUntils, one_at_most, untils_begin, untils_step, untils_end}
 use Rattle.formula.proofs.count_untils.Statement.{statement}
 use Rattle.formula.proofs.count_untils.Tie as tie
 
@@ -27,7 +27,7 @@ loop-again c =
     c.until-count.ensures
 
 returns : tie.Need-returns invariant-loop decreases-loop
-returns c = untils-end _ _ _ c.before.loop.i (omega arith) c.before.loop.invariant
+returns c = untils_end _ _ _ c.before.loop.i (omega arith) c.before.loop.invariant
 
 pub count-untils-spec : {M : Type 1} → statement M
 count-untils-spec =

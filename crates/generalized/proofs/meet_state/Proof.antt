@@ -13,8 +13,8 @@ use borrow.Author.Tests.{eq-eqb}
 use Rattle.generalized.specs.declared.Met.TheVariants.{Number, Full}
 use Rattle.generalized.specs.Explore.{find}
 use Rattle.generalized.specs.Memory.{MeetsState}
-use Rattle.generalized.proofs.Exploring.{meet_seen, meet-next, meet_full}
-use Rattle.generalized.proofs.Numbers.{find-next}
+use Rattle.generalized.proofs.Exploring.{meet_seen, meet_next, meet_full}
+use Rattle.generalized.proofs.Numbers.{find_next}
 use Rattle.generalized.proofs.meet_state.Statement.{statement}
 use Rattle.generalized.proofs.meet_state.Tie as tie
 
@@ -41,10 +41,10 @@ module _ (items : List ℕ) (n x : ℕ) {k : ℕ} (le : n ≤ length items) (is 
       let free : length (take n items) < length items = omega (arith, size) in
       let more = take-suc-set items n x lt in
       record {
-        are = meet-next eqb (length items) full place x (take n items) unseen free ∙ rw (add-one, more);
+        are = meet_next eqb (length items) full place x (take n items) unseen free ∙ rw (add-one, more);
         fits = rw length-set (omega arith);
         first = rw (size, take-take n (n + 1) (set items n x) (omega arith)) (take-set-le n items n x (omega arith));
-        found = sym (rw (add-one, more) (find-next eqb x (take n items) (eq-eqb x x refl) unseen ∙ size));
+        found = sym (rw (add-one, more) (find_next eqb x (take n items) (eq-eqb x x refl) unseen ∙ size));
         inside = omega arith;
       }
 

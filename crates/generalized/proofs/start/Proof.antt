@@ -5,7 +5,7 @@ use Prim.Native.Nat.{◌-◌}
 use Rattle.formula.specs.Formula.{formula}
 use Rattle.term.specs.Term.{cover}
 use Rattle.generalized.proofs.Passed.{initial_few}
-use Rattle.generalized.proofs.Covering.{Covering, cover-begins, cover_steps, cover_ends}
+use Rattle.generalized.proofs.Covering.{Covering, cover_begins, cover_steps, cover_ends}
 use Rattle.generalized.proofs.start.Statement.{statement}
 use Rattle.generalized.proofs.start.Tie as tie
 
@@ -18,7 +18,7 @@ decreases-loop rule states₀ sets count i₀ states i = sets.count - i
 loop-holds : tie.Need-loop-init invariant-loop decreases-loop
 loop-holds c =
     let s = c.before.before.before in
-    cover-begins c.root-cover.ensures (initial_few _ s.requires.0) s.requires.1
+    cover_begins c.root-cover.ensures (initial_few _ s.requires.0) s.requires.1
 
 loop-again : tie.Need-loop-preserved invariant-loop decreases-loop
 loop-again c =

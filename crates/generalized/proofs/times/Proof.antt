@@ -36,8 +36,8 @@ module _ {table : List ℕ} {k n : ℕ} (factor : Factor table k) (is : n ≡ ge
       let same : k * row_places + 1 + n - (k * row_places + 1) ≡ n = omega arith in
       rw (same, take-take n n (drop (k * row_places + 1) table) (omega arith), from, is)
 
-  row-size : length (take n part) ≡ n
-  row-size =
+  row_size : length (take n part) ≡ n
+  row_size =
       let left = length-drop (suc (k * row_places)) table in
       rw (row, is) (length-take-le (get_or table (k * row_places) 0) _ (omega (arith, factor.inside, left)))
 
@@ -55,7 +55,7 @@ module _ {table : List ℕ} {k n : ℕ} (factor : Factor table k) (is : n ≡ ge
         let first : take 1 product ≡ 0 ∷ [] = take-suc product 0 0 (omega arith) ∙ rw zero in
         record {
           stores = rw (one, first, factor.alone)
-              (front (take n part) product (omega (arith, factor.few)) row-size row e);
+              (front (take n part) product (omega (arith, factor.few)) row_size row e);
           conflicts = rw (one, first, factor.apart);
         }
 

@@ -5,8 +5,8 @@ use native.Mathlib.Omega.{arith}
 use Prim.Native.Nat.{◌-◌, ◌<◌}
 use mathlib.Core.Path.{refl, sym, ◌∙◌}
 use Rattle.generalized.specs.Limits.{max_generalized_states}
-use Rattle.term.proofs.Sizes.{bytes-fine}
-use Rattle.generalized.proofs.Walking.{Walking, Space, walk_begins, walk_refused, walk-over, walk_steps, walk_ends}
+use Rattle.term.proofs.Sizes.{bytes_fine}
+use Rattle.generalized.proofs.Walking.{Walking, Space, walk_begins, walk_refused, walk_over, walk_steps, walk_ends}
 use Rattle.generalized.proofs.Sifting.{terms_sorted}
 use Rattle.generalized.proofs.walk.Statement.{statement}
 use Rattle.generalized.proofs.walk.Tie as tie
@@ -56,7 +56,7 @@ abbrev turn-of : tie.After-meet-all invariant-loop decreases-loop → tie.Then1 
 turn-of c = taken (product (small (told (sifted c))))
 
 untils-of-requires : tie.Need-untils-of-requires invariant-loop decreases-loop
-untils-of-requires c κs = bytes-fine _ c.before.before.before.before.before.requires.0
+untils-of-requires c κs = bytes_fine _ c.before.before.before.before.before.requires.0
 
 start-requires : tie.Need-start-requires invariant-loop decreases-loop
 start-requires c κs =
@@ -90,7 +90,7 @@ state-terms-requires c κs =
 returns : tie.Need-returns invariant-loop decreases-loop
 returns c =
     let terms = c.before.before.before in
-    walk-over (turn (taken terms)).loop.inv.0 (taken terms).if1.true terms.state-terms.ensures.product c.if2.true
+    walk_over (turn (taken terms)).loop.inv.0 (taken terms).if1.true terms.state-terms.ensures.product c.if2.true
 
 slice-aggregate-fulfil-2 : tie.Need-slice-aggregate-fulfil-2 invariant-loop decreases-loop
 slice-aggregate-fulfil-2 c = sym (turn (taken (product c.before.before))).loop.inv.1.bytes_room
@@ -103,7 +103,7 @@ fulfil-requires c κs =
     let untils = (begun at).before.before.untils-of in (
       omega (arith, few.if2.false, terms.state-terms.kept.1.1.1.0, at.loop.inv.1.products.room),
       omega (arith, few.if2.false, at.loop.inv.1.bytes_room),
-      record { accepted = bytes-fine _ (start at).pre.0; terms = (start at).pre.1; untils = untils.ensures },
+      record { accepted = bytes_fine _ (start at).pre.0; terms = (start at).pre.1; untils = untils.ensures },
     )
 
 slice-aggregate-drop-dominated : tie.Need-slice-aggregate-drop-dominated invariant-loop decreases-loop

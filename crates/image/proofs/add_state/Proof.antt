@@ -2,12 +2,12 @@
 -- Assumes nothing.
 use borrow.Author.Rules.{rules}
 use native.Mathlib.Omega.{arith}
-use Rattle.image.proofs.Tests.{count-over, accepting_wrong, state_fits_lem}
+use Rattle.image.proofs.Tests.{count_over, accepting_wrong, state_fits_lem}
 use Rattle.image.proofs.add_state.Statement.{statement}
 use Rattle.image.proofs.add_state.Tie as tie
 
 returns : tie.Need-returns
-returns c = count-over _ _ _ (omega arith)
+returns c = count_over _ _ _ (omega arith)
 
 returns-2 : tie.Need-returns-2
 returns-2 c = accepting_wrong _ _ _ (omega arith) (omega arith)

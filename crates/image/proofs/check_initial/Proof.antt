@@ -9,10 +9,10 @@ use Rattle.image.proofs.check_initial.Statement.{statement}
 use Rattle.image.proofs.check_initial.Tie as tie
 
 abbrev invariant-loop : tie.invariant-loop
-invariant-loop initial n state-count least₀ i₀ least i = Rising state-count initial n least i
+invariant-loop initial n state_count least₀ i₀ least i = Rising state_count initial n least i
 
 abbrev decreases-loop : tie.decreases-loop
-decreases-loop initial n state-count least₀ i₀ least i = n - i
+decreases-loop initial n state_count least₀ i₀ least i = n - i
 
 loop-holds : tie.Need-loop-init invariant-loop decreases-loop
 loop-holds c = rise_begins _ _ _

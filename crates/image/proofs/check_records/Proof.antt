@@ -4,7 +4,7 @@ use native.Mathlib.Omega.{arith}
 use mathlib.Core.Path.{sym, ap, ◌∙◌}
 use Rattle.answer.specs.Result.{answer}
 use Rattle.image.proofs.RecordsFit.{states_fit}
-use Rattle.image.proofs.Tests.{states_refused, rests_refused, transitions_refused, initial-left}
+use Rattle.image.proofs.Tests.{states_refused, rests_refused, transitions_refused, initial_left}
 use Rattle.image.proofs.check_records.Statement.{statement}
 use Rattle.image.proofs.check_records.Tie as tie
 
@@ -38,7 +38,7 @@ returns-4 c =
     let third = c.before in
     let second = third.before.before.before in
     let first = second.before.before.before in
-    initial-left _ _ _ _ first.before.before.check-states.ensures (ap answer first.enum_told.given.1)
+    initial_left _ _ _ _ first.before.before.check-states.ensures (ap answer first.enum_told.given.1)
     second.before.before.check-rests.ensures (ap answer second.enum-told3.given.1)
     third.before.before.check-transitions.ensures (ap answer third.enum-told5.given.1)
     c.check-initial.ensures

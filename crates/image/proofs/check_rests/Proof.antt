@@ -4,7 +4,7 @@ use borrow.Author.Rules.{rules}
 use native.Mathlib.Omega.{arith}
 use Prim.Native.Nat.{◌-◌}
 use Rattle.answer.proofs.Lowest.{pass_ends}
-use Rattle.image.proofs.Rests.{Resting, rest-begins, records_there, rest_fails, rest_steps}
+use Rattle.image.proofs.Rests.{Resting, rest_begins, records_there, rest_fails, rest_steps}
 use Rattle.image.proofs.check_rests.Statement.{statement}
 use Rattle.image.proofs.check_rests.Tie as tie
 
@@ -15,7 +15,7 @@ abbrev decreases-loop : tie.decreases-loop
 decreases-loop states transitions n at₀ q₀ at q = n - q
 
 loop-holds : tie.Need-loop-init invariant-loop decreases-loop
-loop-holds c = rest-begins _ _ _
+loop-holds c = rest_begins _ _ _
 
 rest-byte-requires : tie.Need-rest-byte-requires invariant-loop decreases-loop
 rest-byte-requires c κs =

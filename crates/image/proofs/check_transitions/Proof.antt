@@ -12,10 +12,10 @@ use Rattle.image.proofs.check_transitions.Statement.{statement}
 use Rattle.image.proofs.check_transitions.Tie as tie
 
 abbrev invariant-loop : tie.invariant-loop
-invariant-loop transitions n state-count i₀ i = Passing (transition_record_check state-count transitions) n i
+invariant-loop transitions n state_count i₀ i = Passing (transition_record_check state_count transitions) n i
 
 abbrev decreases-loop : tie.decreases-loop
-decreases-loop transitions n state-count i₀ i = n - i
+decreases-loop transitions n state_count i₀ i = n - i
 
 loop-holds : tie.Need-loop-init invariant-loop decreases-loop
 loop-holds c = pass_begins _ _

@@ -7,7 +7,7 @@ use Prim.Native.Nat.{◌-◌}
 use mathlib.Core.Path.{sym, ap, ◌∙◌}
 use Rattle.image.specs.Memory.{pass_answer}
 use Rattle.image.proofs.Before.{handed_on}
-use Rattle.image.proofs.Sums.{Summing, sum-begins, sum_steps, sum_fails, sum_ends}
+use Rattle.image.proofs.Sums.{Summing, sum_begins, sum_steps, sum_fails, sum_ends}
 use Rattle.image.proofs.pass_states.Statement.{statement}
 use Rattle.image.proofs.pass_states.Tie as tie
 
@@ -18,7 +18,7 @@ abbrev decreases-loop : tie.decreases-loop
 decreases-loop states n sum₀ i₀ sum i = n - i
 
 loop-holds : tie.Need-loop-init invariant-loop decreases-loop
-loop-holds c = sum-begins _ _
+loop-holds c = sum_begins _ _
 
 add-state-requires : tie.Need-add-state-requires invariant-loop decreases-loop
 add-state-requires c κs =

@@ -5,7 +5,7 @@ use mathlib.Core.Path.{sym, ap, ◌∙◌}
 use Rattle.automaton.specs.Tables.{told, TablesRoom}
 use Rattle.automaton.proofs.Room.{tables_room}
 use Rattle.image.proofs.Outcomes.{read_short, read_refused, read_accepted}
-use Rattle.image.proofs.Contents.{checks-sized}
+use Rattle.image.proofs.Contents.{checks_sized}
 use Rattle.image.proofs.read.Statement.{statement}
 use Rattle.image.proofs.read.Tie as tie
 
@@ -29,7 +29,7 @@ load-bodies-requires : tie.Need-load-bodies-requires
 load-bodies-requires c κs =
     let found = c.before.before.before.before in
     let told = sym (ap told found.found.given.1) ∙ found.before.before.check.ensures in
-    (checks-sized _ _ told, tables found.before.before.before)
+    (checks_sized _ _ told, tables found.before.before.before)
 
 returns-3 : tie.Need-returns-3
 returns-3 c =

@@ -10,7 +10,7 @@ use Rattle.sets.proofs.Seeking.{Seeking, seek_finds, seek_steps, seek_ends}
 use Rattle.automaton.specs.Automaton.{free_to}
 use Rattle.image.specs.Reader.{transitions_from}
 use Rattle.image.specs.Lookup.{record_at}
-use Rattle.image.proofs.Tables.{transitions-length}
+use Rattle.image.proofs.Tables.{transitions_length}
 use Rattle.image.proofs.Rests.{entry_at}
 use Rattle.image.proofs.some_free_to.Statement.{statement}
 use Rattle.image.proofs.some_free_to.Tie as tie
@@ -35,7 +35,7 @@ seen c =
     let a = at.before.before.args in
     let bytes = a.transitions.now in
     let here = entry_at bytes a.at a.count at.loop.i (omega arith) in (
-      omega (arith, transitions-length a.count (drop a.at bytes)),
+      omega (arith, transitions_length a.count (drop a.at bytes)),
       c.free-to.ensures ∙ ap (free_to a.q) (sym here),
     )
 
@@ -55,7 +55,7 @@ returns-2 : tie.Need-returns-2 invariant-loop decreases-loop
 returns-2 c =
     let at = c.before in
     let a = at.before.before.args in
-    let many = transitions-length a.count (drop a.at a.transitions.now) in
+    let many = transitions_length a.count (drop a.at a.transitions.now) in
     seek_ends (record_at [] 0) _ _ at.loop.i at.loop.invariant (omega (arith, many))
 
 pub some-free-to-spec : {M : Type 1} → statement M

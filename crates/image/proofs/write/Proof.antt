@@ -8,7 +8,7 @@ use Rattle.answer.specs.Result.{answer}
 use Rattle.image.proofs.Tests.{counts_small}
 use Rattle.automaton.specs.Tables.{TablesRoom}
 use Rattle.automaton.proofs.Room.{tables_room}
-use Rattle.image.proofs.Outcomes.{Ready, has-records}
+use Rattle.image.proofs.Outcomes.{Ready, has_records}
 use Rattle.image.proofs.Outcomes.{write_short, buffer_short, counts_refused, records_refused, write_accepted}
 use Rattle.image.proofs.write.Statement.{statement}
 use Rattle.image.proofs.write.Tie as tie
@@ -43,7 +43,7 @@ returns-3 c =
     c.if3.true
 
 check-records-requires : tie.Need-check-records-requires
-check-records-requires c κs = has-records (ready c)
+check-records-requires c κs = has_records (ready c)
 
 returns-4 : tie.Need-returns-4
 returns-4 c =

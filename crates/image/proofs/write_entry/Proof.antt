@@ -1,7 +1,7 @@
 -- `image::write_entry` meets its contract: three numbers.
 -- Assumes nothing.
 use borrow.Author.Rules.{rules}
-use Rattle.image.proofs.Stores.{entry-stored}
+use Rattle.image.proofs.Stores.{entry_stored}
 use Rattle.image.proofs.write_entry.Statement.{statement}
 use Rattle.image.proofs.write_entry.Tie as tie
 
@@ -10,7 +10,7 @@ returns c =
     let second = c.before.before.before.before.before.before in
     let first = second.before.before.before.before in
     let a = first.before.before.before.args in
-    entry-stored a.image.now a.at a.kind a.count a.offset
+    entry_stored a.image.now a.at a.kind a.count a.offset
     first.put-number.ensures second.put-number2.ensures c.before.before.put-number3.ensures
 
 pub write-entry-spec : {M : Type 1} → statement M

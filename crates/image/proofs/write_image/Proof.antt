@@ -2,7 +2,7 @@
 -- Assumes nothing.
 use borrow.Author.Rules.{rules}
 use native.Mathlib.Omega.{arith}
-use Rattle.image.proofs.Stores.{contents-stored, image_stored}
+use Rattle.image.proofs.Stores.{contents_stored, image_stored}
 use Rattle.image.proofs.write_image.Statement.{statement}
 use Rattle.image.proofs.write_image.Tie as tie
 
@@ -26,7 +26,7 @@ returns c =
     let entry₂ = (entry₃ third).before.before.before.before in
     let s = start third in
     let a = s.args in
-    let contents = contents-stored a.counts a.image.now
+    let contents = contents_stored a.counts a.image.now
     (entry₁ third).write-entry.ensures entry₂.write-entry2.ensures (entry₃ third).write-entry3.ensures in
     image_stored a.counts a.states.now a.transitions.now a.initial.now a.image.now
     (omega (arith, s.pre)) (omega (arith, s.pre)) (omega (arith, s.pre)) (omega (arith, s.pre))

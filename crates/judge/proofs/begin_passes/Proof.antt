@@ -6,7 +6,7 @@ use Prim.Native.Nat.{◌+◌, ◌-◌}
 use mathlib.Core.Path.{◌≡◌}
 use lib.ListN.{get_or}
 use Rattle.judge.proofs.Gathers.{Gathering, gather_begins, gather_steps, gather_ends}
-use Rattle.judge.proofs.Turns.{all-states}
+use Rattle.judge.proofs.Turns.{all_states}
 use Rattle.judge.proofs.begin_passes.Statement.{statement}
 use Rattle.judge.proofs.begin_passes.Tie as tie
 
@@ -26,7 +26,7 @@ loop-again c =
     gather_steps _ _ _ _ _ at.loop.q (omega arith) at.loop.invariant c.begin-pass.ensures
 
 returns : tie.Need-returns invariant-loop decreases-loop
-returns c = all-states _ (gather_ends _ _ _ _ c.before.loop.q (omega arith) c.before.loop.invariant)
+returns c = all_states _ (gather_ends _ _ _ _ c.before.loop.q (omega arith) c.before.loop.invariant)
 
 pub begin-passes-spec : {M : Type 1} → statement M
 begin-passes-spec =

@@ -6,7 +6,7 @@ use Prim.Native.Nat.{ℕ, ◌-◌}
 use lib.ListN.{replicate, length-replicate}
 use lib.Seq.{take_all}
 use Rattle.answer.proofs.Storing.{Storing, store_begins, store_steps, store_ends}
-use Rattle.answer.proofs.Zeros.{zeros-at}
+use Rattle.answer.proofs.Zeros.{zeros_at}
 use Rattle.judge.proofs.clear_words.Statement.{statement}
 use Rattle.judge.proofs.clear_words.Tie as tie
 
@@ -22,7 +22,7 @@ loop-holds c = store_begins _ _ _
 loop-again : tie.Need-loop-preserved invariant-loop decreases-loop
 loop-again c =
     let at = c.before in
-    rw (zeros-at at.before.args.n at.loop.i) at (store_steps _ _ _ _ at.loop.i c.loop-test.true at.before.requires (omega (arith, length-replicate {A = ℕ} at.before.args.n 0)) at.loop.invariant)
+    rw (zeros_at at.before.args.n at.loop.i) at (store_steps _ _ _ _ at.loop.i c.loop-test.true at.before.requires (omega (arith, length-replicate {A = ℕ} at.before.args.n 0)) at.loop.invariant)
 
 same_length : tie.Need-same-length invariant-loop decreases-loop
 same_length c = c.before.loop.invariant.size

@@ -6,7 +6,7 @@ use Rattle.answer.specs.Result.{accepted}
 use Rattle.automaton.specs.Tables.{Counts, told}
 use Rattle.image.specs.Calls.{checks}
 use Rattle.image.proofs.Accepted.{known}
-use Rattle.image.proofs.Contents.{checks-of}
+use Rattle.image.proofs.Contents.{checks_of}
 use Rattle.judge.proofs.Judgements.{work_short, image_refused, image_judged}
 use borrow.Author.Rules.{rules}
 use Rattle.judge.proofs.judge.Statement.{statement}
@@ -30,7 +30,7 @@ accepts c = sym (ap told c.counts.given.1) ∙ c.before.before.check.ensures
 judge-lasso-requires : tie.Need-judge-lasso-requires
 judge-lasso-requires c κs =
     let checked = accepts c.before.before in
-    (known _ checked, ap (λ (c : Counts). c.states) (checks-of _ _ checked).same, omega arith)
+    (known _ checked, ap (λ (c : Counts). c.states) (checks_of _ _ checked).same, omega arith)
 
 returns-3 : tie.Need-returns-3
 returns-3 c =

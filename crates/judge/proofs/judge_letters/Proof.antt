@@ -1,7 +1,7 @@
 -- `judge::judge_letters` meets its contract: what the search to rest has found, and the verdict. Assumes nothing.
 use borrow.Author.Rules.{rules}
 use mathlib.Core.Path.{◌∙◌}
-use Rattle.judge.proofs.Judgements.{letters-kept, letters_broken}
+use Rattle.judge.proofs.Judgements.{letters_kept, letters_broken}
 use Rattle.judge.proofs.judge_letters.Statement.{statement}
 use Rattle.judge.proofs.judge_letters.Tie as tie
 
@@ -18,7 +18,7 @@ returns c =
     let take-pairs = is_kept_lem.before.before.before.before in
     let found = take-pairs.take-pairs in
     let a = take-pairs.before.before.before.before.before.before.args in
-    letters-kept _ _ _ a.work.now found.ensures.0 found.ensures.1 is_kept_lem.is-kept.ensures
+    letters_kept _ _ _ a.work.now found.ensures.0 found.ensures.1 is_kept_lem.is-kept.ensures
     (zero.zero.ensures ∙ rw found.auto.1.1.1.1.0) c.if1.true
 
 returns-2 : tie.Need-returns-2

@@ -11,7 +11,7 @@ use Rattle.lasso.specs.Lasso.{max_letters}
 use Rattle.lasso.proofs.Skipping.{remaining_fewer}
 use Rattle.lasso.proofs.Checking.{lasso_some, lasso_few, remaining_few}
 use Rattle.automaton.specs.Limits.{max_states}
-use Rattle.judge.proofs.Judgements.{remaining-judged}
+use Rattle.judge.proofs.Judgements.{remaining_judged}
 use Rattle.judge.proofs.judge_remaining.Statement.{statement}
 use Rattle.judge.proofs.judge_remaining.Tie as tie
 
@@ -37,7 +37,7 @@ returns c =
     let judged = c.before.before in
     let told = judged.before.before.before in
     let whole = told.none-skipped.ensures.0 judged.before.before.if1.true in
-    remaining-judged _ _ (start told).args.work.now _ (sym whole.0) (sym whole.1)
+    remaining_judged _ _ (start told).args.work.now _ (sym whole.0) (sym whole.1)
     judged.judge-letters.ensures
 
 -- ---- what remains is gathered in the first places
@@ -76,7 +76,7 @@ returns-2 c =
     let second = judged.before.before.before.before.before in
     let first = second.before.before.before in
     let told = first.before.before.before in
-    remaining-judged _ _ (start told).args.work.now _ first.keep-remaining.ensures.1
+    remaining_judged _ _ (start told).args.work.now _ first.keep-remaining.ensures.1
     second.keep-remaining2.ensures.1 judged.judge-letters2.ensures
 
 pub judge-remaining-spec : {M : Type 1} → statement M

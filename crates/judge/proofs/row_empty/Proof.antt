@@ -2,12 +2,12 @@
 -- Assumes nothing.
 use borrow.Author.Rules.{rules}
 use borrow.Author.Tests.{eqb-true}
-use Rattle.judge.proofs.RunBits.{row-none}
+use Rattle.judge.proofs.RunBits.{row_none}
 use Rattle.judge.proofs.row_empty.Statement.{statement}
 use Rattle.judge.proofs.row_empty.Tie as tie
 
 returns : tie.Need-returns
-returns c e = row-none _ (eqb-true _ 0 e)
+returns c e = row_none _ (eqb-true _ 0 e)
 
 pub row-empty-spec : {M : Type 1} → statement M
 row-empty-spec =

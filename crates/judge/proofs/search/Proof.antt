@@ -7,7 +7,7 @@ use mathlib.Core.Path.{sym, ◌∙◌}
 use Rattle.image.specs.Lookup.{image_automaton}
 use Rattle.judge.proofs.Decisions.{decided_not}
 use Rattle.image.proofs.Accepted.{readable_in_range}
-use Rattle.image.proofs.Lookup.{automaton-states, accepts_inside, accepts_byte}
+use Rattle.image.proofs.Lookup.{automaton_states, accepts_inside, accepts_byte}
 use Rattle.judge.proofs.Verdict.{Counted, begun_confined, rows_covered, never_accepts, lost_in_cycle, verdict}
 use Rattle.judge.proofs.search.Statement.{statement}
 use Rattle.judge.proofs.search.Tie as tie
@@ -16,7 +16,7 @@ use Rattle.judge.proofs.search.Tie as tie
 counted : (c : tie.Start) → Counted (image_automaton c.args.image.now) c.args.n
 counted c = record {
   few = omega (arith, c.requires.1, c.requires.0.few);
-  size = automaton-states c.args.image.now ∙ sym c.requires.1;
+  size = automaton_states c.args.image.now ∙ sym c.requires.1;
   range = readable_in_range c.args.image.now c.requires.0;
 }
 

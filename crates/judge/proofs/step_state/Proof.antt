@@ -7,7 +7,7 @@ use mathlib.Core.Path.{◌≡◌, refl}
 use lib.ListN.{length}
 use Rattle.image.specs.Lookup.{records_at}
 use Rattle.judge.proofs.Gathers.{adds_none, adds_row}
-use Rattle.image.proofs.Lookup.{records-next}
+use Rattle.image.proofs.Lookup.{records_next}
 use Rattle.judge.proofs.Turns.{records_fit}
 use Rattle.judge.proofs.step_state.Statement.{statement}
 use Rattle.judge.proofs.step_state.Tie as tie
@@ -21,7 +21,7 @@ module _ (c : tie.After-number-at) where
   records-inside = records_fit _ s.args.q s.pre.2 c.number-at.ensures s.pre.1 s.pre.0
 
   next : s.args.at + 4 * c.number-at.result ≡ records_at s.args.image.now (s.args.q + 1)
-  next = records-next s.args.image.now s.args.q s.pre.2 c.number-at.ensures
+  next = records_next s.args.image.now s.args.q s.pre.2 c.number-at.ensures
 
 mul-end : tie.Need-overflow-mul-end
 mul-end c = omega (arith, records-inside c)

@@ -5,7 +5,7 @@ use native.Mathlib.Omega.{arith}
 use Prim.Native.Nat.{◌+◌, ◌-◌, ◌*◌, ◌≤◌}
 use lib.ListN.{length}
 use Rattle.judge.proofs.Gathers.{Gathering, gather_begins, gather_steps, gather_ends}
-use Rattle.judge.proofs.Turns.{ByRecords, all-records, target_fits, records_fit}
+use Rattle.judge.proofs.Turns.{ByRecords, all_records, target_fits, records_fit}
 use Rattle.judge.proofs.take_transitions.Statement.{statement}
 use Rattle.judge.proofs.take_transitions.Tie as tie
 
@@ -44,7 +44,7 @@ loop-again c =
 returns : tie.Need-returns invariant-loop decreases-loop
 returns c =
     let s = c.before.before.before in
-    all-records s.args.image.now s.args.q s.requires.2 s.requires.3 s.requires.1 s.args.letter
+    all_records s.args.image.now s.args.q s.requires.2 s.requires.3 s.requires.1 s.args.letter
     (gather_ends _ _ _ _ c.before.loop.i (omega arith) c.before.loop.invariant)
 
 pub take-transitions-spec : {M : Type 1} → statement M

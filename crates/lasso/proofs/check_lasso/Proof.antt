@@ -2,7 +2,7 @@
 -- Assumes nothing.
 use native.Mathlib.Omega.{arith}
 use borrow.Author.Rules.{rules}
-use Rattle.lasso.proofs.Checking.{cycle_empty, letters-over, all-skipped, lasso_fine}
+use Rattle.lasso.proofs.Checking.{cycle_empty, letters_over, all_skipped, lasso_fine}
 use Rattle.lasso.proofs.check_lasso.Statement.{statement}
 use Rattle.lasso.proofs.check_lasso.Tie as tie
 
@@ -10,12 +10,12 @@ returns : tie.Need-returns
 returns c = cycle_empty _ _ (omega arith)
 
 returns-2 : tie.Need-returns-2
-returns-2 c = letters-over _ _ c.before.before.if1.false c.before.letters-fit.ensures c.if2.true
+returns-2 c = letters_over _ _ c.before.before.if1.false c.before.letters-fit.ensures c.if2.true
 
 returns-3 : tie.Need-returns-3
 returns-3 c =
     let fits = c.before.before in
-    all-skipped _ _ fits.before.before.if1.false fits.before.letters-fit.ensures fits.if2.false
+    all_skipped _ _ fits.before.before.if1.false fits.before.letters-fit.ensures fits.if2.false
     c.before.some-remains.ensures c.if3.true
 
 returns-4 : tie.Need-returns-4

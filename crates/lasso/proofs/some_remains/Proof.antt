@@ -6,7 +6,7 @@ use mathlib.Core.Path.{◌≡◌}
 use mathlib.Core.List.{[]}
 use lib.ListN.{length, take}
 use Rattle.lasso.specs.Lasso.{remaining}
-use Rattle.lasso.proofs.Skipping.{none-begins, none_steps, none_ends, one_found}
+use Rattle.lasso.proofs.Skipping.{none_begins, none_steps, none_ends, one_found}
 use Rattle.lasso.proofs.some_remains.Statement.{statement}
 use Rattle.lasso.proofs.some_remains.Tie as tie
 
@@ -17,7 +17,7 @@ abbrev decreases-loop : tie.decreases-loop
 decreases-loop letters i₀ i = length letters - i
 
 loop-holds : tie.Need-loop-init invariant-loop decreases-loop
-loop-holds c = (search rules, none-begins c.args.letters.now)
+loop-holds c = (search rules, none_begins c.args.letters.now)
 
 returns : tie.Need-returns invariant-loop decreases-loop
 returns c =

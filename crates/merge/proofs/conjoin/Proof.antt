@@ -3,7 +3,7 @@
 use borrow.Author.Rules.{rules}
 use native.Mathlib.Omega.{arith}
 use Rattle.formula.specs.Rule.{release_kind}
-use Rattle.formula.proofs.Accepted.{formed-fine}
+use Rattle.formula.proofs.Accepted.{formed_fine}
 use Rattle.merge.proofs.Moving.{conjoins}
 use Rattle.merge.proofs.conjoin.Statement.{statement}
 use Rattle.merge.proofs.conjoin.Tie as tie
@@ -13,10 +13,10 @@ abbrev start : tie.After-put-node-arg → tie.Start
 start c = c.before.before.before.before.before.before.before.before.before.before.before.before
 
 sub-put-node : tie.Need-overflow-sub-put-node
-sub-put-node c = omega (arith, (formed-fine release_kind _ (start c).requires.0).some)
+sub-put-node c = omega (arith, (formed_fine release_kind _ (start c).requires.0).some)
 
 sub-put-node-2 : tie.Need-overflow-sub-put-node-2
-sub-put-node-2 c = omega (arith, (formed-fine release_kind _ (start c).requires.0).some)
+sub-put-node-2 c = omega (arith, (formed_fine release_kind _ (start c).requires.0).some)
 
 put-node-requires : tie.Need-put-node-requires
 put-node-requires c κs = search rules

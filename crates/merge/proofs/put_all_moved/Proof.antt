@@ -4,7 +4,7 @@ use borrow.Author.Rules.{rules}
 use native.Mathlib.Omega.{arith}
 use Prim.Native.Nat.{◌-◌}
 use Rattle.formula.specs.Rule.{release_kind}
-use Rattle.formula.proofs.Accepted.{formed-fine}
+use Rattle.formula.proofs.Accepted.{formed_fine}
 use Rattle.merge.proofs.Moving.{Moving, moving_begins, moving_steps, moving_ends}
 use Rattle.merge.proofs.put_all_moved.Statement.{statement}
 use Rattle.merge.proofs.put_all_moved.Tie as tie
@@ -22,7 +22,7 @@ put-moved-requires : tie.Need-put-moved-requires invariant-loop decreases-loop
 put-moved-requires c κs =
     let at = c.before.before in
     let s = at.before.before.before in
-    let each = (formed-fine release_kind _ s.requires.0).each in
+    let each = (formed_fine release_kind _ s.requires.0).each in
     (omega arith, each at.loop.i (omega arith), omega arith, omega (arith, at.loop.invariant.size))
 
 loop-again : tie.Need-loop-preserved invariant-loop decreases-loop

@@ -3,7 +3,7 @@
 use borrow.Author.Rules.{rules}
 use native.Mathlib.Omega.{arith}
 use Prim.Native.Nat.{◌+◌, ◌*◌}
-use Rattle.merge.proofs.Moving.{left_small, right_small, node-moved}
+use Rattle.merge.proofs.Moving.{left_small, right_small, node_moved}
 use Rattle.merge.proofs.put_moved.Statement.{statement}
 use Rattle.merge.proofs.put_moved.Tie as tie
 
@@ -26,7 +26,7 @@ returns c =
     let of-first = first.before.before in
     let kind = of-first.before in
     let a = kind.before.before.before.args in
-    node-moved a.rule.now a.up a.n a.merged.now _ ((a.up + a.n) * 3) kind.kind-of.ensures of-first.left-operand.ensures
+    node_moved a.rule.now a.up a.n a.merged.now _ ((a.up + a.n) * 3) kind.kind-of.ensures of-first.left-operand.ensures
     first.moved.ensures of-second.right_operand.ensures second.moved2.ensures put.put-node.ensures
 
 pub put-moved-spec : {M : Type 1} → statement M

@@ -13,7 +13,7 @@ use Rattle.normalform.proofs.Walking.{single_added, pair_added}
 use Rattle.normalform.proofs.walk_negated.Reads as walk-negated
 use Rattle.normalform.proofs.walk_negated.Kinds as walk-negated-kinds
 use Rattle.normalform.proofs.+walk_negated_walk_plain.Lts-walk_negated as walk-negated-lts
-use Rattle.normalform.proofs.walk_plain.Reads as walk-plain
+use Rattle.normalform.proofs.walk_plain.Reads as walk_plain
 use Rattle.normalform.proofs.walk_plain.Kinds as walk-plain-kinds
 use Rattle.normalform.proofs.+walk_negated_walk_plain.Lts-walk_plain as walk-plain-lts
 use Rattle.formula.proofs.kind_of.Reads as kind-of-reads
@@ -39,10 +39,10 @@ walk-negated-below t =
     and 2 walk-negated-kinds.ps (falls 2 walk-negated-kinds.ps ◌<◌ μ-walk-negated t) walk-negated.Pre
 
 abbrev walk-plain-at : ℕ → In 2 walk-plain-kinds.ps
-walk-plain-at t = and 2 walk-plain-kinds.ps (is 2 walk-plain-kinds.ps μ-walk-plain t) walk-plain.Pre
+walk-plain-at t = and 2 walk-plain-kinds.ps (is 2 walk-plain-kinds.ps μ-walk-plain t) walk_plain.Pre
 
 abbrev walk-plain-below : ℕ → In 2 walk-plain-kinds.ps
-walk-plain-below t = and 2 walk-plain-kinds.ps (falls 2 walk-plain-kinds.ps ◌<◌ μ-walk-plain t) walk-plain.Pre
+walk-plain-below t = and 2 walk-plain-kinds.ps (falls 2 walk-plain-kinds.ps ◌<◌ μ-walk-plain t) walk_plain.Pre
 
 -- what each knows of the functions that it calls
 abbrev plain-claims : ℕ → walk-plain-lts.Claims
@@ -58,7 +58,7 @@ plain-claims t = (
   right-of-reads.Asked,
   right-of-reads.Learnt,
   walk-plain-below t,
-  walk-plain.Post,
+  walk_plain.Post,
   one-child-reads.Asked,
   one-child-reads.Learnt,
 )
@@ -72,7 +72,7 @@ negated-claims t = (
   left-of-reads.Asked,
   left-of-reads.Learnt,
   walk-plain-below t,
-  walk-plain.Post,
+  walk_plain.Post,
   right-of-reads.Asked,
   right-of-reads.Learnt,
   walk-negated-below t,
@@ -239,11 +239,11 @@ negated-returns-5 t c =
 -- ---- plain
 
 -- past the leaves: what the function was given, and the node's children
-abbrev plain-start : (t : ℕ) → walk-plain-lts.Else1 (plain-claims t) (walk-plain-at t) walk-plain.Post
-    → walk-plain-lts.Start (plain-claims t) (walk-plain-at t) walk-plain.Post
+abbrev plain-start : (t : ℕ) → walk-plain-lts.Else1 (plain-claims t) (walk-plain-at t) walk_plain.Post
+    → walk-plain-lts.Start (plain-claims t) (walk-plain-at t) walk_plain.Post
 plain-start t e = e.before.before.before.before.before.before.before.before
 
-plain-left : (t : ℕ) (c : walk-plain-lts.After-left-of (plain-claims t) (walk-plain-at t) walk-plain.Post)
+plain-left : (t : ℕ) (c : walk-plain-lts.After-left-of (plain-claims t) (walk-plain-at t) walk_plain.Post)
     → let s = plain-start t c.before in
     (c.left-of.result < s.args.n) × Walkable s.args.rule.now c.left-of.result
 plain-left t c =
@@ -251,7 +251,7 @@ plain-left t c =
     let kind = e.before.before.before.before.before in
     left_walks _ _ (plain-start t e).requires.1.0 _ kind.kind-of.ensures _ c.left-of.ensures e.if1.false
 
-plain-right : (t : ℕ) (c : walk-plain-lts.After-right-of (plain-claims t) (walk-plain-at t) walk-plain.Post)
+plain-right : (t : ℕ) (c : walk-plain-lts.After-right-of (plain-claims t) (walk-plain-at t) walk_plain.Post)
     → let s = plain-start t c.before.before.before in
     (c.right_of.result < s.args.n) × Walkable s.args.rule.now c.right_of.result
 plain-right t c =
@@ -260,17 +260,17 @@ plain-right t c =
     right_walks _ _ (plain-start t e).requires.1.0 _ kind.kind-of.ensures _ c.right_of.ensures e.if1.false
 
 plain-kind-of-requires : (t : ℕ)
-    → walk-plain-lts.Need-kind-of-requires (plain-claims t) (walk-plain-at t) walk-plain.Post
+    → walk-plain-lts.Need-kind-of-requires (plain-claims t) (walk-plain-at t) walk_plain.Post
 plain-kind-of-requires t c κs = c.before.before.requires.1.0.inside
 
 plain-add-own-requires : (t : ℕ)
-    → walk-plain-lts.Need-add-own-requires (plain-claims t) (walk-plain-at t) walk-plain.Post
+    → walk-plain-lts.Need-add-own-requires (plain-claims t) (walk-plain-at t) walk_plain.Post
 plain-add-own-requires t c κs =
     let s = c.before.before.before.before in
     (few_nodes _ _ s.requires.1.0, s.requires.1.1)
 
 plain-returns : (t : ℕ)
-    → walk-plain-lts.Need-returns (plain-claims t) (walk-plain-at t) walk-plain.Post
+    → walk-plain-lts.Need-returns (plain-claims t) (walk-plain-at t) walk_plain.Post
 plain-returns t c =
     let own = c.before.before.before in
     let kind = own.before.before in
@@ -278,11 +278,11 @@ plain-returns t c =
     leaf_added _ _ s.requires.1.0 _ kind.kind-of.ensures false _ _ own.add-own.ensures c.if1.true
 
 plain-left-of-requires : (t : ℕ)
-    → walk-plain-lts.Need-left-of-requires (plain-claims t) (walk-plain-at t) walk-plain.Post
+    → walk-plain-lts.Need-left-of-requires (plain-claims t) (walk-plain-at t) walk_plain.Post
 plain-left-of-requires t c κs = (plain-start t c).requires.1.0.inside
 
 plain-walk-negated-requires : (t : ℕ)
-    → walk-plain-lts.Need-walk-negated-requires (plain-claims t) (walk-plain-at t) walk-plain.Post
+    → walk-plain-lts.Need-walk-negated-requires (plain-claims t) (walk-plain-at t) walk_plain.Post
 plain-walk-negated-requires t c κs =
     let side = c.before.before in
     let e = side.before in
@@ -291,7 +291,7 @@ plain-walk-negated-requires t c κs =
     (omega (arith, below.0), (below.1, own.add-own.ensures.same ∙ (plain-start t e).requires.1.1))
 
 plain-returns-2 : (t : ℕ)
-    → walk-plain-lts.Need-returns-2 (plain-claims t) (walk-plain-at t) walk-plain.Post
+    → walk-plain-lts.Need-returns-2 (plain-claims t) (walk-plain-at t) walk_plain.Post
 plain-returns-2 t c =
     let turned = c.before.before in
     let is-not = turned.before.before in
@@ -303,11 +303,11 @@ plain-returns-2 t c =
     _ _ left.left-of.ensures is-not.if2.true turned.walk-negated.ensures
 
 plain-right-of-requires : (t : ℕ)
-    → walk-plain-lts.Need-right-of-requires (plain-claims t) (walk-plain-at t) walk-plain.Post
+    → walk-plain-lts.Need-right-of-requires (plain-claims t) (walk-plain-at t) walk_plain.Post
 plain-right-of-requires t c κs = (plain-start t c.before.before).pre.1.0.inside
 
 plain-walk-negated-requires-2 : (t : ℕ)
-    → walk-plain-lts.Need-walk-negated-requires-2 (plain-claims t) (walk-plain-at t) walk-plain.Post
+    → walk-plain-lts.Need-walk-negated-requires-2 (plain-claims t) (walk-plain-at t) walk_plain.Post
 plain-walk-negated-requires-2 t c κs =
     let side = c.before.before.before.before in
     let e = side.before in
@@ -316,7 +316,7 @@ plain-walk-negated-requires-2 t c κs =
     (omega (arith, below.0), (below.1, own.add-own.ensures.same ∙ (plain-start t e).requires.1.1))
 
 plain-walk-plain-requires : (t : ℕ)
-    → walk-plain-lts.Need-walk-plain-requires (plain-claims t) (walk-plain-at t) walk-plain.Post
+    → walk-plain-lts.Need-walk-plain-requires (plain-claims t) (walk-plain-at t) walk_plain.Post
 plain-walk-plain-requires t c κs =
     let turned = c.before.before.before in
     let side = turned.before.before.before in
@@ -326,7 +326,7 @@ plain-walk-plain-requires t c κs =
     (omega (arith, below.0), (below.1, turned.walk-negated2.ensures.same ∙ own.add-own.ensures.same ∙ (plain-start t e).requires.1.1))
 
 plain-returns-3 : (t : ℕ)
-    → walk-plain-lts.Need-returns-3 (plain-claims t) (walk-plain-at t) walk-plain.Post
+    → walk-plain-lts.Need-returns-3 (plain-claims t) (walk-plain-at t) walk_plain.Post
 plain-returns-3 t c =
     let walked = c.before.before in
     let turned = walked.before.before.before.before in
@@ -341,7 +341,7 @@ plain-returns-3 t c =
     is-implies.if3.true turned.walk-negated2.ensures
 
 plain-walk-plain-requires-2 : (t : ℕ)
-    → walk-plain-lts.Need-walk-plain-requires-2 (plain-claims t) (walk-plain-at t) walk-plain.Post
+    → walk-plain-lts.Need-walk-plain-requires-2 (plain-claims t) (walk-plain-at t) walk_plain.Post
 plain-walk-plain-requires-2 t c κs =
     let side = c.before.before.before.before in
     let e = side.before in
@@ -350,7 +350,7 @@ plain-walk-plain-requires-2 t c κs =
     (omega (arith, below.0), (below.1, own.add-own.ensures.same ∙ (plain-start t e).requires.1.1))
 
 plain-returns-4 : (t : ℕ)
-    → walk-plain-lts.Need-returns-4 (plain-claims t) (walk-plain-at t) walk-plain.Post
+    → walk-plain-lts.Need-returns-4 (plain-claims t) (walk-plain-at t) walk_plain.Post
 plain-returns-4 t c =
     let one = c.before in
     let walked = one.before.before.before in
@@ -364,7 +364,7 @@ plain-returns-4 t c =
     walked.walk-plain2.ensures
 
 plain-walk-plain-requires-3 : (t : ℕ)
-    → walk-plain-lts.Need-walk-plain-requires-3 (plain-claims t) (walk-plain-at t) walk-plain.Post
+    → walk-plain-lts.Need-walk-plain-requires-3 (plain-claims t) (walk-plain-at t) walk_plain.Post
 plain-walk-plain-requires-3 t c κs =
     let walked = c.before.before.before.before.before in
     let side = walked.before.before.before in
@@ -374,7 +374,7 @@ plain-walk-plain-requires-3 t c κs =
     (omega (arith, below.0), (below.1, walked.walk-plain2.ensures.same ∙ own.add-own.ensures.same ∙ (plain-start t e).requires.1.1))
 
 plain-returns-5 : (t : ℕ)
-    → walk-plain-lts.Need-returns-5 (plain-claims t) (walk-plain-at t) walk-plain.Post
+    → walk-plain-lts.Need-returns-5 (plain-claims t) (walk-plain-at t) walk_plain.Post
 plain-returns-5 t c =
     let second = c.before.before in
     let two = second.before.before in
@@ -400,7 +400,7 @@ pub +walk-negated-walk-plain-spec : {M : Type 1} → statement M
     (negated-walk-plain-requires-2 t) (negated-walk-negated-requires t) (λ c. search rules) (negated-returns-3 t)
     (negated-walk-negated-requires-2 t) (λ c κs. search rules) (λ c. search rules) (negated-returns-4 t)
     (negated-walk-negated-requires-3 t) (λ c. search rules) (negated-returns-5 t))
-    (λ t. walk-plain-lts.spec (plain-claims t) (walk-plain-at t) walk-plain.Post (plain-kind-of-requires t)
+    (λ t. walk-plain-lts.spec (plain-claims t) (walk-plain-at t) walk_plain.Post (plain-kind-of-requires t)
     (plain-add-own-requires t) (λ c. search rules) (plain-returns t) (plain-left-of-requires t)
     (plain-walk-negated-requires t) (λ c. search rules) (plain-returns-2 t) (plain-right-of-requires t)
     (plain-walk-negated-requires-2 t) (plain-walk-plain-requires t) (λ c. search rules) (plain-returns-3 t)

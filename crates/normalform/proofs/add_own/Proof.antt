@@ -1,7 +1,7 @@
 -- `normalform::add_own` meets its contract: by the node's kind, the codes that `own_codes` has.
 -- Assumes nothing.
 use borrow.Author.Rules.{rules}
-use Rattle.normalform.proofs.Codes.{own_leaf, own_not, own-one, own_two}
+use Rattle.normalform.proofs.Codes.{own_leaf, own_not, own_one, own_two}
 use Rattle.normalform.proofs.add_own.Statement.{statement}
 use Rattle.normalform.proofs.add_own.Tie as tie
 
@@ -41,7 +41,7 @@ returns-4 c =
     let inner = no-not.before in
     let s = inner.before.before in
     let a = s.args in
-    own-one _ a.kind a.n a.negated _ _ inner.if1.false pair.pair-code2.ensures.0
+    own_one _ a.kind a.n a.negated _ _ inner.if1.false pair.pair-code2.ensures.0
     no-not.if2.false no-future.if3.false added.add-code2.ensures
 
 pub add-own-spec : {M : Type 1} → statement M

@@ -5,7 +5,7 @@ use native.Mathlib.Omega.{arith}
 use mathlib.Core.Path.{refl}
 use Rattle.normalform.proofs.Fitting.{well_written}
 use Rattle.normalform.proofs.Walking.{few_codes}
-use Rattle.normalform.proofs.Normalizing.{too_large, readied, form-stored}
+use Rattle.normalform.proofs.Normalizing.{too_large, readied, form_stored}
 use Rattle.normalform.proofs.build_form.Statement.{statement}
 use Rattle.normalform.proofs.build_form.Tie as tie
 
@@ -48,7 +48,7 @@ returns-2 c =
     let numbered = few.before.before in
     let walked = numbered.before.before.before.before in
     let s = walked.before.before.before.before in
-    form-stored _ s.requires.0 walked.walk-plain.ensures numbered.number-codes.ensures _ s.requires.1
+    form_stored _ s.requires.0 walked.walk-plain.ensures numbered.number-codes.ensures _ s.requires.1
     few.if1.false _ _ written.write-codes.auto.1.1.1.1.0 written.write-codes.ensures
     zeroed.zero-behind.ensures
 

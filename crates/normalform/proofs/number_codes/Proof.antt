@@ -3,7 +3,7 @@
 use borrow.Author.Rules.{rules}
 use native.Mathlib.Omega.{arith}
 use Prim.Native.Nat.{◌-◌}
-use Rattle.normalform.proofs.Numbering.{Counting, count-begins, count_steps, count_ends}
+use Rattle.normalform.proofs.Numbering.{Counting, count_begins, count_steps, count_ends}
 use Rattle.normalform.proofs.number_codes.Statement.{statement}
 use Rattle.normalform.proofs.number_codes.Tie as tie
 
@@ -14,7 +14,7 @@ abbrev decreases-loop : tie.decreases-loop
 decreases-loop needed end numbers₀ count₀ c₀ numbers count c = end - c
 
 loop-holds : tie.Need-loop-init invariant-loop decreases-loop
-loop-holds c = count-begins _ _ _
+loop-holds c = count_begins _ _ _
 
 cast-numbers : tie.Need-overflow-cast-numbers invariant-loop decreases-loop
 cast-numbers c =

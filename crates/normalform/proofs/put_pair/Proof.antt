@@ -4,7 +4,7 @@ use borrow.Author.Rules.{rules}
 use native.Mathlib.Omega.{arith}
 use mathlib.Core.Path.{ap}
 use Rattle.normalform.specs.Memory.{Walkable, number_in}
-use Rattle.normalform.proofs.Walking.{own-node, left_walks, right_walks}
+use Rattle.normalform.proofs.Walking.{own_node, left_walks, right_walks}
 use Rattle.normalform.proofs.Entries.{leaf_put, next_put, future_put, implies_put, pair_put}
 use Rattle.normalform.proofs.put_pair.Statement.{statement}
 use Rattle.normalform.proofs.put_pair.Tie as tie
@@ -31,7 +31,7 @@ beside c =
 form-kind-requires : tie.Need-form-kind-requires
 form-kind-requires c κs =
     let s = c.before.before.before.before in
-    omega (arith, c.kind-of.ensures, (own-node _ _ s.requires.0).kind)
+    omega (arith, c.kind-of.ensures, (own_node _ _ s.requires.0).kind)
 
 form-node-requires : tie.Need-form-node-requires
 form-node-requires c κs =

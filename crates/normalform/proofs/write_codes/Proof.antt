@@ -4,7 +4,7 @@ use borrow.Author.Rules.{rules}
 use native.Mathlib.Omega.{arith}
 use Prim.Native.Nat.{◌-◌}
 use Rattle.normalform.proofs.Walking.{few_codes}
-use Rattle.normalform.proofs.Writing.{Emitting, emit-begins, code_room, emit_steps, emit_ends}
+use Rattle.normalform.proofs.Writing.{Emitting, emit_begins, code_room, emit_steps, emit_ends}
 use Rattle.normalform.proofs.write_codes.Statement.{statement}
 use Rattle.normalform.proofs.write_codes.Tie as tie
 
@@ -21,7 +21,7 @@ add-end : tie.Need-overflow-add-end invariant-loop decreases-loop
 add-end c = omega (arith, few_codes _ c.before.before.before.before.requires.passes)
 
 loop-holds : tie.Need-loop-init invariant-loop decreases-loop
-loop-holds c = emit-begins _ _
+loop-holds c = emit_begins _ _
 
 write-code-requires : tie.Need-write-code-requires invariant-loop decreases-loop
 write-code-requires c κs =

@@ -2,7 +2,7 @@
 use borrow.Author.Rules.{rules}
 use mathlib.Core.Path.{refl}
 use native.Mathlib.Omega.{arith}
-use Rattle.office.proofs.Sent.{sent_short, sent-bytes}
+use Rattle.office.proofs.Sent.{sent_short, sent_bytes}
 use Rattle.office.proofs.zimboralo_report.Statement.{statement}
 use Rattle.office.proofs.zimboralo_report.Tie as tie
 
@@ -13,7 +13,7 @@ returns-2 : tie.Need-returns-2
 returns-2 c =
     let copy = c.before.before.copy in
     let report = c.before.before.before.before.before.before.before.report in
-    sent-bytes _ _ _ _ _ _ (omega arith) report.ensures copy.ensures refl
+    sent_bytes _ _ _ _ _ _ (omega arith) report.ensures copy.ensures refl
 
 pub zimboralo-report-spec : {M : Type 1} → statement M
 zimboralo-report-spec =

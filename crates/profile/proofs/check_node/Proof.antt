@@ -1,13 +1,13 @@
 -- `profile::check_node` meets its contract: by the node's kind. Assumes nothing.
 use borrow.Author.Rules.{rules}
-use Rattle.profile.proofs.Checking.{node-until, node_free}
+use Rattle.profile.proofs.Checking.{node_until, node_free}
 use Rattle.profile.proofs.check_node.Statement.{statement}
 use Rattle.profile.proofs.check_node.Tie as tie
 
 returns : tie.Need-returns
 returns c =
     let s = c.before.before.before.args in
-    node-until s.form.now s.n _ c.before.kind-of.ensures c.if1.true
+    node_until s.form.now s.n _ c.before.kind-of.ensures c.if1.true
 
 returns-2 : tie.Need-returns-2
 returns-2 c =

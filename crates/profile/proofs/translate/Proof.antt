@@ -8,7 +8,7 @@ use Rattle.automaton.proofs.Room.{tables_room}
 use Rattle.answer.specs.declared.Stored.TheVariants.{Accepted}
 use Rattle.normalform.specs.Memory.{Forms}
 use Rattle.normalform.proofs.Normalizing.{forms_as}
-use Rattle.profile.proofs.Checking.{short_refused, form_refused, form-translated}
+use Rattle.profile.proofs.Checking.{short_refused, form_refused, form_translated}
 use Rattle.profile.proofs.translate.Statement.{statement}
 use Rattle.profile.proofs.translate.Tie as tie
 
@@ -53,7 +53,7 @@ returns-3 : tie.Need-returns-3
 returns-3 c =
     let called = c.before.before.before.before.before.before in
     let n = called.before.before.before.before.before.before in
-    form-translated _ _ _ _ (tables (fitted n)) _ (forms n).0 (forms n).1 called.translate-form.ensures
+    form_translated _ _ _ _ (tables (fitted n)) _ (forms n).0 (forms n).1 called.translate-form.ensures
 
 pub translate-spec : {M : Type 1} → statement M
 translate-spec =

@@ -4,7 +4,7 @@ use borrow.Author.Rules.{rules}
 use native.Mathlib.Omega.{arith}
 use Prim.Native.Nat.{◌+◌, ◌*◌, ◌-◌, ◌≤◌}
 use lib.ListN.{length}
-use Rattle.image.proofs.Lookup.{records-end}
+use Rattle.image.proofs.Lookup.{records_end}
 use Rattle.rest.proofs.Places.{Placing, placing_begins, placing_steps, placing_ends}
 use Rattle.rest.proofs.find_places.Statement.{statement}
 use Rattle.rest.proofs.find_places.Tie as tie
@@ -26,7 +26,7 @@ module _ (c : tie.After-number-at invariant-loop decreases-loop) where
   inside : c.before.before.loop.at + 4 * c.number-at.result ≤ length s.args.image.now
   inside =
       let at = c.before.before in
-      omega (arith, records-end _ s.pre.0 at.loop.q (omega arith), at.loop.invariant.here, c.number-at.ensures)
+      omega (arith, records_end _ s.pre.0 at.loop.q (omega arith), at.loop.invariant.here, c.number-at.ensures)
 
 loop-again : tie.Need-loop-preserved invariant-loop decreases-loop
 loop-again c =

@@ -8,10 +8,10 @@ use Rattle.automaton.specs.Limits.{max_states}
 use Rattle.image.specs.Reader.{counts_at}
 use Rattle.image.specs.Lookup.{image_automaton}
 use Rattle.image.proofs.Accepted.{readable_in_range}
-use Rattle.image.proofs.Lookup.{automaton-states}
+use Rattle.image.proofs.Lookup.{automaton_states}
 use Rattle.rest.specs.Memory.{buffers}
 use Rattle.rest.proofs.Levels.{Taking, taking_begins, taking_rests, taking_steps, taking_ends, taking_ready}
-use Rattle.rest.proofs.Levels.{before_few, byte-rests, byte_calm}
+use Rattle.rest.proofs.Levels.{before_few, byte_rests, byte_calm}
 use Rattle.rest.proofs.Marking.{shows_few}
 use Rattle.rest.proofs.take_level.Statement.{statement}
 use Rattle.rest.proofs.take_level.Tie as tie
@@ -45,7 +45,7 @@ module _ (c : tie.At-loop invariant-loop decreases-loop) where
   few : s.args.taken + s.args.count ≤ length s.args.work.now
   few =
       before_few _ _ _ s.pre.6 (readable_in_range _ s.pre.0) s.pre.3
-      (s.pre.1 ∙ sym (automaton-states s.args.image.now)) s.pre.4
+      (s.pre.1 ∙ sym (automaton_states s.args.image.now)) s.pre.4
 
 element-copy-out-wide : tie.Need-element-copy-out-wide invariant-loop decreases-loop
 element-copy-out-wide c =
@@ -73,7 +73,7 @@ returns c =
     let read = c.before.before in
     let at = read.before.before.before in
     taking_rests _ _ _ (readable_in_range _ (s at).requires.0) (s at).requires.3 at.loop.i at.loop.invariant (omega arith) _
-    read.wide.ensures (byte-rests _ (s at).requires.0 _ (below read) c.if1.true)
+    read.wide.ensures (byte_rests _ (s at).requires.0 _ (below read) c.if1.true)
 
 take-state-requires : tie.Need-take-state-requires invariant-loop decreases-loop
 take-state-requires c κs =

@@ -10,7 +10,7 @@ use lib.ListN.{length}
 use Rattle.automaton.specs.Limits.{max_states}
 use Rattle.image.specs.Lookup.{image_automaton}
 use Rattle.image.proofs.Accepted.{readable_in_range}
-use Rattle.image.proofs.Lookup.{automaton-states}
+use Rattle.image.proofs.Lookup.{automaton_states}
 use Rattle.rest.proofs.Levels.{Turning, turning_steps, blank_marks, fresh_shows, before_first}
 use Rattle.rest.proofs.Levels.{before_few, before_none}
 use Rattle.rest.proofs.take_levels.Statement.{statement}
@@ -63,7 +63,7 @@ module _ (c : tie.At-loop invariant-loop decreases-loop) where
   -- the pairs taken, with those of the level, are at most as many as there are bytes
   few : c.loop.taken + c.loop.count ≤ length s.args.work.now
   few =
-      let en = s.pre.1 ∙ sym (automaton-states s.args.image.now) in
+      let en = s.pre.1 ∙ sym (automaton_states s.args.image.now) in
       let range = readable_in_range _ s.pre.0 in
       omega (arith, same, before_few _ _ _ c.loop.invariant.before range s.pre.2 en bytes)
 

@@ -8,7 +8,7 @@ use lib.ListN.{get_or, length}
 use Rattle.answer.specs.Bytes.{number_at}
 use Rattle.image.specs.Reader.{counts_at}
 use Rattle.image.specs.Lookup.{records_at}
-use Rattle.image.proofs.Lookup.{records-end}
+use Rattle.image.proofs.Lookup.{records_end}
 use Rattle.rest.specs.Memory.{buffers}
 use Rattle.rest.proofs.Filling.{Filling, led_to, fills_ready, target_below}
 use Rattle.rest.proofs.Filling.{follows_begin, follows_step, follows_end, follows_full}
@@ -42,7 +42,7 @@ module _ (c : tie.After-number-at invariant-loop decreases-loop) where
   begins = s.pre.3.begin s.args.q state
 
   inside : place + 4 * c.number-at.result ≤ length s.args.image.now
-  inside = omega (arith, begins, c.number-at.ensures, records-end _ s.pre.0 s.args.q state)
+  inside = omega (arith, begins, c.number-at.ensures, records_end _ s.pre.0 s.args.q state)
 
   below : (i : ℕ) → i < c.number-at.result → number_at s.args.image.now (place + 4 * i + 2) < s.args.n
   below = target_below s.args.image.now s.pre.0 s.args.q s.pre.1 state begins c.number-at.ensures

@@ -14,7 +14,7 @@ use Rattle.formula.proofs.right_of.Reads as right-of-reads
 use Rattle.term.specs.Term.{cover}
 use Rattle.term.specs.Memory.{IsCover}
 use Rattle.term.proofs.Sizes.{ready_small, ready_below, left_lower, right_lower, of_leaf}
-use Rattle.term.proofs.Descending.{found-cover, cover-pair}
+use Rattle.term.proofs.Descending.{found_cover, cover_pair}
 use Rattle.term.proofs.cover_of.Reads as cover-of
 use Rattle.term.proofs.cover_of.Kinds as cover-of-kinds
 use Rattle.term.proofs.+cover_of.Lts-cover_of as cover-of-lts
@@ -53,7 +53,7 @@ cover-of-returns : (t : ℕ) → cover-of-lts.Need-returns (claims t) (cover-of-
 cover-of-returns t c =
     let k = c.before.before in
     let ready = k.before.before.requires.1 in
-    found-cover _ _
+    found_cover _ _
     (of_leaf ready k.kind-of.ensures (λ f. IsCover c.cover-leaf.result (cover f)) refl
     (c.cover-leaf.ensures _))
 
@@ -90,7 +90,7 @@ cover-of-returns-2 t c =
     let l = r.before.before in
     let k = l.before.before.before.before in
     let ready = k.before.before.requires.1 in
-    cover-pair ready k.kind-of.ensures l.before.left-of.ensures r.before.right_of.ensures (omega arith)
+    cover_pair ready k.kind-of.ensures l.before.left-of.ensures r.before.right_of.ensures (omega arith)
     c.from-children.ensures (search rules) l.cover-of.ensures r.cover-of2.ensures
 
 pub +cover-of-spec : {M : Type 1} → statement M

@@ -9,8 +9,8 @@ use Rattle.formula.proofs.kind_of.Reads as kind-of-reads
 use Rattle.formula.proofs.left_of.Reads as left-of-reads
 use Rattle.formula.proofs.right_of.Reads as right-of-reads
 use Rattle.term.specs.Memory.{IsNode}
-use Rattle.term.proofs.Sizes.{own-node, ready_small, ready_below, left_lower, right_lower, of_leaf}
-use Rattle.term.proofs.Descending.{found-terms, terms-next, terms-pair, conflicts-next, conflicts-pair}
+use Rattle.term.proofs.Sizes.{own_node, ready_small, ready_below, left_lower, right_lower, of_leaf}
+use Rattle.term.proofs.Descending.{found_terms, terms_next, terms_pair, conflicts_next, conflicts_pair}
 use Rattle.term.proofs.Keeping.{keeps_leaf, keeps_next, keeps_pair}
 use Rattle.term.proofs.keep_terms.Reads as keep-terms
 use Rattle.term.proofs.keep_terms.Kinds as keep-terms-kinds
@@ -44,7 +44,7 @@ keep-terms-left-of-requires t c κs = search rules
 keep-terms-terms-leaf-requires : (t : ℕ) → keep-terms-lts.Need-terms-leaf-requires (claims t) (keep-terms-at t) keep-terms.Post
 keep-terms-terms-leaf-requires t c κs =
     let ready = c.before.before.before.before.before.requires.1.0 in
-    (omega arith, λ big. omega (arith, (own-node ready).proposition (omega arith) (omega arith)))
+    (omega arith, λ big. omega (arith, (own_node ready).proposition (omega arith) (omega arith)))
 
 keep-terms-store-row-requires : (t : ℕ) → keep-terms-lts.Need-store-row-requires (claims t) (keep-terms-at t) keep-terms.Post
 keep-terms-store-row-requires t c κs =
@@ -64,7 +64,7 @@ keep-terms-returns t c =
     let leaf =
     of_leaf ready k.kind-of.ensures (λ g. IsNode f.terms-leaf.result g) l.left-of.ensures
     (f.terms-leaf.ensures _) in
-    keeps_leaf _ _ (found-terms _ _ leaf.packed) (λ _. leaf.conflicts)
+    keeps_leaf _ _ (found_terms _ _ leaf.packed) (λ _. leaf.conflicts)
     (omega (arith, k.kind-of.ensures)) st.store-row.ensures
 
 keep-terms-keep-terms-requires : (t : ℕ) → keep-terms-lts.Need-keep-terms-requires (claims t) (keep-terms-at t) keep-terms.Post
@@ -101,9 +101,9 @@ keep-terms-returns-2 t c =
     let next = v.before.if2.true in
     let sets = v.cover-of.ensures in
     keeps_next _ _
-    (terms-next ready k.kind-of.ensures l.left-of.ensures next
+    (terms_next ready k.kind-of.ensures l.left-of.ensures next
     (record { within = sets.within; over = sets.over }))
-    (conflicts-next ready k.kind-of.ensures l.left-of.ensures next a.keep-terms.ensures.conflicts) _
+    (conflicts_next ready k.kind-of.ensures l.left-of.ensures next a.keep-terms.ensures.conflicts) _
     l.left-of.ensures a.keep-terms.ensures (omega (arith, k.kind-of.ensures)) st.store-row2.ensures
 
 keep-terms-right-of-requires : (t : ℕ) → keep-terms-lts.Need-right-of-requires (claims t) (keep-terms-at t) keep-terms.Post
@@ -145,9 +145,9 @@ keep-terms-returns-3 t c =
     let left = a.keep-terms.ensures in
     let right = b.keep-terms2.ensures in
     keeps_pair _ _
-    (terms-pair ready k.kind-of.ensures l.left-of.ensures r.right_of.ensures (omega arith)
+    (terms_pair ready k.kind-of.ensures l.left-of.ensures r.right_of.ensures (omega arith)
     v.from-children.ensures left.value right.value)
-    (conflicts-pair ready k.kind-of.ensures l.left-of.ensures r.right_of.ensures (omega arith)
+    (conflicts_pair ready k.kind-of.ensures l.left-of.ensures r.right_of.ensures (omega arith)
     v.from-children.ensures left.value right.value left.conflicts right.conflicts)
     _ l.left-of.ensures left _ r.right_of.ensures right st.store-row3.ensures
 

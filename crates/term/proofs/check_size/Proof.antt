@@ -6,7 +6,7 @@ use lib.ListN.{length-map}
 use Rattle.formula.specs.Formula.{tree}
 use Rattle.term.specs.Term.{cover}
 use Rattle.term.specs.Memory.{pack_set}
-use Rattle.term.proofs.Sizes.{ready_small, fine_few, over-own}
+use Rattle.term.proofs.Sizes.{ready_small, fine_few, over_own}
 use Rattle.term.proofs.Bounds.{cover_bounded}
 use Rattle.term.proofs.check_size.Statement.{statement}
 use Rattle.term.proofs.check_size.Tie as tie
@@ -23,7 +23,7 @@ shared-slice-read-terms c = omega (arith, c.before.before.before.requires.0.insi
 returns : tie.Need-returns
 returns c =
     let pre = c.before.before.before.before.requires in
-    over-own _ _ pre.1 (pre.3.over (omega arith))
+    over_own _ _ pre.1 (pre.3.over (omega arith))
 
 returns-2 : tie.Need-returns-2
 returns-2 c =
@@ -36,7 +36,7 @@ returns-2 c =
 returns-3 : tie.Need-returns-3
 returns-3 c =
     let pre = c.before.before.before.before.before.before.before.requires in
-    over-own _ _ pre.1 (c.before.cover-of.ensures.over (omega arith))
+    over_own _ _ pre.1 (c.before.cover-of.ensures.over (omega arith))
 
 returns-4 : tie.Need-returns-4
 returns-4 c =

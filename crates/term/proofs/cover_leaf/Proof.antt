@@ -3,7 +3,7 @@
 use borrow.Author.Rules.{rules}
 use native.Mathlib.Omega.{arith}
 use Rattle.term.specs.Term.{cover}
-use Rattle.term.proofs.ByKind.{above, cover-own}
+use Rattle.term.proofs.ByKind.{above, cover_own}
 use Rattle.term.proofs.cover_leaf.Statement.{statement}
 use Rattle.term.proofs.cover_leaf.Tie as tie
 
@@ -23,7 +23,7 @@ returns-4 : tie.Need-returns-4
 returns-4 c = λ m f g.
     let known = c.before.before in
     let s = known.before.before.before in
-    rw (cover-own _ m f g s.args.kind known.before.before.if1.false known.before.if2.false s.requires.1 s.requires.2 (omega arith), ← c.before.owe.ensures) c.one2.ensures.packed
+    rw (cover_own _ m f g s.args.kind known.before.before.if1.false known.before.if2.false s.requires.1 s.requires.2 (omega arith), ← c.before.owe.ensures) c.one2.ensures.packed
 
 pub cover-leaf-spec : {M : Type 1} → statement M
 cover-leaf-spec =

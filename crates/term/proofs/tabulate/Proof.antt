@@ -6,9 +6,9 @@ use mathlib.Core.Path.{refl, sym, ap, ◌∙◌}
 use Rattle.answer.specs.Result.{answer}
 use Rattle.formula.proofs.Accepted.{accepted_fine}
 use Rattle.term.proofs.Sizes.{root_ready}
-use Rattle.term.proofs.Reached.{reached-whole}
+use Rattle.term.proofs.Reached.{reached_whole}
 use Rattle.term.proofs.Keeping.{table_fine}
-use Rattle.term.proofs.Descending.{root-conflicts}
+use Rattle.term.proofs.Descending.{root_conflicts}
 use Rattle.term.proofs.tabulate.Statement.{statement}
 use Rattle.term.proofs.tabulate.Tie as tie
 
@@ -22,7 +22,7 @@ check-sizes-requires : tie.Need-check-sizes-requires
 check-sizes-requires c κs =
     let k = c.before.before.before in
     let s = k.before.before.before.before in
-    (refl, s.requires.0, search rules, λ j lt. k.keep-terms.ensures.reached j (reached-whole _ s.requires.0 j lt))
+    (refl, s.requires.0, search rules, λ j lt. k.keep-terms.ensures.reached j (reached_whole _ s.requires.0 j lt))
 
 returns : tie.Need-returns
 returns c =
@@ -38,8 +38,8 @@ returns-2 c =
     record {
       sizes = passed;
       terms = table_fine _ _ (search rules)
-          (λ j lt. k.keep-terms.ensures.reached j (reached-whole _ s.requires.0 j lt)) passed;
-      conflicts = root-conflicts _ s.requires.0 passed k.keep-terms.ensures.conflicts;
+          (λ j lt. k.keep-terms.ensures.reached j (reached_whole _ s.requires.0 j lt)) passed;
+      conflicts = root_conflicts _ s.requires.0 passed k.keep-terms.ensures.conflicts;
     }
 
 pub tabulate-spec : {M : Type 1} → statement M

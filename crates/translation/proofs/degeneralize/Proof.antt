@@ -3,11 +3,11 @@
 use borrow.Author.Rules.{rules}
 use native.Mathlib.Omega.{arith}
 use mathlib.Core.Path.{refl, sym}
-use Rattle.term.proofs.Sizes.{bytes-fine}
+use Rattle.term.proofs.Sizes.{bytes_fine}
 use Rattle.generalized.proofs.Passed.{initial_few}
 use Rattle.translation.proofs.Numbering.{numbered_begins}
 use Rattle.translation.proofs.SecondWalk.{Begun, first_rows, Done, walk_done, walk_stopped}
-use Rattle.translation.proofs.SecondWalk.{count_inside, codes-count, codes_few, all_rows, written_is}
+use Rattle.translation.proofs.SecondWalk.{count_inside, codes_count, codes_few, all_rows, written_is}
 use Rattle.translation.proofs.degeneralize.Statement.{statement}
 use Rattle.translation.proofs.degeneralize.Tie as tie
 
@@ -22,7 +22,7 @@ begun : (c : tie.After-start-pairs)
     c.start-pairs.new.0 c.start-pairs.new.1.0
 begun c = record {
   passed = (start c).requires.0;
-  walked-first = (start c).requires.1;
+  walked_first = (start c).requires.1;
   levels = c.before.before.before.untils-of.ensures.counted;
   numbered = c.start-pairs.ensures.0;
   start = c.start-pairs.ensures.1;
@@ -47,7 +47,7 @@ done c =
     e.last.1.1.1.1.1.0 e.ensures c.walked2.given.1
 
 untils-of-requires : tie.Need-untils-of-requires
-untils-of-requires c κs = bytes-fine _ c.before.before.before.before.before.before.requires.0
+untils-of-requires c κs = bytes_fine _ c.before.before.before.before.before.before.requires.0
 
 start-pairs-requires : tie.Need-start-pairs-requires
 start-pairs-requires c κs =
@@ -67,7 +67,7 @@ array-share-prefix-pairs c =
 slice-aggregate-write-states : tie.Need-slice-aggregate-write-states
 slice-aggregate-write-states c =
     let walked = c.before.before.before in
-    sym (codes-count (begun (first (explored walked))) (done walked))
+    sym (codes_count (begun (first (explored walked))) (done walked))
 
 write-states-requires : tie.Need-write-states-requires
 write-states-requires c κs =

@@ -10,7 +10,7 @@ use Rattle.generalized.specs.Explore.{walked}
 use Rattle.translation.specs.Memory.{level_places, code_walk}
 use Rattle.translation.proofs.Within.{state_inside, OwnRow, own_row}
 use Rattle.translation.proofs.Meeting.{among}
-use Rattle.translation.proofs.Pairing.{Pairing, row-begins, row_fits, row-leads, row_room}
+use Rattle.translation.proofs.Pairing.{Pairing, row_begins, row_fits, row_leads, row_room}
 use Rattle.translation.proofs.Pairing.{pairing_begins, pairing_ends, pairing_stops, pairing_steps}
 use Rattle.translation.proofs.explore_pairs.Statement.{statement}
 use Rattle.translation.proofs.explore_pairs.Tie as tie
@@ -82,7 +82,7 @@ row-end-requires c κs = state-listed c.before.before.before.before _ c.state-of
 sub-meet-row : tie.Need-overflow-sub-meet-row invariant-loop decreases-loop
 sub-meet-row c =
     let pair = pair_of c in
-    row-begins pair.before.loop.inv (start pair.before).pre.2 pair.loop-test.taken (own c)
+    row_begins pair.before.loop.inv (start pair.before).pre.2 pair.loop-test.taken (own c)
 
 part-meet-row-end : tie.Need-slice-bounds-meet-row-end invariant-loop decreases-loop
 part-meet-row-end c =
@@ -93,7 +93,7 @@ mul-meet-row : tie.Need-overflow-mul-meet-row invariant-loop decreases-loop
 mul-meet-row c =
     let pair = pair_of c in
     let s = start pair.before in
-    let begins = row-begins pair.before.loop.inv s.pre.2 pair.loop-test.taken (own c) in
+    let begins = row_begins pair.before.loop.inv s.pre.2 pair.loop-test.taken (own c) in
     let fits = row_fits pair.before.loop.inv s.pre.2 pair.loop-test.taken (own c) in
     omega (arith, begins, fits, s.pre.0.size)
 
@@ -105,7 +105,7 @@ meet-row-requires c κs =
     let inv = pair.before.loop.inv in (
       inv.numbered,
       s.pre.0.levels,
-      row-leads inv s.pre.2 pair.loop-test.taken (own row),
+      row_leads inv s.pre.2 pair.loop-test.taken (own row),
       row_room inv s.pre.2 pair.loop-test.taken (own row),
     )
 

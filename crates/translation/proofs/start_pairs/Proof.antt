@@ -4,7 +4,7 @@ use borrow.Author.Rules.{rules}
 use native.Mathlib.Omega.{arith}
 use Prim.Native.Nat.{◌-◌}
 use mathlib.Core.Path.{sym, ◌∙◌}
-use Rattle.translation.proofs.Codes.{Starting, start-begins, start_new, start_steps, start_ends}
+use Rattle.translation.proofs.Codes.{Starting, start_begins, start_new, start_steps, start_ends}
 use Rattle.translation.proofs.start_pairs.Statement.{statement}
 use Rattle.translation.proofs.start_pairs.Tie as tie
 
@@ -15,7 +15,7 @@ abbrev decreases-loop : tie.decreases-loop
 decreases-loop pairs₀ index₀ n i₀ pairs index i = n - i
 
 loop-holds : tie.Need-loop-init invariant-loop decreases-loop
-loop-holds c = start-begins _ _ _ c.before.before.requires.0
+loop-holds c = start_begins _ _ _ c.before.before.requires.0
 
 add-pair-requires : tie.Need-add-pair-requires invariant-loop decreases-loop
 add-pair-requires c κs =

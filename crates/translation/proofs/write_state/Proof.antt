@@ -6,7 +6,7 @@ use mathlib.Core.Path.{refl, ap, ◌∙◌}
 use mathlib.Core.Logic.{inl}
 use Prim.Native.Nat.{◌*◌}
 use lib.Seq.{sets}
-use Rattle.translation.proofs.Within.{state_inside, OwnRow, own_row, own-begins, own_fits, own_few, own-leads}
+use Rattle.translation.proofs.Within.{state_inside, OwnRow, own_row, own_begins, own_fits, own_few, own_leads}
 use Rattle.translation.proofs.Writing.{pair_record}
 use Rattle.translation.proofs.write_state.Statement.{statement}
 use Rattle.translation.proofs.write_state.Tie as tie
@@ -37,10 +37,10 @@ row-end-requires c κs =
 mul-rests : tie.Need-overflow-mul-rests
 mul-rests c =
     let rows = (start c).requires.0 in
-    omega (arith, own-begins rows (inl refl) (own c), own_fits rows (inl refl) (own c), rows.size)
+    omega (arith, own_begins rows (inl refl) (own c), own_fits rows (inl refl) (own c), rows.size)
 
 sub-rests : tie.Need-overflow-sub-rests
-sub-rests c = own-begins (start c).requires.0 (inl refl) (own c)
+sub-rests c = own_begins (start c).requires.0 (inl refl) (own c)
 
 part-rests-end : tie.Need-slice-bounds-rests-end
 part-rests-end c = own_fits (start c).requires.0 (inl refl) (own c)
@@ -48,12 +48,12 @@ part-rests-end c = own_fits (start c).requires.0 (inl refl) (own c)
 rests-requires : tie.Need-rests-requires
 rests-requires c κs =
     let row = c.before in
-    (own-leads (start row).requires.0 (inl refl) (own row), (start row).requires.0.levels)
+    (own_leads (start row).requires.0 (inl refl) (own row), (start row).requires.0.levels)
 
 sub-put-state : tie.Need-overflow-sub-put-state
 sub-put-state c =
     let row = c.before.before.before in
-    own-begins (start row).requires.0 (inl refl) (own row)
+    own_begins (start row).requires.0 (inl refl) (own row)
 
 put-state-requires : tie.Need-put-state-requires
 put-state-requires c κs =

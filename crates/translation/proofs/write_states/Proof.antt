@@ -7,7 +7,7 @@ use mathlib.Core.Path.{◌∙◌}
 use lib.ListN.{length}
 use Rattle.sets.proofs.Members.{at_in}
 use Rattle.translation.proofs.Within.{one_alone}
-use Rattle.translation.proofs.Writing.{States, states_begin, state_room, states_step, states-end}
+use Rattle.translation.proofs.Writing.{States, states_begin, state_room, states_step, states_end}
 use Rattle.translation.proofs.write_states.Statement.{statement}
 use Rattle.translation.proofs.write_states.Tie as tie
 
@@ -58,7 +58,7 @@ returns c =
     let zero-behind = c.before.before in
     let if1 = zero-behind.before.before in
     let at = if1.before.before in
-    states-end _ _ _ _ _ _ _ at.loop.invariant _ if1.if1.false zero-behind.zero-behind.ensures
+    states_end _ _ _ _ _ _ _ at.loop.invariant _ if1.if1.false zero-behind.zero-behind.ensures
 
 pub write-states-spec : {M : Type 1} → statement M
 write-states-spec =
