@@ -12,7 +12,7 @@ use Rattle.formula.specs.Rule.{left_operand, one_child, right_operand, length_ch
 use Rattle.formula.specs.Rule.{syntax_check, untils, until_check}
 use Rattle.formula.specs.Formula.{trees}
 use Rattle.normalform.specs.Written.{written_check, written_tree}
-use Rattle.normalform.specs.NormalForm.{code, below, member, rank, emit, size, result, normal_form}
+use Rattle.normalform.specs.NormalForm.{code, below, member, rank, emit, size, normal_bytes, normal_form}
 use Rattle.normalform.specs.NormalForm
 use Rattle.automaton.specs.Automaton.{at_rest}
 use Rattle.image.specs.Reader.{counts_fit, contents_check, state_check, state_pass, states_check, transitions_from, states_from}
@@ -67,6 +67,6 @@ pub untils_refused : map profile_checked
     ∷ (2 ∷ 0 ∷ 0 ∷ 2 ∷ 1 ∷ 0 ∷ 2 ∷ 2 ∷ 0 ∷ 7 ∷ 1 ∷ 2 ∷ 7 ∷ 0 ∷ 3 ∷ []) ∷ (2 ∷ 0 ∷ 0 ∷ 11 ∷ 0 ∷ 0 ∷ []) ∷ [])
     ≡ refused 29 2 ∷ refused 29 2 ∷ refused 29 3 ∷ fine ∷ []
 unfolding lowest left_operand one_child right_operand length_check node_check places place_check syntax_check untils until_check
-    trees written_check written_tree code below NormalForm.entry member rank emit size result normal_form no_untils
+    trees written_check written_tree code below NormalForm.entry member rank emit size normal_bytes normal_form no_untils
     profile_checked
 untils_refused = refl

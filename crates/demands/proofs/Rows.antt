@@ -15,7 +15,7 @@ use Rattle.formula.specs.Rule.{syntax_check, untils, until_check}
 use Rattle.formula.specs.Rule
 use Rattle.formula.specs.Formula.{trees, tree, formula}
 use Rattle.normalform.specs.Written.{written_check, written_tree}
-use Rattle.normalform.specs.NormalForm.{code, below, member, rank, emit, size, result, normal_form}
+use Rattle.normalform.specs.NormalForm.{code, below, member, rank, emit, size, normal_bytes, normal_form}
 use Rattle.normalform.specs.NormalForm
 use Rattle.lasso.specs.Lasso.{remaining, letter, after, lasso_check}
 use Rattle.term.specs.Term.{cover, terms, conflicts}
@@ -284,7 +284,7 @@ forms : map (λ row. normal_form row.rule) table ≡ map (λ row. accepted row.f
 unfolding on state transition written_as table p1 p2 p3 p4 p5 p6 p7 p8 p9 p4_written p5_written p9_written if_open_padded
     both_ways both_ways_next
     lowest left_operand one_child right_operand length_check node_check places place_check syntax_check trees written_check
-    written_tree code below NormalForm.entry member rank emit size result normal_form
+    written_tree code below NormalForm.entry member rank emit size normal_bytes normal_form
 forms = refl
 
 walks : map (λ row. generalized row.form) table ≡ map (λ row. accepted row.sets) table
@@ -340,8 +340,8 @@ findings :
     ≡ map (λ row. map (λ c. c.finds) row.cases) table
 unfolding on state transition written_as table p1 p2 p3 p4 p5 p6 p7 p8 p9 p4_written p5_written p9_written if_open_padded
     both_ways both_ways_next
-    remaining letter any at_rest Search.visit Search.visitAll Search.readTargets after Search.onward Search.reach
-    Search.reachedFrom Search.starts up_to taken rest_taken pairs_taken has_accepting_pass verdict
+    remaining letter any at_rest Search.visit Search.visit_all Search.read_targets after Search.onward Search.reach
+    Search.reached_from Search.starts up_to taken rest_taken pairs_taken has_accepting_pass verdict
 findings = refl
 
 -- ---- each row by itself

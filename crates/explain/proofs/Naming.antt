@@ -57,12 +57,12 @@ module _ (test : ℕ → Bool) where
     Names x k = or_none max_nodes x ≡ first_failing test (clauses_of rule k)
 
     pub no_and : (kind ≡ 4 → ⊥) → (x : ℕ) → or_none max_nodes x ≡ first_failing test (n ∷ []) → Names x n
-    no_and d x e = e ∙ ap (first_failing test) (sym (Clauses.clauses-own rule fine_rule n inside (λ q. d (ek ∙ q))))
+    no_and d x e = e ∙ ap (first_failing test) (sym (Clauses.clauses_own rule fine_rule n inside (λ q. d (ek ∙ q))))
 
     -- children as they are read
     module _ (l r : ℕ) (el : l ≡ left_at rule n) (er : r ≡ right_at rule n) (e : kind ≡ 4) where
       both : clauses_of rule n ≡ clauses_of rule l ++ clauses_of rule r
-      both = rw (el, er) (Clauses.clauses-and rule fine_rule n inside (sym ek ∙ e))
+      both = rw (el, er) (Clauses.clauses_and rule fine_rule n inside (sym ek ∙ e))
 
       pub in_left : (x : ℕ) → x < max_nodes → Names x l → Names x n
       in_left x s h =

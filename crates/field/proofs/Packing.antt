@@ -32,11 +32,11 @@ bit_is : (b : Bool) → eqb (cond b 1 0) 1 ≡ b
 bit_is true = refl
 bit_is false = refl
 
-bit_or : (b c : Bool) (r : ℕ) → r * 2 + max (cond b 1 0) (cond c 1 0) ≡ cond (b || c) 1 0 + 2 * r
-bit_or true true r = omega arith
-bit_or true false r = omega arith
-bit_or false true r = omega arith
-bit_or false false r = omega arith
+bit_or_lem : (b c : Bool) (r : ℕ) → r * 2 + max (cond b 1 0) (cond c 1 0) ≡ cond (b || c) 1 0 + 2 * r
+bit_or_lem true true r = omega arith
+bit_or_lem true false r = omega arith
+bit_or_lem false true r = omega arith
+bit_or_lem false false r = omega arith
 
 -- ---- the bits of n states from i on
 
@@ -71,7 +71,7 @@ bits_or f g i (suc n) = one (f i) (g i) (bits_from f (suc i) n) (bits_from g (su
     one : (b c : Bool) (x y : ℕ) → bit_or (cond b 1 0 + 2 * x) (cond c 1 0 + 2 * y) ≡ cond (b || c) 1 0 + 2 * bit_or x y
     one b c x y =
         or_step (cond b 1 0 + 2 * x) (cond c 1 0 + 2 * y)
-        ∙ rw (bit_half b x, bit_half c y, bit_low b x, bit_low c y) (bit_or b c (bit_or x y))
+        ∙ rw (bit_half b x, bit_half c y, bit_low b x, bit_low c y) (bit_or_lem b c (bit_or x y))
 
 -- bit j is that of state i + j
 bits_has : (set : ℕ → Bool) (n i j : ℕ) → j < n → has (bits_from set i n) j ≡ set (i + j)

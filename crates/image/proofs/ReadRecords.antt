@@ -53,6 +53,6 @@ count_cons number s bytes (suc n) =
     rw (b, a) (omega (arith, count_cons number s bytes n))
 
 pub counts_add : (from : ℕ) (ss : List State) (rest : List ℕ) → count_sum (numbered_records state_record from ss ++ rest) (length ss) ≡ transition_count ss
-unfolding records numbered transition_count count_sum
+unfolding records numbered transition_count count_sum state_record two_bytes
 counts_add from [] rest = refl
 counts_add from (s ∷ ss) rest = rw append_assoc (count_cons from s (numbered_records state_record (suc from) ss ++ rest) (length ss) ∙ ap (λ (n : ℕ). length s.transitions + n) (counts_add (suc from) ss rest))

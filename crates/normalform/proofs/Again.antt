@@ -17,7 +17,7 @@ use Rattle.formula.proofs.Accepted.{node_widens, syntax_widens}
 use Rattle.normalform.specs.Written.{Connective, and, or, until, release, Written, constant, literal}
 use Rattle.normalform.specs.Written.{negation, next, binary, future, build_written, written_tree, written_check}
 use Rattle.normalform.specs.NormalForm.{turned, bit, left_sense, connective_kind, left_constant, pair_code, code}
-use Rattle.normalform.specs.NormalForm.{future_kind, below, walk, entry, member, rank, emit, entry_of, size, result}
+use Rattle.normalform.specs.NormalForm.{future_kind, below, walk, entry, member, rank, emit, entry_of, size, normal_bytes}
 use Rattle.normalform.specs.NormalForm.{normal_form}
 use Rattle.normalform.proofs.Ranks.{rank_rises}
 use Rattle.normalform.proofs.Shape.{member_map, member_from, Fits, pair_high, entry_code}
@@ -415,8 +415,8 @@ module _ (look : ℕ → Written) (t : Written) (m : ℕ) (fits : Fits look t m)
         (λ c e xs. ap (λ (ys : List ℕ). xs ++ ys) (entries_same c e)) end (omega arith)
         ∙ sym (emit_climb wants (entry_of (walk t false) look) end)
 
-    result_same : result res ≡ res
-    unfolding result
+    result_same : normal_bytes res ≡ res
+    unfolding normal_bytes
     result_same = rw (codes_same, end_same) emit_same
 
     size_same : size res ≡ num end
@@ -427,27 +427,27 @@ module _ (rule : List ℕ) (formed : WellWritten rule) where
   abbrev widens : release_kind ≤ eventually_kind
   widens = omega arith
 
-  result_written : (i : ℕ) → i < node_count (result rule) → WrittenNode (result rule) i
+  result_written : (i : ℕ) → i < node_count (normal_bytes rule) → WrittenNode (normal_bytes rule) i
   result_written i l =
-      written_node (result rule) i l
-      (node_widens release_kind eventually_kind widens (result rule) i (result_node rule formed i l))
+      written_node (normal_bytes rule) i l
+      (node_widens release_kind eventually_kind widens (normal_bytes rule) i (result_node rule formed i l))
 
   abbrev start : Written
   start = written_tree rule (root rule)
 
-  again_result : result (result rule) ≡ result rule
-  unfolding result
+  again_result : normal_bytes (normal_bytes rule) ≡ normal_bytes rule
+  unfolding normal_bytes
   again_result = result_same (written_tree rule) start (node_count rule) formed.fits result_written
 
-  again_size : size (result rule) ≡ size rule
-  unfolding result size
+  again_size : size (normal_bytes rule) ≡ size rule
+  unfolding normal_bytes size
   again_size = size_same (written_tree rule) start (node_count rule) formed.fits result_written
 
-  again_check : size rule ≤ max_nodes → written_check (result rule) ≡ fine
+  again_check : size rule ≤ max_nodes → written_check (normal_bytes rule) ≡ fine
   unfolding written_check
-  again_check few = syntax_widens release_kind eventually_kind widens (result rule) (result_form rule formed few)
+  again_check few = syntax_widens release_kind eventually_kind widens (normal_bytes rule) (result_form rule formed few)
 
-  again_normal : size rule ≤ max_nodes → normal_form (result rule) ≡ accepted (result rule)
+  again_normal : size rule ≤ max_nodes → normal_form (normal_bytes rule) ≡ accepted (normal_bytes rule)
   unfolding normal_form
   again_normal few = rw (again_check few, again_size, le-leb (size rule) max_nodes few, again_result)
 

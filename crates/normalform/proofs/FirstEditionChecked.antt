@@ -20,7 +20,7 @@ use Rattle.formula.proofs.Accepted.{kind_known, syntax_widens, formed_fine, acce
 use Rattle.formula.proofs.Untils.{untils_more}
 use Rattle.normalform.specs.Written.{Written, build_written, written_tree, written_check}
 use Rattle.normalform.specs.NormalForm.{bit, code, below, walk, entry, member, rank, is_needed, number, entry_of}
-use Rattle.normalform.specs.NormalForm.{codes_of, code_end, size, result, normal_form, written_checked}
+use Rattle.normalform.specs.NormalForm.{codes_of, code_end, size, normal_bytes, normal_form, written_checked}
 use Rattle.normalform.proofs.Sums.{sum, over, one, member_sum}
 use Rattle.normalform.proofs.Shape.{member_head, member_tail, member_cases, member_split, entry_code}
 use Rattle.normalform.proofs.Fitting.{leaf_tree, inner_tree, fits_node, WellWritten, well_written}
@@ -162,8 +162,8 @@ module _ (rule : List ℕ) (passed : syntax_check release_kind rule ≡ fine) wh
         ap w (ap (λ (xs : List ℕ). get_or xs 0 0) same ∙ (built_stands n a b l built).kind num)
 
     -- the nodes of the result weigh no more than the rule's
-    kinds_most : sum (λ i. w (kind_at (result rule) i)) (size rule) ≤ sum (λ n. w (kind_at rule n)) (node_count rule)
-    unfolding result size
+    kinds_most : sum (λ i. w (kind_at (normal_bytes rule) i)) (size rule) ≤ sum (λ n. w (kind_at rule n)) (node_count rule)
+    unfolding normal_bytes size
     kinds_most =
         let m = node_count rule in
         let xs = listed plain_code m in
@@ -171,7 +171,7 @@ module _ (rule : List ℕ) (passed : syntax_check release_kind rule ≡ fine) wh
         let kind = kind_byte look (look (root rule)) m formed.fits in
         omega (
           arith,
-          rank_most (is_needed (codes_of rule)) xs (λ i. w (kind_at (result rule) i)) weight (code_end rule)
+          rank_most (is_needed (codes_of rule)) xs (λ i. w (kind_at (normal_bytes rule) i)) weight (code_end rule)
               (λ c e. (walk_plain m (root rule) c last last e, ap w (kind c e))),
           member_sum weight xs (code_end rule),
           over_listed plain_code weight (λ n. w (kind_at rule n)) m node_weight,
@@ -191,8 +191,8 @@ first_edition_checked rule e =
     let passed = fine_first (syntax_check release_kind rule) _ e in
     let before = accepted_fine rule e in
     let small : size rule ≤ max_nodes = omega (arith, first_edition_size rule passed) in
-    let whole : node_count (result rule) ≡ size rule = omega (arith, result_length rule (formed rule passed)) in
+    let whole : node_count (normal_bytes rule) ≡ size rule = omega (arith, result_length rule (formed rule passed)) in
     let most = kinds_most rule passed (one 7) in
-    let few : length (untils (result rule) (size rule)) ≤ max_untils =
-    omega (arith, untils_sum rule (node_count rule), untils_sum (result rule) (size rule)) in
+    let few : length (untils (normal_bytes rule) (size rule)) ≤ max_untils =
+    omega (arith, untils_sum rule (node_count rule), untils_sum (normal_bytes rule) (size rule)) in
     rw (written rule passed, le-leb (size rule) max_nodes small, whole, le-leb _ max_untils few)

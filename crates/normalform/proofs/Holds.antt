@@ -17,7 +17,7 @@ use Rattle.formula.specs.Rule.{node_count, root}
 use Rattle.formula.specs.Formula.{tree, formula}
 use Rattle.formula.specs.Satisfaction.{Satisfies}
 use Rattle.normalform.specs.Written.{Written, written_tree, written_check, SatisfiesWritten}
-use Rattle.normalform.specs.NormalForm.{size, result, normal_form}
+use Rattle.normalform.specs.NormalForm.{size, normal_bytes, normal_form}
 use Rattle.normalform.proofs.Meaning.{form, says}
 use Rattle.normalform.proofs.Nodes.{at, out, root_within, root_last, tree_form}
 use Rattle.normalform.proofs.Fitting.{WellWritten, well_written}
@@ -26,7 +26,7 @@ use Rattle.normalform.proofs.Fitting.{WellWritten, well_written}
 pub record Normal (rule out : List ℕ) : Type 0 where
   pub formed : WellWritten rule
   pub few : size rule ≤ max_nodes
-  pub same : result rule ≡ out
+  pub same : normal_bytes rule ≡ out
 
 pub normal : (rule out : List ℕ) → normal_form rule ≡ accepted out → Normal rule out
 unfolding normal_form
@@ -46,8 +46,8 @@ module _ (rule : List ℕ) (formed : WellWritten rule) where
   abbrev numbers : ℕ → ℕ
   numbers = at (written_tree rule) (root_tree rule) (node_count rule) formed.fits
 
-  result_formula : formula (result rule) ≡ form numbers (root_tree rule) false
-  unfolding formula result
+  result_formula : formula (normal_bytes rule) ≡ form numbers (root_tree rule) false
+  unfolding formula normal_bytes
   result_formula =
       let look = written_tree rule in
       let t = root_tree rule in

@@ -16,7 +16,7 @@ use Rattle.answer.proofs.Results.{never_both}
 use Rattle.formula.specs.Limits.{max_nodes, rule_bytes}
 use Rattle.formula.specs.Rule.{root, eventually_kind, syntax_check, until_check, checked}
 use Rattle.normalform.specs.Written.{written_check}
-use Rattle.normalform.specs.NormalForm.{is_needed, codes_of, code_end, size, result, sized, normal_form}
+use Rattle.normalform.specs.NormalForm.{is_needed, codes_of, code_end, size, normal_bytes, sized, normal_form}
 use Rattle.normalform.specs.NormalForm.{written_checked}
 use Rattle.normalform.specs.Normalize.{rule_stored, normalizes}
 use Rattle.normalform.specs.Memory.{code_places, Added, node_walk, flagged, Numbered, Ready, Forms}
@@ -51,15 +51,15 @@ module _ (rule : List ℕ) (passes : written_check rule ≡ fine) {needed : List
         room = omega arith;
       }
 
-      pub form_stored : (written after : List ℕ) → length written ≡ length form → take (count * 3) written ≡ result rule
+      pub form_stored : (written after : List ℕ) → length written ≡ length form → take (count * 3) written ≡ normal_bytes rule
           → after ≡ filled written (take (count * 3) written)
           → buffer (accepted (count * 3)) after ≡ rule_stored (sized rule) form
       form_stored written after same is put =
-          let long : length (result rule) ≡ count * 3 =
+          let long : length (normal_bytes rule) ≡ count * 3 =
           result_length rule (well_written rule passes) ∙ ap (λ (x : ℕ). x * 3) (sym sizes) in
-          let filled-up : after ≡ filled form (result rule) = put ∙ rw (is, same) in
+          let filled-up : after ≡ filled form (normal_bytes rule) = put ∙ rw (is, same) in
           rw (le-leb (size rule) max_nodes (omega (arith, sizes)), filled-up)
-          (ap (λ (x : ℕ). buffer (accepted x) (filled form (result rule))) (sym long))
+          (ap (λ (x : ℕ). buffer (accepted x) (filled form (normal_bytes rule))) (sym long))
 
 -- ---- any bytes
 

@@ -10,8 +10,8 @@ use lib.ListN.{get_or, length, set, length-set}
 use lib.Seq.{get_or-set_same, get_or-set_other}
 use borrow.Author.Tests.{lt-ltb, le-ltb}
 use Rattle.formula.specs.Rule.{kind_at, left_at}
-use Rattle.normalform.specs.NormalForm.{bit, pair_code_lem, rank}
-use Rattle.normalform.specs.Memory.{code_places, Walkable, node_code, own_code_lem, own_codes, flagged, Numbered}
+use Rattle.normalform.specs.NormalForm.{bit, pair_code, rank}
+use Rattle.normalform.specs.Memory.{code_places, Walkable, node_code, own_code, own_codes, flagged, Numbered}
 use Rattle.normalform.proofs.Walking.{own_node, left_walks, leaf_codes}
 use Rattle.normalform.proofs.Turns.{pair_kind, walk_pair, walk_next, walk_not, walk_implies, walk_always}
 use Rattle.normalform.proofs.Turns.{walk_eventually}
@@ -26,10 +26,10 @@ module _ (rule : List ℕ) (n : ℕ) (w : Walkable rule n) (kind : ℕ) (ek : ki
   not_code : kind ≡ 9 → node_code rule n s ≡ node_code rule (left_at rule n) (not s)
   not_code e = head_same (walk_not rule n (own_node rule n w) s (sym ek ∙ e))
 
-  pair_code_lem : 4 ≤ kind → (kind ≡ 9 → ⊥) → node_code rule n s ≡ pair_code_lem n s
+  pair_code_lem : 4 ≤ kind → (kind ≡ 9 → ⊥) → node_code rule n s ≡ pair_code n s
   pair_code_lem low no9 = go (ℕ_discrete kind 6) (ℕ_discrete kind 10) (ℕ_discrete kind 11) (ℕ_discrete kind 12)
     where
-      go : Dec (kind ≡ 6) → Dec (kind ≡ 10) → Dec (kind ≡ 11) → Dec (kind ≡ 12) → node_code rule n s ≡ pair_code_lem n s
+      go : Dec (kind ≡ 6) → Dec (kind ≡ 10) → Dec (kind ≡ 11) → Dec (kind ≡ 12) → node_code rule n s ≡ pair_code n s
       go (yes e) b c d = head_same (walk_next rule n (own_node rule n w) s (sym ek ∙ e))
       go (no a) (yes e) c d = head_same (walk_implies rule n (own_node rule n w) s (sym ek ∙ e))
       go (no a) (no b) (yes e) d = head_same (walk_always rule n (own_node rule n w) s (sym ek ∙ e))
@@ -38,12 +38,12 @@ module _ (rule : List ℕ) (n : ℕ) (w : Walkable rule n) (kind : ℕ) (ek : ki
           let pair = pair_kind kind (omega arith) (omega (arith, (own_node rule n w).kind)) a in
           head_same (walk_pair rule n (own_node rule n w) s kind (sym ek) pair)
 
-  pub own_code_lem : (kind ≡ 9 → ⊥) → node_code rule n s ≡ own_code_lem kind n s
+  pub own_code_lem : (kind ≡ 9 → ⊥) → node_code rule n s ≡ own_code kind n s
   own_code_lem no9 = go (dec_lt kind 4)
     where
-      go : Dec (kind < 4) → node_code rule n s ≡ own_code_lem kind n s
+      go : Dec (kind < 4) → node_code rule n s ≡ own_code kind n s
       go (yes leaf) =
-          let own : own_codes kind n s ≡ own_code_lem kind n s ∷ [] = rw (lt-ltb kind 4 leaf) in
+          let own : own_codes kind n s ≡ own_code kind n s ∷ [] = rw (lt-ltb kind 4 leaf) in
           head_same (leaf_codes rule n w kind ek s leaf ∙ own)
       go (no inner) = pair_code_lem (omega arith) no9 ∙ rw (le-ltb kind 2 (omega arith))
 
@@ -67,7 +67,7 @@ module _ (rule : List ℕ) (n : ℕ) (s : Bool) (at : ℕ) (sense : Bool) (inv :
         },
       )
 
-  pub descend_ends : (kind ≡ 9 → ⊥) → (r : ℕ) → (r ≡ own_code_lem kind at sense) × (r < code_places)
+  pub descend_ends : (kind ≡ 9 → ⊥) → (r : ℕ) → (r ≡ own_code kind at sense) × (r < code_places)
       → (r ≡ node_code rule n s) × (r < code_places)
   descend_ends no9 r (e, few) = (e ∙ sym (own_code_lem rule at inv.walkable kind ek sense no9) ∙ inv.same, few)
 

@@ -13,7 +13,7 @@ use Rattle.formula.specs.Limits.{max_nodes, rule_bytes}
 use Rattle.formula.specs.Rule.{node_count, root, release_kind, length_check, node_check, place_check}
 use Rattle.formula.specs.Rule.{syntax_check, until_check, checked}
 use Rattle.normalform.specs.Written.{Written, written_tree}
-use Rattle.normalform.specs.NormalForm.{code_end, size, result, normal_form}
+use Rattle.normalform.specs.NormalForm.{code_end, size, normal_bytes, normal_form}
 use Rattle.normalform.proofs.Ranks.{rank_below}
 use Rattle.normalform.proofs.Shape.{code_low}
 use Rattle.normalform.proofs.Fitting.{Made, made_constant, made_literal, made_negation, made_next, made_binary}
@@ -45,8 +45,8 @@ module _ (rule : List ℕ) (formed : WellWritten rule) where
       let (a, b, made) = leaf_made rule n (formed.nodes n h) in
       node_once rule formed n h (inner_high made i)
 
-  pub result_length : length (result rule) ≡ size rule * 3
-  unfolding result size
+  pub result_length : length (normal_bytes rule) ≡ size rule * 3
+  unfolding normal_bytes size
   result_length = out_length look start (node_count rule) formed.fits
 
   result_some : 0 < size rule
@@ -58,18 +58,18 @@ module _ (rule : List ℕ) (formed : WellWritten rule) where
       let l = rank_below (needs look start m f) _ (code_end rule) first (code_low look start m false f) in
       omega (arith, l)
 
-  pub result_node : (i : ℕ) → i < node_count (result rule) → node_check release_kind (result rule) i ≡ fine
-  unfolding result
+  pub result_node : (i : ℕ) → i < node_count (normal_bytes rule) → node_check release_kind (normal_bytes rule) i ≡ fine
+  unfolding normal_bytes
   result_node i l = each_node look start (node_count rule) formed.fits i l
 
-  result_place : (i : ℕ) → i < node_count (result rule) → place_check (result rule) i ≡ fine
-  unfolding result
+  result_place : (i : ℕ) → i < node_count (normal_bytes rule) → place_check (normal_bytes rule) i ≡ fine
+  unfolding normal_bytes
   result_place i l = each_place look start (node_count rule) formed.fits once i l
 
-  pub result_form : size rule ≤ max_nodes → syntax_check release_kind (result rule) ≡ fine
+  pub result_form : size rule ≤ max_nodes → syntax_check release_kind (normal_bytes rule) ≡ fine
   unfolding syntax_check length_check
   result_form most =
-      let r = result rule in
+      let r = normal_bytes rule in
       rw (
         le-leb (length r) rule_bytes (omega (arith, result_length)),
         lt-ltb 0 (length r) (omega (arith, result_length, result_some)),

@@ -16,7 +16,7 @@ use Rattle.normalform.specs.Written.{Written, constant, literal, negation, next,
 use Rattle.normalform.specs.Written.{written_tree, written_check}
 use Rattle.normalform.specs.NormalForm.{turned, bit, left_sense, left_constant, pair_code, code, entry}
 use Rattle.normalform.specs.NormalForm.{sense, rank, emit, is_needed, number, entry_of, codes_of, code_end}
-use Rattle.normalform.specs.NormalForm.{size, result}
+use Rattle.normalform.specs.NormalForm.{size, normal_bytes}
 use Rattle.normalform.specs.Memory.{OwnPlace, Named, flagged, number_in}
 use Rattle.normalform.specs.Memory.{code_bytes, with_code, Ready}
 use Rattle.normalform.proofs.Ranks.{rank_needed, rank_passed, rank_below}
@@ -231,8 +231,8 @@ module _ {rule : List ℕ} {needed : List Bool} {numbers : List ℕ} {count : �
           let no : wanted c ≡ false = sym (ready.flags c) ∙ n in
           rw (rank_passed wanted c no, no, put, append-nil) inv.written
 
-  pub emit_ends : code_end rule ≤ c → take (count * 3) form ≡ result rule
-  unfolding result
+  pub emit_ends : code_end rule ≤ c → take (count * 3) form ≡ normal_bytes rule
+  unfolding normal_bytes
   emit_ends le =
       let e : code_end rule ≡ c = omega (arith, inv.within) in
       rw (count_size ready, e) inv.written

@@ -123,13 +123,13 @@ code_end rule = node_count rule * 2 + 2
 unfoldable pub size : List ℕ → ℕ
 size rule = number (codes_of rule) (code_end rule)
 
-unfoldable pub result : List ℕ → List ℕ
-result rule =
+unfoldable pub normal_bytes : List ℕ → List ℕ
+normal_bytes rule =
     emit (is_needed (codes_of rule)) (entry_of (codes_of rule) (written_tree rule)) (code_end rule)
 
 -- the result, or 26, at place 0: it needs over the most nodes (R-3, sentence 10)
 abbrev pub sized : List ℕ → Result (List ℕ)
-sized rule = and_then (require (leb (size rule) max_nodes) 26 0) (λ _. accepted (result rule))
+sized rule = and_then (require (leb (size rule) max_nodes) 26 0) (λ _. accepted (normal_bytes rule))
 
 -- 1 to 6 of the written rule, then 26 (R-3, sentences 9 and 10)
 unfoldable pub normal_form : List ℕ → Result (List ℕ)

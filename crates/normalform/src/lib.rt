@@ -7,7 +7,7 @@ ghost use Rattle.answer.specs.Buffer.{stored_answer, buffer};
 ghost use Rattle.formula.specs.Limits.{max_nodes, rule_bytes};
 ghost use Rattle.formula.specs.Rule.{eventually_kind};
 ghost use Rattle.normalform.specs.Written.{written_check};
-ghost use Rattle.normalform.specs.NormalForm.{bit, pair_code, result, sized, written_checked};
+ghost use Rattle.normalform.specs.NormalForm.{bit, pair_code, normal_bytes, sized, written_checked};
 ghost use Rattle.normalform.specs.Normalize.{rule_stored, normalizes};
 ghost use Rattle.normalform.specs.Memory.{code_places, Walkable, Added, node_walk, node_code, own_code};
 ghost use Rattle.normalform.specs.Memory.{constant_code, own_codes, flagged, Numbered, number_in, form_kind};
@@ -33,7 +33,7 @@ const CODE_PLACES: usize = MAX_NODES * 2 + 2;
 
 // 1 or 0.
 fn bit_of(value: bool) -> usize
-    ensures* { λ r. ⌜ (r ≡ bit value) × (r ≤ 1) ⌝ }
+    ensures { (result ≡ bit value) × (result ≤ 1) }
 {
     if value { 1 } else { 0 }
 }
@@ -41,7 +41,7 @@ fn bit_of(value: bool) -> usize
 // The code of node n in a sense.
 fn pair_code(n: usize, negated: bool) -> usize
     requires { n < max_nodes }
-    ensures* { λ r. ⌜ (r ≡ pair_code n negated) × (r < code_places) ⌝ }
+    ensures { (result ≡ pair_code n negated) × (result < code_places) }
 {
     n * 2 + 2 + bit_of(negated)
 }
@@ -49,7 +49,7 @@ fn pair_code(n: usize, negated: bool) -> usize
 // The code of a node that is no not.
 fn own_code(kind: u8, n: usize, negated: bool) -> usize
     requires { n < max_nodes }
-    ensures* { λ r. ⌜ (r ≡ own_code kind n negated) × (r < code_places) ⌝ }
+    ensures { (result ≡ own_code kind n negated) × (result < code_places) }
 {
     if kind < PROPOSITION {
         if kind == TRUE {
@@ -62,7 +62,7 @@ fn own_code(kind: u8, n: usize, negated: bool) -> usize
 
 // The code of the constant on the left of what always and eventually become.
 fn constant_code(kind: u8, negated: bool) -> usize
-    ensures* { λ r. ⌜ (r ≡ constant_code kind negated) × (r < code_places) ⌝ }
+    ensures { (result ≡ constant_code kind negated) × (result < code_places) }
 {
     if kind == ALWAYS {
         return bit_of(negated);
@@ -72,14 +72,14 @@ fn constant_code(kind: u8, negated: bool) -> usize
 
 fn add_code(needed: &mut [bool], c: usize)
     requires { c < length needed.old }
-    ensures* { λ _. ⌜ Added needed.old needed.new (c ∷ []) ⌝ }
+    ensures { Added needed.old needed.new (c ∷ []) }
 {
     needed[c] = true;
 }
 
 fn add_codes(needed: &mut [bool], c: usize, d: usize)
     requires { (c < length needed.old) × (d < length needed.old) }
-    ensures* { λ _. ⌜ Added needed.old needed.new (c ∷ (d ∷ [])) ⌝ }
+    ensures { Added needed.old needed.new (c ∷ (d ∷ [])) }
 {
     add_code(needed, c);
     add_code(needed, d);
@@ -88,7 +88,7 @@ fn add_codes(needed: &mut [bool], c: usize, d: usize)
 // The codes of a node itself, without its children's.
 fn add_own(kind: u8, n: usize, negated: bool, needed: &mut [bool])
     requires { (n < max_nodes) × (length needed.old ≡ code_places) }
-    ensures* { λ _. ⌜ Added needed.old needed.new (own_codes kind n negated) ⌝ }
+    ensures { Added needed.old needed.new (own_codes kind n negated) }
 {
     if kind < AND {
         add_code(needed, own_code(kind, n, negated));
@@ -108,7 +108,7 @@ fn add_own(kind: u8, n: usize, negated: bool, needed: &mut [bool])
 #[cycle(walk_negated_walk_plain)]
 fn walk_plain(rule: &[u8], n: usize, needed: &mut [bool])
     requires { Walkable rule.now n × (length needed.old ≡ code_places) }
-    ensures* { λ _. ⌜ Added needed.old needed.new (node_walk rule.now n false) ⌝ }
+    ensures { Added needed.old needed.new (node_walk rule.now n false) }
 {
     let kind = kind_of(rule, n);
     add_own(kind, n, false, needed);
@@ -137,7 +137,7 @@ fn walk_plain(rule: &[u8], n: usize, needed: &mut [bool])
 #[cycle(walk_negated_walk_plain)]
 fn walk_negated(rule: &[u8], n: usize, needed: &mut [bool])
     requires { Walkable rule.now n × (length needed.old ≡ code_places) }
-    ensures* { λ _. ⌜ Added needed.old needed.new (node_walk rule.now n true) ⌝ }
+    ensures { Added needed.old needed.new (node_walk rule.now n true) }
 {
     let kind = kind_of(rule, n);
     add_own(kind, n, true, needed);
@@ -165,7 +165,7 @@ fn walk_negated(rule: &[u8], n: usize, needed: &mut [bool])
 // The code of what stands for node n in a sense: that of the first node from it on that is no not.
 fn code_of(rule: &[u8], n: usize, negated: bool) -> usize
     requires { Walkable rule.now n }
-    ensures* { λ r. ⌜ (r ≡ node_code rule.now n negated) × (r < code_places) ⌝ }
+    ensures { (result ≡ node_code rule.now n negated) × (result < code_places) }
 {
     let mut at = n;
     let mut sense = negated;
@@ -182,7 +182,7 @@ fn code_of(rule: &[u8], n: usize, negated: bool) -> usize
 // The numbers of the codes below end, the needed ones counted from 0; how many are needed.
 fn number_codes(needed: &[bool], end: usize, numbers: &mut [u8]) -> usize
     requires { (end ≤ length needed.now) × (end ≤ length numbers.old) × (end ≤ code_places) }
-    ensures* { λ r. ⌜ Numbered needed.now end numbers.new r ⌝ }
+    ensures { Numbered needed.now end numbers.new result }
 {
     let mut count = 0;
     let mut c = 0;
@@ -197,7 +197,7 @@ fn number_codes(needed: &[bool], end: usize, numbers: &mut [u8]) -> usize
 // The kind of what stands for a node of a kind in a sense.
 fn form_kind(kind: u8, negated: bool) -> u8
     requires { kind ≤ eventually_kind }
-    ensures* { λ r. ⌜ r ≡ form_kind kind negated ⌝ }
+    ensures { result ≡ form_kind kind negated }
 {
     let i = wide(kind);
     if negated {
@@ -209,7 +209,7 @@ fn form_kind(kind: u8, negated: bool) -> u8
 // The number of what stands for node n in a sense.
 fn form_node(rule: &[u8], n: usize, negated: bool, numbers: &[u8]) -> u8
     requires { Walkable rule.now n × (length numbers.now ≡ code_places) }
-    ensures* { λ r. ⌜ r ≡ number_in numbers.now (node_code rule.now n negated) ⌝ }
+    ensures { result ≡ number_in numbers.now (node_code rule.now n negated) }
 {
     numbers[code_of(rule, n, negated)]
 }
@@ -217,7 +217,7 @@ fn form_node(rule: &[u8], n: usize, negated: bool, numbers: &[u8]) -> u8
 // The three bytes of a node.
 pub fn put_node(form: &mut [u8], at: usize, kind: u8, left: u8, right: u8)
     requires { at + 3 ≤ length form.old }
-    ensures* { λ _. ⌜ form.new ≡ sets form.old at (kind ∷ (left ∷ (right ∷ []))) ⌝ }
+    ensures { form.new ≡ sets form.old at (kind ∷ (left ∷ (right ∷ []))) }
 {
     form[at] = kind;
     form[at + 1] = left;
@@ -228,8 +228,8 @@ pub fn put_node(form: &mut [u8], at: usize, kind: u8, left: u8, right: u8)
 fn put_pair(rule: &[u8], n: usize, negated: bool, numbers: &[u8], form: &mut [u8], at: usize)
     requires { Walkable rule.now n × OwnPlace rule.now n × (length numbers.now ≡ code_places)
         × (at + 3 ≤ length form.old) }
-    ensures* { λ _. ⌜ form.new
-        ≡ sets form.old at (node_bytes rule.now numbers.now n negated) ⌝ }
+    ensures { form.new
+        ≡ sets form.old at (node_bytes rule.now numbers.now n negated) }
 {
     let kind = kind_of(rule, n);
     let new = form_kind(kind, negated);
@@ -277,9 +277,9 @@ fn put_pair(rule: &[u8], n: usize, negated: bool, numbers: &[u8], form: &mut [u8
 fn put_code(rule: &[u8], c: usize, numbers: &[u8], form: &mut [u8])
     requires { Named rule.now c × (c < code_places) × (length numbers.now ≡ code_places)
         × (number_in numbers.now c * 3 + 3 ≤ length form.old) }
-    ensures* { λ _. ⌜ form.new
+    ensures { form.new
         ≡ sets form.old (number_in numbers.now c * 3)
-        (code_bytes rule.now numbers.now c) ⌝ }
+        (code_bytes rule.now numbers.now c) }
 {
     let at = wide(numbers[c]) * 3;
     if c < 2 {
@@ -294,8 +294,8 @@ fn write_code(rule: &[u8], needed: &[bool], c: usize, numbers: &[u8], form: &mut
     requires { (flagged needed.now c ≡ true
         → Named rule.now c × (number_in numbers.now c * 3 + 3 ≤ length form.old))
         × (c < code_places) × (length needed.now ≡ code_places) × (length numbers.now ≡ code_places) }
-    ensures* { λ _. ⌜ form.new
-        ≡ with_code rule.now needed.now numbers.now c form.old ⌝ }
+    ensures { form.new
+        ≡ with_code rule.now needed.now numbers.now c form.old }
 {
     if needed[c] {
         put_code(rule, c, numbers, form);
@@ -305,7 +305,7 @@ fn write_code(rule: &[u8], needed: &[bool], c: usize, numbers: &[u8], form: &mut
 // The bytes under all needed codes, by rising codes from the form's start.
 fn write_codes(rule: &[u8], needed: &[bool], numbers: &[u8], count: usize, form: &mut [u8])
     requires { Ready rule.now needed.now numbers.now count form.old }
-    ensures* { λ _. ⌜ take (count * 3) form.new ≡ result rule.now ⌝ }
+    ensures { take (count * 3) form.new ≡ normal_bytes rule.now }
 {
     let end = rule.len() / 3 * 2 + 2;
     let mut c = 0;
@@ -318,8 +318,8 @@ fn write_codes(rule: &[u8], needed: &[bool], numbers: &[u8], count: usize, form:
 // The normal form of a rule that 1 to 6 let pass at the form's start, and zeros behind it; or 26.
 fn build_form(rule: &[u8], form: &mut [u8]) -> Stored
     requires { (written_check rule.now ≡ fine) × (rule_bytes ≤ length form.old) }
-    ensures* { λ r. ⌜ buffer (stored_answer r) form.new
-        ≡ rule_stored (sized rule.now) form.old ⌝ }
+    ensures { buffer (stored_answer result) form.new
+        ≡ rule_stored (sized rule.now) form.old }
 {
     let n = rule.len() / 3;
     let mut needed = [false; CODE_PLACES];
@@ -336,8 +336,8 @@ fn build_form(rule: &[u8], form: &mut [u8]) -> Stored
 
 // The normal form of a written rule, at the start of a buffer for the longest rule, with zeros behind it.
 pub fn normalize(rule: &[u8], form: &mut [u8]) -> Stored
-    ensures* { λ r. ⌜ buffer (stored_answer r) form.new
-        ≡ normalizes rule.now form.old ⌝ }
+    ensures { buffer (stored_answer result) form.new
+        ≡ normalizes rule.now form.old }
 {
     if form.len() < MAX_BYTES {
         return Stored::Refused(TABLE_TOO_SHORT, 0);
@@ -352,7 +352,7 @@ pub fn normalize(rule: &[u8], form: &mut [u8]) -> Stored
 // 1 to 6 and 26 of a written rule, then 7 of its normal form, which stands at the form's start where all let it pass.
 pub fn check_form(rule: &[u8], form: &mut [u8]) -> Stored
     requires { rule_bytes ≤ length form.old }
-    ensures* { λ r. ⌜ Forms rule.now r form.new ⌝ }
+    ensures { Forms rule.now result form.new }
 {
     match normalize(rule, form) {
         Stored::Refused(number, place) => Stored::Refused(number, place),
@@ -365,7 +365,7 @@ pub fn check_form(rule: &[u8], form: &mut [u8]) -> Stored
 
 // The same, of the rule alone.
 pub fn check(rule: &[u8]) -> Checked
-    ensures* { λ r. ⌜ answer r ≡ written_checked rule.now ⌝ }
+    ensures { answer result ≡ written_checked rule.now }
 {
     let mut form = [0u8; MAX_BYTES];
     match check_form(rule, &mut form) {

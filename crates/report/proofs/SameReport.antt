@@ -39,12 +39,25 @@ byte_tells (refused number place) (refused otherNumber otherPlace) e = refusals 
 byte_tells (accepted f) (refused number place) e = absurd (omega (arith, e, byte_small f.verdict))
 byte_tells (refused number place) (accepted f) e = absurd (omega (arith, e, byte_small f.verdict))
 
+-- a finding and a refusal never have the same verdict
+never_refused : (f : Finding) {number place : ℕ} {A : Type 0} → SameVerdict (accepted f) (refused number place) → A
+unfolding verdict_byte
+never_refused f alike = absurd (omega (arith, byte_alike alike, byte_small f.verdict))
+
+never_found : (f : Finding) {number place : ℕ} {A : Type 0} → SameVerdict (refused number place) (accepted f) → A
+unfolding verdict_byte
+never_found f alike = absurd (omega (arith, byte_alike alike, byte_small f.verdict))
+
 -- where the verdict is the same, the same working bytes are left: zeros, or those that were there
 left_alike : (stem cycle otherStem otherCycle work : List ℕ) (x y : Result Automaton)
     → SameVerdict (judged_by x stem cycle work).answer (judged_by y otherStem otherCycle work).answer
     → (judged_by x stem cycle work).work ≡ (judged_by y otherStem otherCycle work).work
 left_alike stem cycle otherStem otherCycle work (accepted a) (accepted b) alike = refl
 left_alike stem cycle otherStem otherCycle work (refused number place) (refused otherNumber otherPlace) alike = refl
+left_alike stem cycle otherStem otherCycle work (accepted a) (refused number place) alike =
+    never_refused _ alike
+left_alike stem cycle otherStem otherCycle work (refused number place) (accepted b) alike =
+    never_found _ alike
 
 module _ (number : ℕ) (image stem cycle work otherImage otherStem otherCycle : List ℕ) where
   -- R-12, sentence 2: images, lassos and working bytes with the same verdict from judging give the same 32 bytes
