@@ -11,7 +11,7 @@ ghost use Rattle.acceptance.specs.Acceptance.{fulfilment};
 ghost use Rattle.acceptance.specs.Memory.{own_until, IsUntils, Known, shows_n, fulfils_n};
 
 // The nodes of a rule's untils, rising, and how many they are.
-#[derive(Drop)]
+#[derive(Clone, Copy)]
 pub struct Untils {
     pub count: usize,
     pub nodes: [usize; 8],

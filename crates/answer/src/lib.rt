@@ -8,14 +8,14 @@ ghost use Rattle.answer.specs.Bytes.{two_bytes, number, number_at, filled};
 pub const TABLE_TOO_SHORT: u8 = 25;
 
 // The answer of a check: accepted, or a refusal's number and place.
-#[derive(Drop)]
+#[derive(Clone, Copy)]
 pub enum Checked {
     Accepted,
     Refused(u8, usize),
 }
 
 // The answer of a call that stores bytes in a lent buffer: their length, or a refusal's number and place.
-#[derive(Drop)]
+#[derive(Clone, Copy)]
 pub enum Stored {
     Accepted(usize),
     Refused(u8, usize),

@@ -22,7 +22,7 @@ pub const TRANSITIONS_BYTES: usize = 4 * MAX_TRANSITIONS;
 pub const INITIAL_BYTES: usize = 2 * MAX_INITIAL;
 
 // How many states, transitions and initial numbers an automaton has.
-#[derive(Drop)]
+#[derive(Clone, Copy)]
 pub struct Counts {
     pub states: usize,
     pub transitions: usize,
@@ -30,7 +30,7 @@ pub struct Counts {
 }
 
 // An automaton's counts, or a refusal's number and place: the answer of reading and of checking an image.
-#[derive(Drop)]
+#[derive(Clone, Copy)]
 pub enum Counted {
     Accepted(Counts),
     Refused(u8, usize),

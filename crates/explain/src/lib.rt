@@ -27,7 +27,7 @@ const FEW_NODES: usize = 8;
 // The answer of explain: the lasso keeps the rule; it breaks a clause, which is shown from an index of the stem, or
 // behind the stem's last of the cycle, on; it breaks a clause whose right side never comes; or a refusal's number and
 // place.
-#[derive(Drop)]
+#[derive(Clone, Copy)]
 pub enum Explained {
     Kept,
     Broken(usize, usize),
@@ -36,7 +36,7 @@ pub enum Explained {
 }
 
 // The answer of satisfies: the lasso keeps the rule or breaks it, or a refusal's number and place.
-#[derive(Drop)]
+#[derive(Clone, Copy)]
 pub enum Satisfied {
     Kept,
     Broken,

@@ -21,7 +21,7 @@ use lasso::SKIPPED;
 pub const SET_BYTES: usize = MAX_STATES / 8;
 
 // The answer of start and step: the alarm is not raised, or it is; or a refusal's number and place.
-#[derive(Drop)]
+#[derive(Clone, Copy)]
 pub enum Watched {
     Quiet,
     Alarm,

@@ -63,7 +63,7 @@ pub const ALWAYS: u8 = 11;
 pub const EVENTUALLY: u8 = 12;
 
 // What the left or the right byte of a node is.
-#[derive(Drop)]
+#[derive(Clone, Copy)]
 pub enum Operand {
     Unused,
     Proposition,

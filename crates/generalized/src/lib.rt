@@ -33,11 +33,11 @@ pub const MAX_TRANSITIONS: usize = 1024;
 pub const MAX_STATES: usize = 128;
 
 // A state's number in the first walk; the automaton's states have numbers of another type.
-#[derive(Drop)]
+#[derive(Clone, Copy)]
 pub struct GeneralizedNumber(pub usize);
 
 // How far a walk is: the states that are numbered and the transitions that are in the table.
-#[derive(Drop)]
+#[derive(Clone, Copy)]
 struct Extent {
     states: usize,
     transitions: usize,
@@ -45,14 +45,14 @@ struct Extent {
 
 // What a meeting comes to: the number of the one met and how many are in the list then, or that there is no place for
 // one more.
-#[derive(Drop)]
+#[derive(Clone, Copy)]
 enum Met {
     Number(usize, usize),
     Full,
 }
 
 // What walking a state comes to: how many states and transitions there are then, or a refusal's number and place.
-#[derive(Drop)]
+#[derive(Clone, Copy)]
 enum Step {
     On(usize, usize),
     Stop(u8, usize),
@@ -60,7 +60,7 @@ enum Step {
 
 // The answer of the walk: the counts of initial states, states and transitions, and the propositions for which a join on
 // its way was dropped; or a refusal's number and place.
-#[derive(Drop)]
+#[derive(Clone, Copy)]
 pub enum Walked {
     Accepted(usize, usize, usize, u8),
     Refused(u8, usize),

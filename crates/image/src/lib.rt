@@ -58,7 +58,7 @@ const OFFSET_AT: usize = 4;
 pub const IMAGE_BYTES: usize = CONTENTS_BYTES + STATES_BYTES + TRANSITIONS_BYTES + INITIAL_BYTES;
 
 // What one pass over state records gives (R-4): the lowest that 11 refuses, else the sum of their transition counts.
-#[derive(Drop)]
+#[derive(Clone, Copy)]
 enum StatePass {
     Faulty(usize),
     Sum(usize),

@@ -39,7 +39,7 @@ const MET: usize = 128;
 const ACCEPTING_AT: usize = CONTENTS_BYTES + 2;
 
 // The answer of judge: the verdict with the number of pairs taken, or a refusal's number and place.
-#[derive(Drop)]
+#[derive(Clone, Copy)]
 pub enum Judged {
     Kept(usize),
     Broken(usize),

@@ -24,7 +24,7 @@ type Level = [u8; MAX_STATES];
 type Places = [usize; MAX_STATES];
 
 // What the search to rest comes to: whether a pair at rest was taken, and how many pairs were.
-#[derive(Drop)]
+#[derive(Clone, Copy)]
 pub struct Taken {
     pub rests: bool,
     pub pairs: usize,
@@ -32,7 +32,7 @@ pub struct Taken {
 
 // What a level comes to: whether its last pair taken is at rest, how many pairs were taken by then, and how many states
 // the next level has.
-#[derive(Drop)]
+#[derive(Clone, Copy)]
 struct LevelEnd {
     rests: bool,
     pairs: usize,

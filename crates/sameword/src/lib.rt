@@ -11,7 +11,7 @@ use lasso::{MAX_LETTERS, check_lasso, keep_remaining, letter_at, none_skipped, p
 const SECOND: usize = 1;
 
 // The answer of compare: the two lassos are one word or not, or a refusal's number and place.
-#[derive(Drop)]
+#[derive(Clone, Copy)]
 pub enum Compared {
     Same,
     Different,

@@ -9,7 +9,7 @@ ghost use Rattle.sets.specs.Sets.{insert_n, union_n, insert_join_n, insert_joins
 ghost use Rattle.sets.specs.Sets.{join_conflicts_n, product_conflicts_n};
 
 // What joining comes to: how many are in the set then, and the bits for which some join was dropped.
-#[derive(Drop)]
+#[derive(Clone, Copy)]
 pub struct Joined {
     pub count: usize,
     pub conflicts: u8,

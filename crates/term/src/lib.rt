@@ -35,7 +35,7 @@ pub type Term = u64;
 
 // A node's terms, rising, and the propositions for which a join on the way to them was dropped. A count above MAX_TERMS
 // says that there are more than that.
-#[derive(Drop)]
+#[derive(Clone, Copy)]
 pub struct Terms {
     pub count: usize,
     pub items: [Term; MAX_TERMS],
@@ -43,7 +43,7 @@ pub struct Terms {
 }
 
 // The answer of a table that is filled: the conflicts of all nodes, or a refusal's number and place.
-#[derive(Drop)]
+#[derive(Clone, Copy)]
 pub enum Tabulated {
     Accepted(u8),
     Refused(u8, usize),

@@ -42,19 +42,19 @@ const CODE_PLACES: usize = generalized::MAX_STATES * LEVEL_PLACES;
 const FEW_NODES: usize = 8;
 
 // A state's number in the automaton; the first walk's states have numbers of another type.
-#[derive(Drop)]
+#[derive(Clone, Copy)]
 pub struct StateNumber(pub usize);
 
 // The answer of translate: the automaton's counts and the propositions for which some join was dropped, a bit each; or a
 // refusal's number and place.
-#[derive(Drop)]
+#[derive(Clone, Copy)]
 pub enum Translated {
     Accepted(Counts, u8),
     Refused(u8, usize),
 }
 
 // How far the second walk is: the pairs that are walked, those that are numbered, and the transitions that are written.
-#[derive(Drop)]
+#[derive(Clone, Copy)]
 struct Extent {
     walked: usize,
     pairs: usize,
@@ -62,7 +62,7 @@ struct Extent {
 }
 
 // What meeting a pair comes to: its number and how many are numbered then, or that there is no number left.
-#[derive(Drop)]
+#[derive(Clone, Copy)]
 enum Met {
     Number(StateNumber, usize),
     Full,
@@ -70,7 +70,7 @@ enum Met {
 
 // What the second walk comes to: how many pairs and transitions, or that there is a pair too many, and the pair being
 // walked.
-#[derive(Drop)]
+#[derive(Clone, Copy)]
 enum Paired {
     Count(usize, usize),
     Stop(StateNumber),
