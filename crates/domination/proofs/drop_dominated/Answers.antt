@@ -1,0 +1,54 @@
+-- `domination::drop_dominated` meets its contract: of the terms passed, those that are kept stand in front, and the rest
+-- stands where it stood (`Sifting`). Assumes nothing.
+use native.Mathlib.Omega.{arith}
+use native.Mathlib.Numerals.{add-one}
+use mathlib.Core.Path.{◌≡◌, refl, sym, ◌∙◌, ap}
+use mathlib.Core.Bool.{Bool, true, false, cond, not}
+use mathlib.Core.List.{List, [], ◌∷◌, ◌++◌, map, map-append, append-nil}
+use Prim.Native.Nat.{ℕ, suc, ◌+◌, ◌-◌, ◌≤◌, ◌<◌}
+use lib.ListN.{length, get_or, take, set, length-set}
+use lib.Seq.{get_or-take, get_or-set_other, length-take-le, take_all, take-suc, take-set-le, take-suc-set}
+use Rattle.sets.specs.Sets.{any}
+use Rattle.sets.proofs.Members.{map_at}
+use Rattle.domination.specs.Domination.{sift, stays}
+use Rattle.domination.specs.Memory.{dominates_n, Sorted, Drops}
+use Rattle.domination.proofs.Undominated.{sift_append, dominated_before}
+use Rattle.domination.proofs.Packed.{number_falls, number_follows}
+use Rattle.domination.proofs.drop_dominated.Goals as goal
+
+pub loop-i-init : goal.loop-i-init
+loop-i-init c = begins _ _ _ c.requires
+
+pub bounds-ts-i : goal.bounds-ts-i
+bounds-ts-i c = omega (arith, c.loop-i.invariant.size, c.requires.inside)
+
+pub bounds-bytes-i : goal.bounds-bytes-i
+bounds-bytes-i c = omega (arith, c.loop-i.invariant.bytes-size, c.requires.bytes_inside)
+
+pub slice_bounds-dominated-end : goal.slice_bounds-dominated-end
+slice_bounds-dominated-end c =
+    omega (arith, c.loop-i.invariant.few, c.loop-i.invariant.size, c.requires.inside)
+
+pub slice_bounds-dominated-end-in-loop-i : goal.slice_bounds-dominated-end-in-loop-i
+slice_bounds-dominated-end-in-loop-i c =
+    sym (length-take-le _ _ (slice-reshare-prefix-dominated (goal.at.slice_bounds-dominated-end-in-loop-i c).After-slice_known-in-loop-i-1))
+
+pub slice_bounds-dominated-end-in-loop-i-2 : goal.slice_bounds-dominated-end-in-loop-i-2
+slice_bounds-dominated-end-in-loop-i-2 c =
+    omega (arith, c.loop-i.invariant.few, c.loop-i.invariant.bytes-size, c.requires.bytes_inside)
+
+pub slice_bounds-dominated-end-in-loop-i-3 : goal.slice_bounds-dominated-end-in-loop-i-3
+slice_bounds-dominated-end-in-loop-i-3 c =
+    sym (length-take-le _ _ (slice-reshare-prefix-dominated-2 (goal.at.slice_bounds-dominated-end-in-loop-i-3 c).After-slice_known-in-loop-i-1))
+
+pub dominated-dropped-requires : goal.dominated-dropped-requires
+dominated-dropped-requires c =
+    sym (slice-aggregate-dominated-2 c) ∙ slice-aggregate-dominated (goal.at.dominated-dropped-requires c).After-slice_known-in-loop-i-1
+
+pub loop-i-preserved : goal.loop-i-preserved
+loop-i-preserved c =
+    steps _ _ _ c.requires c.loop-i.invariant (omega arith) c.dominated-dropped.result
+    c.dominated-dropped.ensures c.either-kept.ensures
+
+pub returns : goal.returns
+returns c = ends _ _ _ c.requires c.loop-i.invariant c.loop-i-test.false

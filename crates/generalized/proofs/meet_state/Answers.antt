@@ -1,0 +1,60 @@
+-- `generalized::meet_state` meets its contract: a place below n is that of a seen one, an unseen one goes to place n.
+-- Assumes nothing.
+use native.Mathlib.Omega.{arith}
+use native.Mathlib.Numerals.{add-one}
+use mathlib.Core.Path.{◌≡◌, refl, sym, ◌∙◌}
+use mathlib.Core.List.{List}
+use Prim.Native.Nat.{ℕ, ◌+◌, ◌≤◌, ◌<◌}
+use lib.ListN.{length, take, set, length-set}
+use lib.Seq.{take-suc-set, take-take, take-set-le, length-take-le}
+use lib.Dec.{eqb}
+use borrow.Author.Tests.{eq-eqb}
+use Rattle.generalized.specs.declared.Met.TheVariants.{Number, Full}
+use Rattle.generalized.specs.Explore.{find}
+use Rattle.generalized.specs.Memory.{MeetsState}
+use Rattle.generalized.proofs.Exploring.{meet_seen, meet_next, meet_full}
+use Rattle.generalized.proofs.Numbers.{find_next}
+use Rattle.generalized.proofs.meet_state.Goals as goal
+
+module _ (items : List ℕ) (n x : ℕ) {k : ℕ} (le : n ≤ length items) (is : k ≡ find eqb x (take n items)) where
+  size : length (take n items) ≡ n
+  size = length-take-le n items le
+
+  seen : k < n → MeetsState x n items (Number k n) items
+  seen lt full place = record {
+    are = meet_seen eqb (length items) full place x (take n items) (omega (arith, size));
+    fits = le;
+    first = rw size (take-take n n items (omega arith));
+    found = is;
+    inside = lt;
+  }
+
+  crowded : n ≤ k → length items ≤ n → MeetsState x n items Full items
+  crowded ge l full place =
+      meet_full eqb (length items) full place x (take n items) (omega (arith, size)) (omega (arith, size))
+
+  next : n ≤ k → n < length items → MeetsState x n items (Number n (n + 1)) (set items n x)
+  next ge lt full place =
+      let unseen : length (take n items) ≤ find eqb x (take n items) = omega (arith, size) in
+      let free : length (take n items) < length items = omega (arith, size) in
+      let more = take-suc-set items n x lt in
+      record {
+        are = meet_next eqb (length items) full place x (take n items) unseen free ∙ rw (add-one, more);
+        fits = rw length-set (omega arith);
+        first = rw (size, take-take n (n + 1) (set items n x) (omega arith)) (take-set-le n items n x (omega arith));
+        found = sym (rw (add-one, more) (find_next eqb x (take n items) (eq-eqb x x refl) unseen ∙ size));
+        inside = omega arith;
+      }
+
+pub returns-then-k-n : goal.returns-then-k-n
+returns-then-k-n c = seen c.args.items.now c.args.n c.args.x c.requires.0 c.find-k.ensures c.if-k-n.true
+
+pub returns-then-items-n : goal.returns-then-items-n
+returns-then-items-n c =
+    crowded c.args.items.now c.args.n c.args.x c.requires.0
+    c.find-k.ensures c.if-k-n.false c.if-items-n.true
+
+pub returns : goal.returns
+returns c =
+    next c.args.items.now c.args.n c.args.x c.requires.0
+    c.find-k.ensures c.if-k-n.false c.if-items-n.false

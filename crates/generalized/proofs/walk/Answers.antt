@@ -1,0 +1,152 @@
+-- `generalized::walk` meets its contract: the states before place are in the tables, the rest is left (`Walking`).
+-- Assumes nothing.
+use native.Mathlib.Omega.{arith}
+use Prim.Native.Nat.{◌-◌, ◌<◌}
+use mathlib.Core.Path.{refl, sym, ◌∙◌}
+use Rattle.generalized.specs.Limits.{max_generalized_states}
+use Rattle.term.proofs.Sizes.{bytes_fine}
+use Rattle.generalized.proofs.Walking.{Walking, Space, walk_begins, walk_refused, walk_over, walk_steps, walk_ends}
+use Rattle.generalized.proofs.Sifting.{terms_sorted}
+use Rattle.generalized.proofs.walk.Goals as goal
+use Rattle.generalized.proofs.walk.Goals.{After-meet_all-step, After-put_end, In-loop-state}
+
+-- and the turn in which targets are met
+abbrev turn_of : After-meet_all-step → In-loop-state
+turn_of c = (goal.at.After-meet_all-step c).In-loop-state
+
+-- a turn takes a state that has a number
+numbered : (c : After-put_end)
+    → (turn (turn_of (goal.at.After-put_end c).After-meet_all-step)).loop.state.0 < max_generalized_states
+numbered c =
+    let state = turn_of (goal.at.After-put_end c).After-meet_all-step in
+    omega (arith, (turn state).loop.inv.0.room.few, state.if1.taken)
+
+pub untils_of-untils-requires : goal.untils_of-untils-requires
+untils_of-untils-requires c = bytes_fine _ c.requires.0
+
+pub start-initial-requires : goal.start-initial-requires
+start-initial-requires c = (c.requires.0, c.requires.2.states_room)
+
+pub loop-state-init : goal.loop-state-init
+loop-state-init c =
+    (
+      walk_begins _ _ _ _ c.start-initial.ensures.0 c.start-initial.ensures.1
+          (record {
+            states_room = c.start-initial.auto.states ∙ c.requires.2.states_room;
+            transitions_room = c.requires.2.transitions_room;
+            ends_room = c.requires.2.ends_room;
+          }),
+      record { products = record { room = refl; beside = refl }; bytes_room = refl },
+    )
+
+pub slice_bounds-state_terms-end : goal.slice_bounds-state_terms-end
+slice_bounds-state_terms-end c = sym c.loop-state.invariant.1.products.room
+
+pub slice_bounds-state_terms-end-in-loop-state : goal.slice_bounds-state_terms-end-in-loop-state
+slice_bounds-state_terms-end-in-loop-state c = sym c.loop-state.invariant.1.products.beside
+
+pub state_terms-terms-requires : goal.state_terms-terms-requires
+state_terms-terms-requires c = (c.requires.0, c.requires.1, c.loop-state.invariant.1.products)
+
+pub returns-then-many-gt-MAX_PRODUCT : goal.returns-then-many-gt-MAX_PRODUCT
+returns-then-many-gt-MAX_PRODUCT c =
+    walk_over c.loop-state.invariant.0 c.loop-state-test.true c.state_terms-terms.ensures.product c.if-many-gt-MAX_PRODUCT.true
+
+pub slice_bounds-fulfil-end-in-loop-state : goal.slice_bounds-fulfil-end-in-loop-state
+slice_bounds-fulfil-end-in-loop-state c = sym c.loop-state.invariant.1.bytes_room
+
+pub fulfil-requires : goal.fulfil-requires
+fulfil-requires c =
+    (
+      omega (arith, c.if-many-gt-MAX_PRODUCT.false, c.state_terms-terms.auto.product, c.loop-state.invariant.1.products.room),
+      omega (arith, c.if-many-gt-MAX_PRODUCT.false, c.loop-state.invariant.1.bytes_room),
+      record { accepted = bytes_fine _ c.requires.0; (goal.at.fulfil-requires c).After-state_terms-terms = c.requires.1; c.untils_of-untils = c.untils_of-untils.ensures },
+    )
+
+pub slice_bounds-drop_dominated-end : goal.slice_bounds-drop_dominated-end
+slice_bounds-drop_dominated-end c =
+    sym (c.state_terms-terms.auto.product ∙ c.loop-state.invariant.1.products.room)
+
+pub slice_bounds-drop_dominated-end-in-loop-state : goal.slice_bounds-drop_dominated-end-in-loop-state
+slice_bounds-drop_dominated-end-in-loop-state c =
+    sym (c.fulfil.auto.bytes ∙ c.loop-state.invariant.1.bytes_room)
+
+pub drop_dominated-few-requires : goal.drop_dominated-few-requires
+drop_dominated-few-requires c =
+    terms_sorted _ c.requires.0 _ c.state_terms-terms.ensures.product c.if-many-gt-MAX_PRODUCT.false
+    (omega (arith, c.if-many-gt-MAX_PRODUCT.false, slice-aggregate-drop-dominated (goal.at.drop_dominated-few-requires c).After-product-in-loop-state-3-1))
+    (omega (arith, c.if-many-gt-MAX_PRODUCT.false, slice-aggregate-drop-dominated-2 c))
+
+pub slice_bounds-meet_all-end : goal.slice_bounds-meet_all-end
+slice_bounds-meet_all-end c =
+    slice-aggregate-drop-dominated (goal.at.slice_bounds-meet_all-end c).After-product-in-loop-state-3-1 ∙ sym c.drop_dominated-few.auto.ts
+
+pub slice_bounds-meet_all-end-in-loop-state : goal.slice_bounds-meet_all-end-in-loop-state
+slice_bounds-meet_all-end-in-loop-state c =
+    slice-aggregate-drop-dominated-2 (goal.at.slice_bounds-meet_all-end-in-loop-state c).After-bytes-in-loop-state-2-1 ∙ sym c.drop_dominated-few.auto.bytes
+
+pub meet_all-step-requires : goal.meet_all-step-requires
+meet_all-step-requires c =
+    let few = c.drop_dominated-few.ensures.few in
+    let most = c.if-many-gt-MAX_PRODUCT.false in (
+      omega (arith, few, most, slice-aggregate-meet-all (goal.at.meet_all-step-requires c).After-product-in-loop-state-5-1),
+      omega (arith, few, most, slice-aggregate-meet-all-2 (goal.at.meet_all-step-requires c).After-bytes-in-loop-state-4-1),
+      c.loop-state.invariant.0.room,
+    )
+
+pub put_end-requires : goal.put_end-requires
+put_end-requires c =
+    let state = turn_of (goal.at.put_end-requires c).After-meet_all-step in
+    let inv = (turn state).loop.inv.0 in
+    omega (arith, inv.room.few, inv.ends_room, state.if1.taken)
+
+pub overflow_add-state : goal.overflow_add-state
+overflow_add-state c = omega (arith, numbered (goal.at.overflow_add-state c).After-put_end)
+
+pub loop-state-smaller : goal.loop-state-smaller
+loop-state-smaller c = omega (arith, numbered (goal.at.loop-state-smaller c).After-put_end)
+
+pub loop-state-preserved : goal.loop-state-preserved
+loop-state-preserved c =
+    (
+      walk_steps c.loop-state.invariant.0 c.loop-state-test.true c.state_terms-terms.ensures.product c.requires.0
+          c.if-many-gt-MAX_PRODUCT.false c.fulfil.ensures c.drop_dominated-few.ensures c.meet_all-step.result
+          c.meet_all-step.new.states c.meet_all-step.new.transitions
+          c.meet_all-step.ensures c.in-On.is c.meet_all-step.auto.states
+          c.meet_all-step.auto.transitions c.put_end.ensures
+          (c.state_terms-terms.ensures.conflicts c.if-many-gt-MAX_PRODUCT.false),
+      record {
+        products = record {
+          room = sym (slice-aggregate-meet-all (goal.at.loop-state-preserved c).After-product-in-loop-state-5-1);
+          beside = c.state_terms-terms.auto.next ∙ c.loop-state.invariant.1.products.beside;
+        };
+        bytes_room = sym (slice-aggregate-meet-all-2 (goal.at.loop-state-preserved c).After-bytes-in-loop-state-4-1);
+      },
+    )
+
+pub shape_of-states-in-Stop : goal.shape_of-states-in-Stop
+shape_of-states-in-Stop c =
+    let at = turn (turn_of (goal.at.shape_of-states-in-Stop c).After-meet_all-step) in
+    c.meet_all-step.auto.states ∙ at.loop.inv.0.room.states_room ∙ sym (start at).pre.2.states_room
+
+pub shape_of-transitions-in-Stop : goal.shape_of-transitions-in-Stop
+shape_of-transitions-in-Stop c =
+    let at = turn (turn_of (goal.at.shape_of-transitions-in-Stop c).After-meet_all-step) in
+    c.meet_all-step.auto.transitions
+    ∙ at.loop.inv.0.room.transitions_room
+    ∙ sym (start at).pre.2.transitions_room
+
+pub shape_of-ends-in-Stop : goal.shape_of-ends-in-Stop
+shape_of-ends-in-Stop c =
+    let at = turn (turn_of (goal.at.shape_of-ends-in-Stop c).After-meet_all-step) in
+    at.loop.inv.0.ends_room ∙ sym (start at).pre.2.ends_room
+
+pub returns-in-Stop : goal.returns-in-Stop
+returns-in-Stop c =
+    walk_refused c.loop-state.invariant.0 c.loop-state-test.true c.state_terms-terms.ensures.product c.requires.0
+    c.if-many-gt-MAX_PRODUCT.false c.fulfil.ensures c.drop_dominated-few.ensures c.meet_all-step.result
+    c.meet_all-step.new.states c.meet_all-step.new.transitions
+    c.meet_all-step.ensures c.in-Stop.is
+
+pub returns : goal.returns
+returns c = walk_ends c.loop-state.invariant.0 c.loop-state-test.false

@@ -1,0 +1,15 @@
+-- `judge::begin_passes` meets its contract: each turn begins a pass in one state, if it is marked (`Gathers`).
+-- Assumes nothing.
+use native.Mathlib.Omega.{arith}
+use Prim.Native.Nat.{◌+◌, ◌-◌}
+use mathlib.Core.Path.{◌≡◌}
+use lib.ListN.{get_or}
+use Rattle.judge.proofs.Gathers.{Gathering, gather_begins, gather_steps, gather_ends}
+use Rattle.judge.proofs.Turns.{all_states}
+use Rattle.judge.proofs.begin_passes.Given as goal
+
+abbrev pub invariant-loop-q : goal.invariant-loop-q
+invariant-loop-q l = Gathering l.initial.rows (λ p r k. (r ≡ p) × ((get_or l.work (l.at + p) 0 ≡ 1) × (k ≡ p))) l.n l.rows l.q
+
+abbrev pub decreases-loop-q : goal.decreases-loop-q
+decreases-loop-q l = l.n - l.q

@@ -1,0 +1,12 @@
+-- `judge::or_words` meets its contract: the loop has joined the first i words (`Oring`).
+-- Assumes nothing.
+use native.Mathlib.Omega.{arith}
+use Prim.Native.Nat.{◌-◌}
+use Rattle.judge.proofs.RunBits.{Oring, or_begins, or_steps, or_ends}
+use Rattle.judge.proofs.or_words.Given as goal
+
+abbrev pub invariant-loop-i : goal.invariant-loop-i
+invariant-loop-i l = Oring l.initial.into l.a l.from l.b l.n l.into l.i
+
+abbrev pub decreases-loop-i : goal.decreases-loop-i
+decreases-loop-i l = l.n - l.i

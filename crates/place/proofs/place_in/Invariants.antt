@@ -1,0 +1,13 @@
+-- `place::place_in` meets its contract: the search passes letter by letter. Assumes nothing.
+use Prim.Native.Nat.{◌-◌}
+use mathlib.Core.Path.{sym, ◌∙◌}
+use lib.ListN.{length}
+use native.Mathlib.Omega.{arith}
+use Rattle.place.proofs.Standing.{passed, Seeking, seek_begins, seek_finds, seek_steps, seek_ends}
+use Rattle.place.proofs.place_in.Given as goal
+
+abbrev pub invariant-loop-at : goal.invariant-loop-at
+invariant-loop-at l = Seeking l.letters l.i l.left l.at
+
+abbrev pub decreases-loop-at : goal.decreases-loop-at
+decreases-loop-at l = length l.letters - l.at
