@@ -16,7 +16,7 @@ use Rattle.normalform.specs.Written.{Written, constant, literal, negation, next,
 use Rattle.normalform.specs.Written.{written_tree, written_check}
 use Rattle.normalform.specs.NormalForm.{turned, bit, left_sense, left_constant, pair_code, code, entry}
 use Rattle.normalform.specs.NormalForm.{sense, rank, emit, is_needed, number, entry_of, codes_of, code_end}
-use Rattle.normalform.specs.NormalForm.{size, normal_bytes}
+use Rattle.normalform.specs.NormalForm.{normal_bytes}
 use Rattle.normalform.specs.Memory.{OwnPlace, Named, flagged, number_in}
 use Rattle.normalform.specs.Memory.{code_bytes, with_code, Ready}
 use Rattle.normalform.proofs.Ranks.{rank_needed, rank_passed, rank_below}

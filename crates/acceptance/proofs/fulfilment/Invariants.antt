@@ -24,8 +24,8 @@ use Rattle.acceptance.proofs.fulfilment.Given as goal
 
 -- a loop over count untils that stands at k
 pub record Fulfilling (rule : List ℕ) (count t byte k : ℕ) : Type 0 where
-  within : k ≤ count
-  done : byte ≡ bits_of (λ j. fulfils_next rule j (unpack t)) k
+  pub within : k ≤ count
+  pub done : byte ≡ bits_of (λ j. fulfils_next rule j (unpack t)) k
 
 abbrev pub invariant-loop-k : goal.invariant-loop-k
 invariant-loop-k l = Fulfilling l.rule l.count l.t l.byte l.k

@@ -14,40 +14,31 @@ tables e = ap (λ (c : Carried). c.tables) e
 
 pub slice_bounds-judge-end : goal.slice_bounds-judge-end
 slice_bounds-judge-end c =
-    let start =
-    (goal.at.slice_bounds-judge-end c).Start in
-    let a = start.args in
-    let fits = passed _ _ _ _ _ _ _ _ start.pre in
-    image_inside a.rule.now a.states.now a.transitions.now a.initial.now a.image.now
+    let fits = passed _ _ _ _ _ _ _ _ c.requires in
+    image_inside c.args.rule.now c.args.states.now c.args.transitions.now c.args.initial.now c.args.image.now
     fits.room.tables fits.room.buffer fits.bytes _ _ _ (tables c.translate.ensures) _
     (ap told_counts c.in-Accepted.is) _ c.write.ensures _
     (ap stored_answer c.in-Accepted-write.is)
 
 pub slice_bounds-judge-end-in-Accepted-write : goal.slice_bounds-judge-end-in-Accepted-write
 slice_bounds-judge-end-in-Accepted-write c =
-    sym (length-take-le _ _ (slice-reshare-prefix-judge (goal.at.slice_bounds-judge-end-in-Accepted-write c).In-Accepted-write-2))
+    sym (length-take-le _ _ (slice_bounds-judge-end (goal.at.slice_bounds-judge-end-in-Accepted-write c).In-Accepted-write-2))
 
 pub returns-in-Refused : goal.returns-in-Refused
 returns-in-Refused c =
-    let start =
-    (goal.at.returns-in-Refused c).Start in
-    rule_refused _ _ _ _ _ _ _ _ start.pre _ _ _ (tables c.translate.ensures)
+    rule_refused _ _ _ _ _ _ _ _ c.requires _ _ _ (tables c.translate.ensures)
     (ap told_counts c.in-Refused.is)
 
 pub returns-in-Refused-write : goal.returns-in-Refused-write
 returns-in-Refused-write c =
-    let start =
-    (goal.at.returns-in-Refused-write c).Start in
-    let fits = passed _ _ _ _ _ _ _ _ start.pre in
+    let fits = passed _ _ _ _ _ _ _ _ c.requires in
     write_refused _ _ _ _ _ fits.room.tables fits.room.buffer fits.bytes _ _ _ (tables c.translate.ensures) _
     (ap told_counts c.in-Accepted.is) _ c.write.ensures
     (ap stored_answer c.in-Refused-write.is)
 
 pub returns-in-Accepted-write : goal.returns-in-Accepted-write
 returns-in-Accepted-write c =
-    let start =
-    (goal.at.returns-in-Accepted-write c).Start in
-    lasso_judged _ _ _ _ _ _ _ _ start.pre _ _ _ (tables c.translate.ensures) _
+    lasso_judged _ _ _ _ _ _ _ _ c.requires _ _ _ (tables c.translate.ensures) _
     (ap told_counts c.in-Accepted.is) _ c.write.ensures _
     (ap stored_answer c.in-Accepted-write.is)
     c.judge.ensures

@@ -10,6 +10,7 @@ use Rattle.sets.specs.Sets.{any}
 use Rattle.sets.proofs.Members.{map_at}
 use Rattle.sets.proofs.Seeking.{Seeking, seek_finds, seek_steps, seek_ends}
 use Rattle.domination.specs.Memory.{dominates_byte, dominates_n}
+use Rattle.domination.proofs.dominated.Invariants.{finds, steps}
 use Rattle.domination.proofs.dominated.Goals as goal
 
 pub loop-i-init : goal.loop-i-init

@@ -27,16 +27,16 @@ module _ (ts bytes : List ℕ) (t byte : ℕ) where
   module _ (i : ℕ) (lt : i < length ts) {b : Bool} (e : b ≡ dominates_byte (get_or ts i 0) (get_or bytes i 0) t byte)
       (inv : Searching i) where
     -- the test of the term at i
-    tested : ForUntils (λ untils. b ≡ test untils (get_or ts i 0))
+    pub tested : ForUntils (λ untils. b ≡ test untils (get_or ts i 0))
     tested untils told own =
         let at : get_or bytes i 0 ≡ untils (get_or ts i 0) =
         ap (λ (xs : List ℕ). get_or xs i 0) told ∙ map_at untils 0 0 ts i lt in
         e ∙ rw (at, own)
 
-    finds : b ≡ true → ForUntils (λ untils. true ≡ any (test untils) ts)
+    pub finds : b ≡ true → ForUntils (λ untils. true ≡ any (test untils) ts)
     finds f untils told own = seek_finds 0 _ _ i (inv untils told own) lt (tested untils told own) f
 
-    steps : b ≡ false → Searching (i + 1)
+    pub steps : b ≡ false → Searching (i + 1)
     steps f untils told own = seek_steps 0 _ _ i (inv untils told own) lt (tested untils told own) f
 
 abbrev pub invariant-loop-i : goal.invariant-loop-i

@@ -14,6 +14,7 @@ use Rattle.domination.specs.Domination.{sift, stays}
 use Rattle.domination.specs.Memory.{dominates_n, Sorted, Drops}
 use Rattle.domination.proofs.Undominated.{sift_append, dominated_before}
 use Rattle.domination.proofs.Packed.{number_falls, number_follows}
+use Rattle.domination.proofs.drop_dominated.Invariants.{begins, steps, ends}
 use Rattle.domination.proofs.drop_dominated.Goals as goal
 
 pub loop-i-init : goal.loop-i-init
@@ -23,7 +24,7 @@ pub bounds-ts-i : goal.bounds-ts-i
 bounds-ts-i c = omega (arith, c.loop-i.invariant.size, c.requires.inside)
 
 pub bounds-bytes-i : goal.bounds-bytes-i
-bounds-bytes-i c = omega (arith, c.loop-i.invariant.bytes-size, c.requires.bytes_inside)
+bounds-bytes-i c = omega (arith, c.loop-i.invariant.bytes_size, c.requires.bytes_inside)
 
 pub slice_bounds-dominated-end : goal.slice_bounds-dominated-end
 slice_bounds-dominated-end c =
@@ -31,19 +32,19 @@ slice_bounds-dominated-end c =
 
 pub slice_bounds-dominated-end-in-loop-i : goal.slice_bounds-dominated-end-in-loop-i
 slice_bounds-dominated-end-in-loop-i c =
-    sym (length-take-le _ _ (slice-reshare-prefix-dominated (goal.at.slice_bounds-dominated-end-in-loop-i c).After-slice_known-in-loop-i-1))
+    sym (length-take-le _ _ (slice_bounds-dominated-end (goal.at.slice_bounds-dominated-end-in-loop-i c).After-slice_known-in-loop-i-1))
 
 pub slice_bounds-dominated-end-in-loop-i-2 : goal.slice_bounds-dominated-end-in-loop-i-2
 slice_bounds-dominated-end-in-loop-i-2 c =
-    omega (arith, c.loop-i.invariant.few, c.loop-i.invariant.bytes-size, c.requires.bytes_inside)
+    omega (arith, c.loop-i.invariant.few, c.loop-i.invariant.bytes_size, c.requires.bytes_inside)
 
 pub slice_bounds-dominated-end-in-loop-i-3 : goal.slice_bounds-dominated-end-in-loop-i-3
 slice_bounds-dominated-end-in-loop-i-3 c =
-    sym (length-take-le _ _ (slice-reshare-prefix-dominated-2 (goal.at.slice_bounds-dominated-end-in-loop-i-3 c).After-slice_known-in-loop-i-1))
+    sym (length-take-le _ _ (slice_bounds-dominated-end-in-loop-i-2 (goal.at.slice_bounds-dominated-end-in-loop-i-3 c).After-slice_known-in-loop-i-1))
 
 pub dominated-dropped-requires : goal.dominated-dropped-requires
 dominated-dropped-requires c =
-    sym (slice-aggregate-dominated-2 c) ∙ slice-aggregate-dominated (goal.at.dominated-dropped-requires c).After-slice_known-in-loop-i-1
+    sym (slice_bounds-dominated-end-in-loop-i-3 c) ∙ slice_bounds-dominated-end-in-loop-i (goal.at.dominated-dropped-requires c).After-slice_known-in-loop-i-1
 
 pub loop-i-preserved : goal.loop-i-preserved
 loop-i-preserved c =

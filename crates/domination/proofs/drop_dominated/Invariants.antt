@@ -59,42 +59,42 @@ module _ (ts₀ bytes₀ : List ℕ) (count : ℕ) where
 
     module _ {ts bytes : List ℕ} {kept i : ℕ} (inv : Loop ts bytes kept i) (lt : i < count) where
       -- the term at i and its byte put behind those kept
-      abbrev ts-after : List ℕ
-      ts-after = set ts kept (get_or ts i 0)
+      abbrev pub ts_after : List ℕ
+      ts_after = set ts kept (get_or ts i 0)
 
-      abbrev bytes_after : List ℕ
+      abbrev pub bytes_after : List ℕ
       bytes_after = set bytes kept (get_or bytes i 0)
 
       -- what the test of the term at i says
-      abbrev Tested : Bool → Type 0
+      abbrev pub Tested : Bool → Type 0
       Tested b = (untils : ℕ → ℕ) → take kept bytes ≡ map untils (take kept ts) → get_or bytes i 0 ≡ untils (get_or ts i 0)
           → b ≡ any (λ u. dominates_n untils u (get_or ts i 0)) (take kept ts)
 
       module _ (untils : ℕ → ℕ) (s : Sifting untils ts bytes kept i) where
-        here-is : get_or ts i 0 ≡ get_or xs i 0
-        here-is = s.rest i (omega arith) lt
+        pub here_is : get_or ts i 0 ≡ get_or xs i 0
+        here_is = s.rest i (omega arith) lt
 
-        rising : (j k : ℕ) → j < k → k < length xs → get_or xs j 0 < get_or xs k 0
+        pub rising : (j k : ℕ) → j < k → k < length xs → get_or xs j 0 < get_or xs k 0
         rising j k l m =
             let a : k < count = omega (arith, count_is) in
             omega (arith, get_or-take count ts₀ j 0 (omega arith), get_or-take count ts₀ k 0 a, sorted.rising j k l a)
 
         -- the term is dominated exactly if one of those kept dominates it
-        dominated-is : any (λ u. dominates_n untils u (get_or ts i 0)) (take kept ts)
+        pub dominated_is : any (λ u. dominates_n untils u (get_or ts i 0)) (take kept ts)
             ≡ any (λ u. dominates_n untils u (get_or xs i 0)) xs
-        dominated-is =
-            rw (here-is, s.are)
+        dominated_is =
+            rw (here_is, s.are)
             (dominated_before (dominates_n untils) (λ n. n) (number_falls untils) (number_follows untils) xs 0 rising i
             (omega (arith, count_is)))
 
         -- the terms before i + 1 that are kept
-        next-are : (b : Bool) → any (λ u. dominates_n untils u (get_or xs i 0)) xs ≡ b
+        pub next_are : (b : Bool) → any (λ u. dominates_n untils u (get_or xs i 0)) xs ≡ b
             → sift (stays (dominates_n untils) xs) (take (suc i) xs)
             ≡ cond b (take kept ts) (take kept ts ++ (get_or ts i 0 ∷ []))
         unfolding sift
-        next-are b e =
+        next_are b e =
             rw
-            (take-suc xs i 0 (omega (arith, count_is)), sift_append (stays (dominates_n untils) xs), e, s.are, here-is)
+            (take-suc xs i 0 (omega (arith, count_is)), sift_append (stays (dominates_n untils) xs), e, s.are, here_is)
             (go b)
           where
             front : List ℕ
@@ -105,34 +105,34 @@ module _ (ts₀ bytes₀ : List ℕ) (count : ℕ) where
             go true = append-nil front
             go false = refl
 
-        own : get_or bytes i 0 ≡ untils (get_or ts i 0)
-        own = s.rest-told i (omega arith) lt ∙ ap untils (sym here-is)
+        pub own : get_or bytes i 0 ≡ untils (get_or ts i 0)
+        own = s.rest_told i (omega arith) lt ∙ ap untils (sym here_is)
 
         -- the first n after the term at i is put behind those kept
-        Front : ℕ → Type 0
+        pub Front : ℕ → Type 0
         Front n =
-            (take n ts-after ≡ sift (stays (dominates_n untils) xs) (take (suc i) xs))
-            × (take n bytes_after ≡ map untils (take n ts-after))
+            (take n ts_after ≡ sift (stays (dominates_n untils) xs) (take (suc i) xs))
+            × (take n bytes_after ≡ map untils (take n ts_after))
 
-        fronts : (b : Bool) → any (λ u. dominates_n untils u (get_or xs i 0)) xs ≡ b → Front (cond b kept (suc kept))
+        pub fronts : (b : Bool) → any (λ u. dominates_n untils u (get_or xs i 0)) xs ≡ b → Front (cond b kept (suc kept))
         unfolding Front
         fronts true q =
             let same = take-set-le kept ts kept (get_or ts i 0) (omega arith) in
             let same_bytes = take-set-le kept bytes kept (get_or bytes i 0) (omega arith) in
-            (rw (same, next-are true q), rw (same, same_bytes) s.told)
+            (rw (same, next_are true q), rw (same, same_bytes) s.told)
         fronts false q =
             let more = take-suc-set ts kept (get_or ts i 0) (omega (arith, inv.few, inv.size, sorted.inside)) in
             let more_bytes =
-            take-suc-set bytes kept (get_or bytes i 0) (omega (arith, inv.few, inv.bytes-size, sorted.bytes_inside)) in (
-              rw (more, next-are false q),
+            take-suc-set bytes kept (get_or bytes i 0) (omega (arith, inv.few, inv.bytes_size, sorted.bytes_inside)) in (
+              rw (more, next_are false q),
               rw (more, more_bytes, s.told, own) (sym (map-append untils (take kept ts) (get_or ts i 0 ∷ []))),
             )
 
-        sifting-on : (b : Bool) → Tested b → {r : ℕ} → r ≡ cond b kept (suc kept)
-            → Sifting untils ts-after bytes_after r (suc i)
+        pub sifting_on : (b : Bool) → Tested b → {r : ℕ} → r ≡ cond b kept (suc kept)
+            → Sifting untils ts_after bytes_after r (suc i)
         unfolding Front
-        sifting-on b tested {r} e =
-            let (a, t) = fronts b (sym (tested untils s.told own ∙ dominated-is)) in
+        sifting_on b tested {r} e =
+            let (a, t) = fronts b (sym (tested untils s.told own ∙ dominated_is)) in
             record {
               are = rw e a;
               told = rw e t;
@@ -140,17 +140,17 @@ module _ (ts₀ bytes₀ : List ℕ) (count : ℕ) where
                   get_or-set_other ts kept j (get_or ts i 0) 0 (λ q. omega (arith, inv.few)) ∙ s.rest j (omega arith) l;
               rest_told = λ j ge l.
                   get_or-set_other bytes kept j (get_or bytes i 0) 0 (λ q. omega (arith, inv.few))
-                  ∙ s.rest-told j (omega arith) l;
+                  ∙ s.rest_told j (omega arith) l;
             }
 
-      steps : (b : Bool) → Tested b → {r : ℕ} → r ≡ cond b kept (kept + 1) → Loop ts-after bytes_after r (i + 1)
+      pub steps : (b : Bool) → Tested b → {r : ℕ} → r ≡ cond b kept (kept + 1) → Loop ts_after bytes_after r (i + 1)
       steps b tested {r} e = record {
         within = omega arith;
         few = most b e;
         size = length-set ts kept (get_or ts i 0) ∙ inv.size;
-        bytes_size = length-set bytes kept (get_or bytes i 0) ∙ inv.bytes-size;
+        bytes_size = length-set bytes kept (get_or bytes i 0) ∙ inv.bytes_size;
         sifting = λ untils told. rw (add-one i)
-            (sifting-on untils (inv.sifting untils told) b tested (e ∙ ap (cond b kept) (add-one kept)));
+            (sifting_on untils (inv.sifting untils told) b tested (e ∙ ap (cond b kept) (add-one kept)));
       }
         where
           most : (b : Bool) → r ≡ cond b kept (kept + 1) → r ≤ i + 1

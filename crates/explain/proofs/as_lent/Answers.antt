@@ -13,14 +13,12 @@ returns-in-Kept c = lent_by _ _ kept (ap explain_answer c.in-Kept.is) refl
 
 pub returns-in-Broken : goal.returns-in-Broken
 returns-in-Broken c =
-    let f = c.found-1.given in
-    lent_by _ _ (broken f.0.0 f.0.1.0) (ap explain_answer f.1)
-    (ap (λ (k : ℕ). accepted (broken f.0.0 k)) c.place_of.ensures)
+    lent_by _ _ (broken c.in-Broken.c c.in-Broken.i) (ap explain_answer c.in-Broken.is)
+    (ap (λ (k : ℕ). accepted (broken c.in-Broken.c k)) c.place_of.ensures)
 
 pub returns-in-NeverComes : goal.returns-in-NeverComes
 returns-in-NeverComes c =
-    let f = c.found-in-NeverComes-1.given in
-    lent_by _ _ (never_comes f.0.0) (ap explain_answer f.1) refl
+    lent_by _ _ (never_comes c.in-NeverComes.c) (ap explain_answer c.in-NeverComes.is) refl
 
 pub returns-in-Refused : goal.returns-in-Refused
 returns-in-Refused c e told = never_both (sym (ap explain_answer c.in-Refused.is) ∙ told)

@@ -1,8 +1,7 @@
 -- `explain::release_break` meets its contract: the loop carries whether the left side has held. Assumes nothing.
-use Prim.Native.Nat.{◌-◌}
 use mathlib.Core.Path.{refl}
 use native.Mathlib.Omega.{arith}
-use Rattle.explain.proofs.Looking.{look_ends, Holding, hold_begins, hold_finds, hold_steps}
+use Rattle.explain.proofs.Looking.{look_ends, hold_begins, hold_finds, hold_steps}
 use Rattle.explain.proofs.release_break.Goals as goal
 
 pub loop-i-init : goal.loop-i-init

@@ -1,8 +1,6 @@
 -- `explain::release_break` meets its contract: the loop carries whether the left side has held. Assumes nothing.
 use Prim.Native.Nat.{◌-◌}
-use mathlib.Core.Path.{refl}
-use native.Mathlib.Omega.{arith}
-use Rattle.explain.proofs.Looking.{look_ends, Holding, hold_begins, hold_finds, hold_steps}
+use Rattle.explain.proofs.Looking.{Holding}
 use Rattle.explain.proofs.release_break.Given as goal
 
 abbrev pub invariant-loop-i : goal.invariant-loop-i

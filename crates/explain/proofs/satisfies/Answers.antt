@@ -7,21 +7,21 @@ use Rattle.normalform.specs.Memory.{Forms}
 use Rattle.normalform.proofs.Normalizing.{forms_as}
 use Rattle.explain.proofs.Calling.{form_refused, form_explained}
 use Rattle.explain.proofs.satisfies.Goals as goal
-use Rattle.explain.proofs.satisfies.Goals.{In-Accepted-2}
+use Rattle.explain.proofs.satisfies.Goals.{In-Accepted}
 
 -- the normal form stands at the buffer's start
-forms : (c : In-Accepted-2) → Forms c.args.rule.now (Accepted c.in-Accepted.n) c.check_form.new.form
+forms : (c : In-Accepted) → Forms c.args.rule.now (Accepted c.in-Accepted.n) c.check_form.new.form
 forms c = forms_as _ _ c.in-Accepted.is c.check_form.ensures
 
 pub slice_bounds-form-end : goal.slice_bounds-form-end
-slice_bounds-form-end c = (forms (goal.at.slice_bounds-form-end c).In-Accepted-2).2
+slice_bounds-form-end c = (forms (goal.at.slice_bounds-form-end c).In-Accepted).2
 
 pub slice_bounds-explain_lasso-end : goal.slice_bounds-explain_lasso-end
 slice_bounds-explain_lasso-end c =
-    sym (length-take-le _ _ (forms (goal.at.slice_bounds-explain_lasso-end c).In-Accepted-2).2)
+    sym (length-take-le _ _ (forms (goal.at.slice_bounds-explain_lasso-end c).In-Accepted).2)
 
 pub explain_lasso-found-requires : goal.explain_lasso-found-requires
-explain_lasso-found-requires c = (forms (goal.at.explain_lasso-found-requires c).In-Accepted-2).1
+explain_lasso-found-requires c = (forms (goal.at.explain_lasso-found-requires c).In-Accepted).1
 
 pub returns-in-Refused : goal.returns-in-Refused
 returns-in-Refused c =
@@ -30,5 +30,5 @@ returns-in-Refused c =
 
 pub returns-in-Accepted : goal.returns-in-Accepted
 returns-in-Accepted c =
-    let made = forms (goal.at.returns-in-Accepted c).In-Accepted-2 in
+    let made = forms (goal.at.returns-in-Accepted c).In-Accepted in
     form_explained _ _ _ _ made.0 c.verdict_only.ensures c.explain_lasso-found.ensures

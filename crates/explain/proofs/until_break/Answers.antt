@@ -1,9 +1,7 @@
 -- `explain::until_break` meets its contract: the first position that fails. Assumes nothing.
-use Prim.Native.Nat.{◌-◌}
 use mathlib.Core.Path.{sym, ◌∙◌}
 use native.Mathlib.Omega.{arith}
-use Rattle.explain.specs.Memory.{both_fail_at}
-use Rattle.explain.proofs.Looking.{Looking, look_begins, look_steps, look_finds, look_ends}
+use Rattle.explain.proofs.Looking.{look_begins, look_steps, look_finds, look_ends}
 use Rattle.explain.proofs.until_break.Goals as goal
 
 pub loop-i-init : goal.loop-i-init

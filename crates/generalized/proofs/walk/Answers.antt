@@ -74,23 +74,23 @@ slice_bounds-drop_dominated-end-in-loop-state c =
 pub drop_dominated-few-requires : goal.drop_dominated-few-requires
 drop_dominated-few-requires c =
     terms_sorted _ c.requires.0 _ c.state_terms-terms.ensures.product c.if-many-gt-MAX_PRODUCT.false
-    (omega (arith, c.if-many-gt-MAX_PRODUCT.false, slice-aggregate-drop-dominated (goal.at.drop_dominated-few-requires c).After-product-in-loop-state-3-1))
-    (omega (arith, c.if-many-gt-MAX_PRODUCT.false, slice-aggregate-drop-dominated-2 c))
+    (omega (arith, c.if-many-gt-MAX_PRODUCT.false, slice_bounds-drop_dominated-end (goal.at.drop_dominated-few-requires c).After-product-in-loop-state-3-1))
+    (omega (arith, c.if-many-gt-MAX_PRODUCT.false, slice_bounds-drop_dominated-end-in-loop-state c))
 
 pub slice_bounds-meet_all-end : goal.slice_bounds-meet_all-end
 slice_bounds-meet_all-end c =
-    slice-aggregate-drop-dominated (goal.at.slice_bounds-meet_all-end c).After-product-in-loop-state-3-1 ∙ sym c.drop_dominated-few.auto.ts
+    slice_bounds-drop_dominated-end (goal.at.slice_bounds-meet_all-end c).After-product-in-loop-state-3-1 ∙ sym c.drop_dominated-few.auto.ts
 
 pub slice_bounds-meet_all-end-in-loop-state : goal.slice_bounds-meet_all-end-in-loop-state
 slice_bounds-meet_all-end-in-loop-state c =
-    slice-aggregate-drop-dominated-2 (goal.at.slice_bounds-meet_all-end-in-loop-state c).After-bytes-in-loop-state-2-1 ∙ sym c.drop_dominated-few.auto.bytes
+    slice_bounds-drop_dominated-end-in-loop-state (goal.at.slice_bounds-meet_all-end-in-loop-state c).After-bytes-in-loop-state-2-1 ∙ sym c.drop_dominated-few.auto.bytes
 
 pub meet_all-step-requires : goal.meet_all-step-requires
 meet_all-step-requires c =
     let few = c.drop_dominated-few.ensures.few in
     let most = c.if-many-gt-MAX_PRODUCT.false in (
-      omega (arith, few, most, slice-aggregate-meet-all (goal.at.meet_all-step-requires c).After-product-in-loop-state-5-1),
-      omega (arith, few, most, slice-aggregate-meet-all-2 (goal.at.meet_all-step-requires c).After-bytes-in-loop-state-4-1),
+      omega (arith, few, most, slice_bounds-meet_all-end (goal.at.meet_all-step-requires c).After-product-in-loop-state-5-1),
+      omega (arith, few, most, slice_bounds-meet_all-end-in-loop-state (goal.at.meet_all-step-requires c).After-bytes-in-loop-state-4-1),
       c.loop-state.invariant.0.room,
     )
 
@@ -117,10 +117,10 @@ loop-state-preserved c =
           (c.state_terms-terms.ensures.conflicts c.if-many-gt-MAX_PRODUCT.false),
       record {
         products = record {
-          room = sym (slice-aggregate-meet-all (goal.at.loop-state-preserved c).After-product-in-loop-state-5-1);
+          room = sym (slice_bounds-meet_all-end (goal.at.loop-state-preserved c).After-product-in-loop-state-5-1);
           beside = c.state_terms-terms.auto.next ∙ c.loop-state.invariant.1.products.beside;
         };
-        bytes_room = sym (slice-aggregate-meet-all-2 (goal.at.loop-state-preserved c).After-bytes-in-loop-state-4-1);
+        bytes_room = sym (slice_bounds-meet_all-end-in-loop-state (goal.at.loop-state-preserved c).After-bytes-in-loop-state-4-1);
       },
     )
 

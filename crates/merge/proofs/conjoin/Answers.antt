@@ -19,5 +19,5 @@ put_node-requires c = search rules
 pub returns : goal.returns
 returns c =
     conjoins _ _ _ _ _ _ c.requires.0 c.requires.1
-    (put-node-requires (goal.at.returns c).After-put_node-arg-1 c.put_node.lifetimes) c.copy.ensures c.put_all_moved.ensures
+    (put_node-requires (goal.at.returns c).After-put_node-arg-1) c.copy.ensures c.put_all_moved.ensures
     c.put_node.ensures

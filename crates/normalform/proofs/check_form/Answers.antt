@@ -14,11 +14,12 @@ slice_bounds-check_untils-end c =
 
 pub slice_bounds-check_untils-end-in-Accepted : goal.slice_bounds-check_untils-end-in-Accepted
 slice_bounds-check_untils-end-in-Accepted c =
-    sym (length-take-le _ _ (slice-reshare-prefix-check-untils (goal.at.slice_bounds-check_untils-end-in-Accepted c).In-Accepted-2))
+    sym (length-take-le _ _ (form_inside _ _ c.requires _ c.normalize.ensures _ (ap stored_answer c.in-Accepted.is)))
 
 pub check_untils-requires : goal.check_untils-requires
 check_untils-requires c =
-    sym (ap (λ (x : ℕ). x / 3) (length-take-le _ _ (slice-reshare-prefix-check-untils (goal.at.check_untils-requires c).In-Accepted-2)))
+    sym (ap (λ (x : ℕ). x / 3)
+    (length-take-le _ _ (form_inside _ _ c.requires _ c.normalize.ensures _ (ap stored_answer c.in-Accepted.is))))
 
 pub returns-in-Refused : goal.returns-in-Refused
 returns-in-Refused c =

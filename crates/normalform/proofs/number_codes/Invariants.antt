@@ -1,8 +1,7 @@
 -- `normalform::number_codes` meets its contract: the codes before c have their numbers (`Counting`).
 -- Assumes nothing.
-use native.Mathlib.Omega.{arith}
 use Prim.Native.Nat.{◌-◌}
-use Rattle.normalform.proofs.Numbering.{Counting, count_begins, count_steps, count_ends}
+use Rattle.normalform.proofs.Numbering.{Counting}
 use Rattle.normalform.proofs.number_codes.Given as goal
 
 abbrev pub invariant-loop-c : goal.invariant-loop-c

@@ -1,9 +1,8 @@
 -- `normalform::write_codes` meets its contract: the bytes under the codes before c are written (`Emitting`).
 -- Assumes nothing.
 use native.Mathlib.Omega.{arith}
-use Prim.Native.Nat.{◌-◌}
 use Rattle.normalform.proofs.Walking.{few_codes}
-use Rattle.normalform.proofs.Writing.{Emitting, emit_begins, code_room, emit_steps, emit_ends}
+use Rattle.normalform.proofs.Writing.{emit_begins, code_room, emit_steps, emit_ends}
 use Rattle.normalform.proofs.write_codes.Goals as goal
 
 pub overflow_mul-end : goal.overflow_mul-end
@@ -16,13 +15,12 @@ pub loop-c-init : goal.loop-c-init
 loop-c-init c = emit_begins _ _
 
 pub write_code-requires : goal.write_code-requires
-write_code-requires c =
-    (
-      code_room c.requires _ _ c.loop-c.invariant c.loop-c-test.true,
-      omega (arith, few_codes _ c.requires.passes),
-      c.requires.flags_room,
-      c.requires.numbers_room,
-    )
+write_code-requires c = (
+  code_room c.requires _ _ c.loop-c.invariant c.loop-c-test.true,
+  omega (arith, few_codes _ c.requires.passes),
+  c.requires.flags_room,
+  c.requires.numbers_room,
+)
 
 pub loop-c-preserved : goal.loop-c-preserved
 loop-c-preserved c =

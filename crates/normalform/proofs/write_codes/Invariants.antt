@@ -1,9 +1,7 @@
 -- `normalform::write_codes` meets its contract: the bytes under the codes before c are written (`Emitting`).
 -- Assumes nothing.
-use native.Mathlib.Omega.{arith}
 use Prim.Native.Nat.{◌-◌}
-use Rattle.normalform.proofs.Walking.{few_codes}
-use Rattle.normalform.proofs.Writing.{Emitting, emit_begins, code_room, emit_steps, emit_ends}
+use Rattle.normalform.proofs.Writing.{Emitting}
 use Rattle.normalform.proofs.write_codes.Given as goal
 
 abbrev pub invariant-loop-c : goal.invariant-loop-c

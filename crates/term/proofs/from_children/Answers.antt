@@ -10,20 +10,20 @@ use Rattle.term.proofs.from_children.Goals as goal
 pub returns-then-na-gt-MAX_TERMS : goal.returns-then-na-gt-MAX_TERMS
 returns-then-na-gt-MAX_TERMS c =
     record {
-  handed_on = λ le. absurd (omega arith);
-  has_terms = λ p. absurd (omega arith);
-  has_conflicts = λ p. absurd (omega arith);
-  is_cover = λ p. absurd (omega arith);
-}
+      handed_on = λ le. absurd (omega arith);
+      has_terms = λ p. absurd (omega arith);
+      has_conflicts = λ p. absurd (omega arith);
+      is_cover = λ p. absurd (omega arith);
+    }
 
 pub returns-then-nb-gt-MAX_TERMS : goal.returns-then-nb-gt-MAX_TERMS
 returns-then-nb-gt-MAX_TERMS c =
     record {
-  handed_on = λ le. absurd (omega arith);
-  has_terms = λ p q. absurd (omega arith);
-  has_conflicts = λ p q. absurd (omega arith);
-  is_cover = λ p q. absurd (omega arith);
-}
+      handed_on = λ le. absurd (omega arith);
+      has_terms = λ p q. absurd (omega arith);
+      has_conflicts = λ p q. absurd (omega arith);
+      is_cover = λ p q. absurd (omega arith);
+    }
 
 pub returns-then-kind-eq-AND : goal.returns-then-kind-eq-AND
 unfolding terms cover conflicts

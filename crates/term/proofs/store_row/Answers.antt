@@ -19,10 +19,10 @@ slice_bounds-copy_words-start c = simp length-set (omega arith)
 pub copy_words-requires : goal.copy_words-requires
 copy_words-requires c = (simp (length-take, length-drop, length-set) (omega arith), search rules)
 
-pub shape_of-table : goal.shape_of-table
-shape_of-table c = (returns-2 c).size
-
 pub returns : goal.returns
 returns c =
     store_copied _ _ _ (omega arith) c.if-count-gt-MAX_TERMS.false (search rules) _ (add-one _)
     c.copy_words.ensures
+
+pub shape_of-table : goal.shape_of-table
+shape_of-table c = (returns c).size

@@ -30,7 +30,7 @@ pub returns : goal.returns
 returns c =
     let passed = sym c.check_sizes-sizes.ensures ∙ ap answer c.in_default.is in
     record {
-      (goal.at.returns c).After-check_sizes-sizes = passed;
+      sizes = passed;
       terms = table_fine _ _ (search rules)
           (λ j lt. c.keep_terms-root.ensures.reached j (reached_whole _ c.requires.0 j lt)) passed;
       conflicts = root_conflicts _ c.requires.0 passed c.keep_terms-root.ensures.conflicts;
