@@ -27,8 +27,14 @@ bounds-nodes-count c =
 
 pub returns-then-kind-eq-UNTIL : goal.returns-then-kind-eq-UNTIL
 returns-then-kind-eq-UNTIL c =
-    (stored c.args.kind c.args.i c.args.nodes.now c.args.count c.requires c.if-kind-eq-UNTIL.true, rw (eq-eqb _ 7 c.if-kind-eq-UNTIL.true))
+    record {
+      nodes_after = stored c.args.kind c.args.i c.args.nodes.now c.args.count c.requires c.if-kind-eq-UNTIL.true;
+      value = rw (eq-eqb _ 7 c.if-kind-eq-UNTIL.true);
+    }
 
 pub returns : goal.returns
 returns c =
-    (unchanged c.args.kind c.args.i c.args.nodes.now c.args.count c.if-kind-eq-UNTIL.false, rw (ne_eqb _ 7 c.if-kind-eq-UNTIL.false) (omega arith))
+    record {
+      nodes_after = unchanged c.args.kind c.args.i c.args.nodes.now c.args.count c.if-kind-eq-UNTIL.false;
+      value = rw (ne_eqb _ 7 c.if-kind-eq-UNTIL.false) (omega arith);
+    }

@@ -22,7 +22,12 @@ slice_bounds-judge-end c =
 
 pub slice_bounds-judge-end-in-Accepted-write : goal.slice_bounds-judge-end-in-Accepted-write
 slice_bounds-judge-end-in-Accepted-write c =
-    sym (length-take-le _ _ (slice_bounds-judge-end (goal.at.slice_bounds-judge-end-in-Accepted-write c).In-Accepted-write-2))
+    let fits = passed _ _ _ _ _ _ _ _ c.requires in
+    sym
+    (length-take-le _ _
+    (image_inside c.args.rule.now c.args.states.now c.args.transitions.now c.args.initial.now c.args.image.now
+    fits.room.tables fits.room.buffer fits.bytes _ _ _ (tables c.translate.ensures) _
+    (ap told_counts c.in-Accepted.is) _ c.write.ensures _ (ap stored_answer c.in-Accepted-write.is)))
 
 pub returns-in-Refused : goal.returns-in-Refused
 returns-in-Refused c =

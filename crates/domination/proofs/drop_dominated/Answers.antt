@@ -32,7 +32,7 @@ slice_bounds-dominated-end c =
 
 pub slice_bounds-dominated-end-in-loop-i : goal.slice_bounds-dominated-end-in-loop-i
 slice_bounds-dominated-end-in-loop-i c =
-    sym (length-take-le _ _ (slice_bounds-dominated-end (goal.at.slice_bounds-dominated-end-in-loop-i c).After-slice_known-in-loop-i-1))
+    sym (length-take-le _ _ (omega (arith, c.loop-i.invariant.few, c.loop-i.invariant.size, c.requires.inside)))
 
 pub slice_bounds-dominated-end-in-loop-i-2 : goal.slice_bounds-dominated-end-in-loop-i-2
 slice_bounds-dominated-end-in-loop-i-2 c =
@@ -40,11 +40,12 @@ slice_bounds-dominated-end-in-loop-i-2 c =
 
 pub slice_bounds-dominated-end-in-loop-i-3 : goal.slice_bounds-dominated-end-in-loop-i-3
 slice_bounds-dominated-end-in-loop-i-3 c =
-    sym (length-take-le _ _ (slice_bounds-dominated-end-in-loop-i-2 (goal.at.slice_bounds-dominated-end-in-loop-i-3 c).After-slice_known-in-loop-i-1))
+    sym (length-take-le _ _ (omega (arith, c.loop-i.invariant.few, c.loop-i.invariant.bytes_size, c.requires.bytes_inside)))
 
 pub dominated-dropped-requires : goal.dominated-dropped-requires
 dominated-dropped-requires c =
-    sym (slice_bounds-dominated-end-in-loop-i-3 c) ∙ slice_bounds-dominated-end-in-loop-i (goal.at.dominated-dropped-requires c).After-slice_known-in-loop-i-1
+    length-take-le _ _ (omega (arith, c.loop-i.invariant.few, c.loop-i.invariant.bytes_size, c.requires.bytes_inside))
+    ∙ sym (length-take-le _ _ (omega (arith, c.loop-i.invariant.few, c.loop-i.invariant.size, c.requires.inside)))
 
 pub loop-i-preserved : goal.loop-i-preserved
 loop-i-preserved c =

@@ -35,4 +35,4 @@ returns-in-Child c =
     c.requires.0
 
 pub returns-in_default : goal.returns-in_default
-returns-in_default c = λ k. rw (no_child c.args.operand _ k c.in_default.keys2) (omega arith)
+returns-in_default c = λ k. rw (no_child c.args.operand _ k c.in_default-own.keys2) (omega arith)

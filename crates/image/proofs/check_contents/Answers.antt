@@ -23,7 +23,7 @@ opened : (c : After-number_at-3)
 opened c =
     record {
       long = omega arith;
-      (goal.at.After-number_at-3 c).Else-not-entries_have = sym c.entries_have.ensures ∙ not-false _ c.if-not-entries_have.false-raw;
+      kinds = sym c.entries_have.ensures ∙ not-false _ c.if-not-entries_have.false-raw;
       counted = cc (c.number_at.ensures, c.number_at-2.ensures, c.number_at-3.ensures);
     }
 

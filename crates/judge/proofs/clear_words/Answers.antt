@@ -13,7 +13,7 @@ loop-i-init c = store_begins _ _ _
 
 pub loop-i-preserved : goal.loop-i-preserved
 loop-i-preserved c =
-    rw (zeros_at c.args.n c.loop-i.i) (goal.at.loop-i-preserved c).At-loop-i (store_steps _ _ _ _ c.loop-i.i c.loop-i-test.true c.requires (omega (arith, length-replicate {A = ℕ} c.args.n 0)) c.loop-i.invariant)
+    rw (zeros_at c.args.n c.loop-i.i) at (store_steps _ _ _ _ c.loop-i.i c.loop-i-test.true c.requires (omega (arith, length-replicate {A = ℕ} c.args.n 0)) c.loop-i.invariant)
 
 pub shape_of-rows : goal.shape_of-rows
 shape_of-rows c = c.loop-i.invariant.size

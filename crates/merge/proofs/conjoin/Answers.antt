@@ -13,11 +13,8 @@ overflow_sub-m c = omega (arith, (formed_fine release_kind _ c.requires.0).some)
 pub overflow_sub-end : goal.overflow_sub-end
 overflow_sub-end c = omega (arith, (formed_fine release_kind _ c.requires.0).some)
 
-pub put_node-requires : goal.put_node-requires
-put_node-requires c = search rules
-
 pub returns : goal.returns
 returns c =
     conjoins _ _ _ _ _ _ c.requires.0 c.requires.1
-    (put_node-requires (goal.at.returns c).After-put_node-arg-1) c.copy.ensures c.put_all_moved.ensures
+    (search rules) c.copy.ensures c.put_all_moved.ensures
     c.put_node.ensures

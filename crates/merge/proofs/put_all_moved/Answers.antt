@@ -18,7 +18,7 @@ put_moved-requires c =
 pub loop-i-preserved : goal.loop-i-preserved
 loop-i-preserved c =
     moving_steps _ _ _ _ c.loop-i.merged c.loop-i.i c.loop-i.invariant _ (omega arith)
-    (put_moved-requires (goal.at.loop-i-preserved c).After-put_moved-arg-1).3 c.put_moved.auto.merged
+    (omega (arith, c.loop-i.invariant.size)) c.put_moved.auto.merged
     c.put_moved.ensures
 
 pub shape_of-merged : goal.shape_of-merged

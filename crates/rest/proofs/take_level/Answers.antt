@@ -57,10 +57,10 @@ pub bounds-image-q : goal.bounds-image-q
 bounds-image-q c = omega (arith, below (goal.at.bounds-image-q c).After-wide-q, c.requires.0.size)
 
 pub overflow_add-result : goal.overflow_add-result
-overflow_add-result c = omega (arith, few (goal.at.overflow_add-result c).In-loop-i)
+overflow_add-result c = omega (arith, few (goal.at.overflow_add-result c).At-loop-i)
 
 pub overflow_add-result-then-image-q-eq1 : goal.overflow_add-result-then-image-q-eq1
-overflow_add-result-then-image-q-eq1 c = omega (arith, few (goal.at.overflow_add-result-then-image-q-eq1 c).In-loop-i)
+overflow_add-result-then-image-q-eq1 c = omega (arith, few (goal.at.overflow_add-result-then-image-q-eq1 c).At-loop-i)
 
 pub shape_of-work-then-image-q-eq1 : goal.shape_of-work-then-image-q-eq1
 shape_of-work-then-image-q-eq1 c = c.loop-i.invariant.works

@@ -17,21 +17,18 @@ use Rattle.rest.proofs.take_levels.Goals as goal
 use Rattle.rest.proofs.take_levels.Goals.{At-loop-count}
 
 module _ (c : At-loop-count) where
-  abbrev s : tie.Start invariant-loop decreases-loop
-  s = (goal.at.At-loop-count c).Start
-
-  same : length c.loop-count.work ≡ length s.args.work.now
+  same : length c.loop-count.work ≡ length c.args.work.now
   same = c.loop-count.invariant.works ∙ c.begin-count.auto.work
 
-  bytes : max_states * (length s.args.stem.now + length s.args.cycle.now) ≤ length c.loop-count.work
-  bytes = omega (arith, s.pre.3, same)
+  bytes : max_states * (length c.args.stem.now + length c.args.cycle.now) ≤ length c.loop-count.work
+  bytes = omega (arith, c.requires.3, same)
 
   -- the pairs taken, with those of the level, are at most as many as there are bytes
-  few : c.loop-count.true + c.loop-count.count ≤ length s.args.work.now
+  few : c.loop-count.taken + c.loop-count.count ≤ length c.args.work.now
   few =
-      let en = s.pre.1 ∙ sym (automaton_states s.args.image.now) in
-      let range = readable_in_range _ s.pre.0 in
-      omega (arith, same, before_few _ _ _ c.loop-count.invariant.before range s.pre.2 en bytes)
+      let en = c.requires.1 ∙ sym (automaton_states c.args.image.now) in
+      let range = readable_in_range _ c.requires.0 in
+      omega (arith, same, before_few _ _ _ c.loop-count.invariant.before range c.requires.2 en bytes)
 
 pub begin-count-requires : goal.begin-count-requires
 begin-count-requires c =
@@ -57,10 +54,10 @@ loop-count-init c =
 pub take_level-end-requires : goal.take_level-end-requires
 take_level-end-requires c =
     (
-      (s (goal.at.take_level-end-requires c).At-loop-count).requires.0,
-      (s (goal.at.take_level-end-requires c).At-loop-count).requires.1,
+      c.requires.0,
+      c.requires.1,
       c.find_places-places.ensures,
-      (s (goal.at.take_level-end-requires c).At-loop-count).requires.2,
+      c.requires.2,
       bytes (goal.at.take_level-end-requires c).At-loop-count,
       c.loop-count.invariant.size,
       c.loop-count.invariant.before,
@@ -73,11 +70,11 @@ returns-then-end c =
 
 pub overflow_add-taken : goal.overflow_add-taken
 overflow_add-taken c =
-    omega (arith, few (goal.at.overflow_add-taken c).At-loop-count, (s (goal.at.overflow_add-taken c).At-loop-count).well-formed.1.1.1.1.0)
+    omega (arith, few (goal.at.overflow_add-taken c).At-loop-count)
 
 pub position_after-position-requires : goal.position_after-position-requires
 position_after-position-requires c =
-    (c.loop-count.invariant.before.inside, (s (goal.at.position_after-position-requires c).At-loop-count).requires.2)
+    (c.loop-count.invariant.before.inside, c.requires.2)
 
 pub loop-count-smaller : goal.loop-count-smaller
 loop-count-smaller c =

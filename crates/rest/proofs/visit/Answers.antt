@@ -18,10 +18,10 @@ pub returns-then-work-at-eq1 : goal.returns-then-work-at-eq1
 returns-then-work-at-eq1 c = λ n state. fills_met state c.if-work-at-eq1.true
 
 pub bounds-list-count : goal.bounds-list-count
-bounds-list-count c = omega (arith, room c)
+bounds-list-count c = omega (arith, room (goal.at.bounds-list-count c).Else-work-at-eq1)
 
 pub overflow_add-result : goal.overflow_add-result
-overflow_add-result c = omega (arith, room c)
+overflow_add-result c = omega (arith, room (goal.at.overflow_add-result c).Else-work-at-eq1)
 
 pub returns : goal.returns
 returns c = λ n state. fills_new state c.if-work-at-eq1.false

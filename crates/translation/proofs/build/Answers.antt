@@ -14,7 +14,7 @@ tabled c e = tabulates_as c.args.rule.now c.tabulate-sizes.new.table e c.tabulat
 
 pub walk_both-requires : goal.walk_both-requires
 walk_both-requires c =
-    let table = tabled (goal.at.walk_both-requires c).After-tabulate-arg-1 c.in-Accepted.is in
+    let table = tabled (goal.at.walk_both-requires c).After-tabulate-sizes c.in-Accepted.is in
     (sizes_are _ c.requires.0 (sym table.sizes), table.terms, table.conflicts, c.requires.2)
 
 pub returns-in-Refused : goal.returns-in-Refused

@@ -8,7 +8,7 @@ use Rattle.translation.proofs.Numbering.{numbered_begins}
 use Rattle.translation.proofs.SecondWalk.{Begun, first_rows, Done, walk_done, walk_stopped}
 use Rattle.translation.proofs.SecondWalk.{count_inside, codes_count, codes_few, all_rows, written_is}
 use Rattle.translation.proofs.degeneralize.Goals as goal
-use Rattle.translation.proofs.degeneralize.Goals.{After-start_pairs, In-Count-2}
+use Rattle.translation.proofs.degeneralize.Goals.{After-start_pairs, In-Count}
 
 -- what it has found when the walk over the pairs begins
 begun : (c : After-start_pairs)
@@ -23,12 +23,12 @@ begun c = record {
 }
 
 -- the walk is done
-done : (c : In-Count-2)
-    → Done (begun (goal.at.In-Count-2 c).After-start_pairs) c.args.transitions.now
+done : (c : In-Count)
+    → Done (begun (goal.at.In-Count c).After-start_pairs) c.args.transitions.now
     c.in-Count.count c.in-Count.written
     c.explore_pairs-walked.new.pairs c.explore_pairs-walked.new.index c.explore_pairs-walked.new.table
 done c =
-    walk_done (begun (goal.at.In-Count-2 c).After-start_pairs) _ c.explore_pairs-walked.result c.explore_pairs-walked.new.pairs c.explore_pairs-walked.new.index
+    walk_done (begun (goal.at.In-Count c).After-start_pairs) _ c.explore_pairs-walked.result c.explore_pairs-walked.new.pairs c.explore_pairs-walked.new.index
     c.explore_pairs-walked.new.table c.explore_pairs-walked.ensures c.in-Count.is
 
 pub untils_of-untils-requires : goal.untils_of-untils-requires
@@ -44,24 +44,24 @@ explore_pairs-walked-requires c =
 
 pub slice_bounds-pairs-end : goal.slice_bounds-pairs-end
 slice_bounds-pairs-end c =
-    count_inside (begun (goal.at.slice_bounds-pairs-end c).After-start_pairs) (done (goal.at.slice_bounds-pairs-end c).In-Count-2)
+    count_inside (begun (goal.at.slice_bounds-pairs-end c).After-start_pairs) (done (goal.at.slice_bounds-pairs-end c).In-Count)
 
 pub slice_bounds-write_states-end : goal.slice_bounds-write_states-end
 slice_bounds-write_states-end c =
-    sym (codes_count (begun (goal.at.slice_bounds-write_states-end c).After-start_pairs) (done (goal.at.slice_bounds-write_states-end c).In-Count-2))
+    sym (codes_count (begun (goal.at.slice_bounds-write_states-end c).After-start_pairs) (done (goal.at.slice_bounds-write_states-end c).In-Count))
 
 pub write_states-requires : goal.write_states-requires
 write_states-requires c =
-    let few = codes_few (begun (goal.at.write_states-requires c).After-start_pairs) (done (goal.at.write_states-requires c).In-Count-2) in
-    (all_rows (begun (goal.at.write_states-requires c).After-start_pairs) (done (goal.at.write_states-requires c).In-Count-2), omega (arith, few, c.requires.2.states))
+    let few = codes_few (begun (goal.at.write_states-requires c).After-start_pairs) (done (goal.at.write_states-requires c).In-Count) in
+    (all_rows (begun (goal.at.write_states-requires c).After-start_pairs) (done (goal.at.write_states-requires c).In-Count), omega (arith, few, c.requires.2.states))
 
 pub overflow_mul-written : goal.overflow_mul-written
 overflow_mul-written c =
     let kept = c.explore_pairs-walked.auto.table in
-    omega (arith, (done (goal.at.overflow_mul-written c).In-Count-2).inside, kept, c.well-formed.1.1.1.1.1.0.0)
+    omega (arith, (done (goal.at.overflow_mul-written c).In-Count).inside, kept)
 
 pub zero_behind-requires : goal.zero_behind-requires
-zero_behind-requires c = (done (goal.at.zero_behind-requires c).In-Count-2).inside
+zero_behind-requires c = (done (goal.at.zero_behind-requires c).In-Count).inside
 
 pub write_initial-requires : goal.write_initial-requires
 write_initial-requires c =
@@ -75,6 +75,6 @@ returns-in-Stop c =
 
 pub returns-in-Count : goal.returns-in-Count
 returns-in-Count c =
-    written_is (begun (goal.at.returns-in-Count c).After-start_pairs) (done (goal.at.returns-in-Count c).In-Count-2)
+    written_is (begun (goal.at.returns-in-Count c).After-start_pairs) (done (goal.at.returns-in-Count c).In-Count)
     c.explore_pairs-walked.auto.table _ _ _ _ _
     c.write_states.ensures c.zero_behind.ensures c.write_initial.ensures

@@ -18,9 +18,9 @@ walks c e =
 
 pub degeneralize-requires : goal.degeneralize-requires
 degeneralize-requires c =
-    let kept = c.walk-walked.auto.1.1 in (
+    (
       c.requires.0,
-      handed kept.0 kept.1.0 kept.1.1.0 (walks (goal.at.degeneralize-requires c).After-walk-walked c.in-Accepted.is),
+      handed c.walk-walked.auto.states c.walk-walked.auto.transitions c.walk-walked.auto.ends (walks (goal.at.degeneralize-requires c).After-walk-walked c.in-Accepted.is),
       c.requires.3,
     )
 
