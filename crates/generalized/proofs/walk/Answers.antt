@@ -8,18 +8,11 @@ use Rattle.term.proofs.Sizes.{bytes_fine}
 use Rattle.generalized.proofs.Walking.{Walking, Space, walk_begins, walk_refused, walk_over, walk_steps, walk_ends}
 use Rattle.generalized.proofs.Sifting.{terms_sorted}
 use Rattle.generalized.proofs.walk.Goals as goal
-use Rattle.generalized.proofs.walk.Goals.{After-meet_all-step, After-put_end, In-loop-state}
-
--- and the turn in which targets are met
-abbrev turn_of : After-meet_all-step → In-loop-state
-turn_of c = (goal.at.After-meet_all-step c).In-loop-state
+use Rattle.generalized.proofs.walk.Goals.{After-put_end}
 
 -- a turn takes a state that has a number
-numbered : (c : After-put_end)
-    → (turn (turn_of (goal.at.After-put_end c).After-meet_all-step)).loop.state.0 < max_generalized_states
-numbered c =
-    let state = turn_of (goal.at.After-put_end c).After-meet_all-step in
-    omega (arith, (turn state).loop.inv.0.room.few, state.if1.taken)
+numbered : (c : After-put_end) → c.loop-state.state.0 < max_generalized_states
+numbered c = omega (arith, c.loop-state.invariant.0.room.few, c.loop-state-test.true)
 
 pub untils_of-untils-requires : goal.untils_of-untils-requires
 untils_of-untils-requires c = bytes_fine _ c.requires.0
@@ -60,7 +53,7 @@ fulfil-requires c =
     (
       omega (arith, c.if-many-gt-MAX_PRODUCT.false, c.state_terms-terms.auto.product, c.loop-state.invariant.1.products.room),
       omega (arith, c.if-many-gt-MAX_PRODUCT.false, c.loop-state.invariant.1.bytes_room),
-      record { accepted = bytes_fine _ c.requires.0; (goal.at.fulfil-requires c).After-state_terms-terms = c.requires.1; c.untils_of-untils = c.untils_of-untils.ensures },
+      record { accepted = bytes_fine _ c.requires.0; terms = c.requires.1; untils = c.untils_of-untils.ensures },
     )
 
 pub slice_bounds-drop_dominated-end : goal.slice_bounds-drop_dominated-end
@@ -74,31 +67,29 @@ slice_bounds-drop_dominated-end-in-loop-state c =
 pub drop_dominated-few-requires : goal.drop_dominated-few-requires
 drop_dominated-few-requires c =
     terms_sorted _ c.requires.0 _ c.state_terms-terms.ensures.product c.if-many-gt-MAX_PRODUCT.false
-    (omega (arith, c.if-many-gt-MAX_PRODUCT.false, slice_bounds-drop_dominated-end (goal.at.drop_dominated-few-requires c).After-product-in-loop-state-3-1))
-    (omega (arith, c.if-many-gt-MAX_PRODUCT.false, slice_bounds-drop_dominated-end-in-loop-state c))
+    (omega (arith, c.if-many-gt-MAX_PRODUCT.false, sym (c.state_terms-terms.auto.product ∙ c.loop-state.invariant.1.products.room)))
+    (omega (arith, c.if-many-gt-MAX_PRODUCT.false, sym (c.fulfil.auto.bytes ∙ c.loop-state.invariant.1.bytes_room)))
 
 pub slice_bounds-meet_all-end : goal.slice_bounds-meet_all-end
 slice_bounds-meet_all-end c =
-    slice_bounds-drop_dominated-end (goal.at.slice_bounds-meet_all-end c).After-product-in-loop-state-3-1 ∙ sym c.drop_dominated-few.auto.ts
+    sym (c.state_terms-terms.auto.product ∙ c.loop-state.invariant.1.products.room) ∙ sym c.drop_dominated-few.auto.ts
 
 pub slice_bounds-meet_all-end-in-loop-state : goal.slice_bounds-meet_all-end-in-loop-state
 slice_bounds-meet_all-end-in-loop-state c =
-    slice_bounds-drop_dominated-end-in-loop-state (goal.at.slice_bounds-meet_all-end-in-loop-state c).After-bytes-in-loop-state-2-1 ∙ sym c.drop_dominated-few.auto.bytes
+    sym (c.fulfil.auto.bytes ∙ c.loop-state.invariant.1.bytes_room) ∙ sym c.drop_dominated-few.auto.bytes
 
 pub meet_all-step-requires : goal.meet_all-step-requires
 meet_all-step-requires c =
     let few = c.drop_dominated-few.ensures.few in
     let most = c.if-many-gt-MAX_PRODUCT.false in (
-      omega (arith, few, most, slice_bounds-meet_all-end (goal.at.meet_all-step-requires c).After-product-in-loop-state-5-1),
-      omega (arith, few, most, slice_bounds-meet_all-end-in-loop-state (goal.at.meet_all-step-requires c).After-bytes-in-loop-state-4-1),
+      omega (arith, few, most, sym (c.state_terms-terms.auto.product ∙ c.loop-state.invariant.1.products.room) ∙ sym c.drop_dominated-few.auto.ts),
+      omega (arith, few, most, sym (c.fulfil.auto.bytes ∙ c.loop-state.invariant.1.bytes_room) ∙ sym c.drop_dominated-few.auto.bytes),
       c.loop-state.invariant.0.room,
     )
 
 pub put_end-requires : goal.put_end-requires
 put_end-requires c =
-    let state = turn_of (goal.at.put_end-requires c).After-meet_all-step in
-    let inv = (turn state).loop.inv.0 in
-    omega (arith, inv.room.few, inv.ends_room, state.if1.taken)
+    omega (arith, c.loop-state.invariant.0.room.few, c.loop-state.invariant.0.ends_room, c.loop-state-test.true)
 
 pub overflow_add-state : goal.overflow_add-state
 overflow_add-state c = omega (arith, numbered (goal.at.overflow_add-state c).After-put_end)
@@ -117,29 +108,26 @@ loop-state-preserved c =
           (c.state_terms-terms.ensures.conflicts c.if-many-gt-MAX_PRODUCT.false),
       record {
         products = record {
-          room = sym (slice_bounds-meet_all-end (goal.at.loop-state-preserved c).After-product-in-loop-state-5-1);
+          room = sym (sym (c.state_terms-terms.auto.product ∙ c.loop-state.invariant.1.products.room) ∙ sym c.drop_dominated-few.auto.ts);
           beside = c.state_terms-terms.auto.next ∙ c.loop-state.invariant.1.products.beside;
         };
-        bytes_room = sym (slice_bounds-meet_all-end-in-loop-state (goal.at.loop-state-preserved c).After-bytes-in-loop-state-4-1);
+        bytes_room = sym (sym (c.fulfil.auto.bytes ∙ c.loop-state.invariant.1.bytes_room) ∙ sym c.drop_dominated-few.auto.bytes);
       },
     )
 
 pub shape_of-states-in-Stop : goal.shape_of-states-in-Stop
 shape_of-states-in-Stop c =
-    let at = turn (turn_of (goal.at.shape_of-states-in-Stop c).After-meet_all-step) in
-    c.meet_all-step.auto.states ∙ at.loop.inv.0.room.states_room ∙ sym (start at).pre.2.states_room
+    c.meet_all-step.auto.states ∙ c.loop-state.invariant.0.room.states_room ∙ sym c.requires.2.states_room
 
 pub shape_of-transitions-in-Stop : goal.shape_of-transitions-in-Stop
 shape_of-transitions-in-Stop c =
-    let at = turn (turn_of (goal.at.shape_of-transitions-in-Stop c).After-meet_all-step) in
     c.meet_all-step.auto.transitions
-    ∙ at.loop.inv.0.room.transitions_room
-    ∙ sym (start at).pre.2.transitions_room
+    ∙ c.loop-state.invariant.0.room.transitions_room
+    ∙ sym c.requires.2.transitions_room
 
 pub shape_of-ends-in-Stop : goal.shape_of-ends-in-Stop
 shape_of-ends-in-Stop c =
-    let at = turn (turn_of (goal.at.shape_of-ends-in-Stop c).After-meet_all-step) in
-    at.loop.inv.0.ends_room ∙ sym (start at).pre.2.ends_room
+    c.loop-state.invariant.0.ends_room ∙ sym c.requires.2.ends_room
 
 pub returns-in-Stop : goal.returns-in-Stop
 returns-in-Stop c =
