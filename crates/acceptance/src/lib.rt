@@ -1,5 +1,7 @@
 // Which untils of a rule a transition of the first walk fulfils: a byte for each transition, found from the terms of
 // the untils.
+#![tactic(auto)]
+
 ghost use Rattle.std.specs.Prelude.{◌≡◌, cond, ◌++◌, map, ◌+◌, ◌*◌, ◌^◌, ◌≤◌, ◌<◌, length, get_or, take};
 ghost use Rattle.answer.specs.Result.{fine};
 ghost use Rattle.formula.specs.Limits.{max_nodes, max_untils};

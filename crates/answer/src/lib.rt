@@ -1,5 +1,7 @@
 // What the answers and the bytes of every call are said with: a refusal's number and place, numbers of two bytes, zeros
 // and copies.
+#![tactic(auto)]
+
 ghost use Rattle.std.specs.Prelude.{◌≡◌, ◌++◌, ◌+◌, ◌<◌, ◌≤◌, length, take, drop, replicate};
 ghost use Rattle.std.proofs.lemmas.List.Edits.{sets};
 ghost use Rattle.answer.specs.Bytes.{two_bytes, number, number_at, filled};

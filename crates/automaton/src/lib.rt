@@ -1,5 +1,7 @@
 // The limits and the counts of an automaton, the sizes of the tables that hold its records, and whether a transition
 // reads a letter.
+#![tactic(auto)]
+
 ghost use Rattle.std.specs.Prelude.{◌≡◌, ◌&&◌, eqb};
 ghost use Rattle.std.specs.Int.Bits.{bit_or, bit_and};
 ghost use Rattle.automaton.specs.Tables.{lengths_fit};

@@ -1,4 +1,6 @@
 // From a written rule and a lasso to the verdict: the calls translate, write and judge in a row.
+#![tactic(auto)]
+
 ghost use Rattle.std.specs.Prelude.{◌≡◌};
 ghost use Rattle.answer.specs.Result.{fine};
 ghost use Rattle.translation.specs.Translate.{written_translation};

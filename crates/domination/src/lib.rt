@@ -1,4 +1,6 @@
 // Dropping the transitions of a state that another one dominates: in place, among packed terms and their bytes.
+#![tactic(auto)]
+
 ghost use Rattle.std.specs.Prelude.{◌≡◌, cond, map, ℕ, length};
 ghost use Rattle.sets.specs.Sets.{any};
 ghost use Rattle.domination.specs.Memory.{dominates_byte, dominates_n, Sorted, Drops};

@@ -1,4 +1,6 @@
 // Where each node of a rule holds on a lasso: a row of flags for each node, from the flags of its children.
+#![tactic(auto)]
+
 ghost use Rattle.std.specs.Prelude.{◌≡◌, ◌+◌, ◌-◌, ◌*◌, ◌<◌, ◌≤◌, false, length, get_or};
 ghost use Rattle.answer.specs.Result.{fine};
 ghost use Rattle.formula.specs.Limits.{propositions};

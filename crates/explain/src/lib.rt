@@ -1,4 +1,6 @@
 // Which clause of a rule a lasso breaks, and where.
+#![tactic(auto)]
+
 ghost use Rattle.std.specs.Prelude.{◌≡◌, ◌+◌, ◌*◌, ◌<◌, ◌≤◌, not, ◌&&◌, [], ◌∷◌, length};
 ghost use Rattle.answer.specs.Result.{accepted, fine};
 ghost use Rattle.formula.specs.Limits.{max_nodes};

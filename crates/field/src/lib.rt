@@ -1,5 +1,7 @@
 // The field unit: the states that some run may be in, in a lent set, one letter per step, and the alarm when there is
 // none.
+#![tactic(auto)]
+
 ghost use Rattle.std.specs.Prelude.{◌≡◌, not, ◌+◌, ◌*◌, ◌/◌, ◌<◌, ◌≤◌, length, get_or, eqb};
 ghost use Rattle.answer.specs.Result.{accepted, and_then, fine, answer};
 ghost use Rattle.answer.specs.Bytes.{number_at, filled};

@@ -1,4 +1,6 @@
 // The bytes of a rule: what they must be, refusals 1 to 7 of document 01, and the parts of a node.
+#![tactic(auto)]
+
 ghost use Rattle.std.specs.Prelude.{◌≡◌, true, cond, eqb, ℕ, ◌+◌, ◌*◌, ◌<◌, ◌≤◌, length, get_or};
 ghost use Rattle.answer.specs.Result.{lowest, answer};
 ghost use Rattle.formula.specs.Limits.{max_nodes};

@@ -1,5 +1,7 @@
 // The first walk: the generalized automaton of a rule. Its states are obligation sets, its transitions terms; they
 // stand in tables that the caller lends, each transition with the number of its target and the untils that it fulfils.
+#![tactic(auto)]
+
 ghost use Rattle.std.specs.Prelude.{◌≡◌, [], ◌≤◌, ◌<◌, length, take, set, eqb};
 ghost use Rattle.answer.specs.Result.{fine};
 ghost use Rattle.formula.specs.Limits.{max_nodes};

@@ -1,4 +1,6 @@
 // The image of an automaton: the calls write and read, and check, which looks at an image and stores nothing.
+#![tactic(auto)]
+
 ghost use Rattle.std.specs.Prelude.{◌≡◌, cond, ◌+◌, ◌*◌, ◌<◌, ◌≤◌, length, take, drop};
 ghost use Rattle.std.proofs.lemmas.List.Edits.{sets};
 ghost use Rattle.answer.specs.Result.{accepted, and_then, lowest, answer};

@@ -1,4 +1,6 @@
 // The call judge: whether a lasso is kept or broken by the automaton of an image.
+#![tactic(auto)]
+
 ghost use Rattle.std.specs.Prelude.{◌≡◌, true, false, ◌||◌, ℕ, ◌+◌, ◌*◌, ◌<◌, ◌≤◌, ◌++◌, length, get_or, replicate, drop};
 ghost use Rattle.automaton.specs.Automaton.{AcceptingPass, Accepts, Step};
 ghost use Rattle.automaton.specs.Limits.{max_states};

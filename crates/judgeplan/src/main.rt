@@ -1,5 +1,7 @@
 // Judges the lasso on standard input, which has an image, the stem and the cycle one after another. Before the image
 // and before the stem stands its length, two bytes with the low one first; the cycle goes to the end.
+#![tactic(auto)]
+
 ghost use Rattle.std.specs.Prelude.{◌≤◌};
 
 use answer::number_of;

@@ -1,4 +1,6 @@
 // Lassos: refusals 8, 9 and 28, the letters that remain, and the letters at positions.
+#![tactic(auto)]
+
 ghost use Rattle.std.specs.Prelude.{◌≡◌, true, ◌↔◌, [], ◌∷◌, ◌+◌, ◌<◌, ◌≤◌, length, take, leb, ltb};
 ghost use Rattle.answer.specs.Result.{answer};
 ghost use Rattle.lasso.specs.Lasso.{remaining, letter, after, max_letters, lasso_check};

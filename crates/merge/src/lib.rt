@@ -1,4 +1,6 @@
 // Two first-edition rules merged into one, which a lasso satisfies exactly when it satisfies both (R-7).
+#![tactic(auto)]
+
 ghost use Rattle.std.specs.Prelude.{◌≡◌, ◌++◌, ◌+◌, ◌*◌, ◌<◌, ◌≤◌, length, take};
 ghost use Rattle.std.proofs.lemmas.List.Edits.{sets};
 ghost use Rattle.answer.specs.Result.{fine, answer};

@@ -1,5 +1,7 @@
 // Rules as growers write them, document 02's second edition, and their negation normal form: the first edition's form
 // of the same rule (R-3).
+#![tactic(auto)]
+
 ghost use Rattle.std.specs.Prelude.{◌≡◌, [], ◌∷◌, true, false, ◌+◌, ◌*◌, ◌<◌, ◌≤◌, length, take};
 ghost use Rattle.std.proofs.lemmas.List.Edits.{sets};
 ghost use Rattle.answer.specs.Result.{fine, answer};

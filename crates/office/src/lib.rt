@@ -1,4 +1,6 @@
 // The calls for C: numbers and byte slices, each slice a pointer and a length. An answer is packed into one number.
+#![tactic(auto)]
+
 ghost use Rattle.std.specs.Prelude.{◌≡◌, ◌+◌, length};
 ghost use Rattle.normalform.specs.Normalize.{normalizes};
 ghost use Rattle.merge.specs.Merge.{merges};

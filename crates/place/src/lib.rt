@@ -1,4 +1,6 @@
 // Where a letter that remains stands among the letters as they are lent.
+#![tactic(auto)]
+
 ghost use Rattle.std.specs.Prelude.{◌≡◌, true, cond, ◌&&◌, ◌+◌, ◌-◌, ◌<◌, ◌≤◌, length, eqb};
 ghost use Rattle.lasso.specs.Lasso.{remains, remaining, max_letters};
 ghost use Rattle.place.specs.Place.{place_in, place_of};

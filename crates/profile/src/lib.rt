@@ -1,4 +1,6 @@
 // The field unit's profile: rules with no until, refusal 29, and their translation.
+#![tactic(auto)]
+
 ghost use Rattle.std.specs.Prelude.{◌≡◌, ◌<◌};
 ghost use Rattle.answer.specs.Result.{answer, fine};
 ghost use Rattle.formula.specs.Rule.{node_count};

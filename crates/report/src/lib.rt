@@ -1,4 +1,6 @@
 // What is sent of a verdict: 32 bytes that tell the number of a rule and the verdict, and nothing else.
+#![tactic(auto)]
+
 ghost use Rattle.std.specs.Prelude.{◌≡◌};
 ghost use Rattle.judge.specs.Judge.{verdict_of, judge_answer};
 ghost use Rattle.report.specs.Report.{verdict_byte, composed, reporting, reported};

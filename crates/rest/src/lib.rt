@@ -1,4 +1,6 @@
 // The pairs of position and state that judging takes, breadth first, until one is at rest.
+#![tactic(auto)]
+
 ghost use Rattle.std.specs.Prelude.{◌≡◌, true, false, List, ◌∷◌, [], ℕ, ◌+◌, ◌*◌, ◌<◌, ◌≤◌, length, get_or, replicate};
 ghost use Rattle.answer.specs.Bytes.{number_at};
 ghost use Rattle.automaton.specs.Automaton.{no_state};

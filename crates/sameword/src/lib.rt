@@ -1,4 +1,6 @@
 // Whether two lassos are one word, and so one plan: compare, which refuses by 8, 9 and 28.
+#![tactic(auto)]
+
 ghost use Rattle.std.specs.Prelude.{◌≡◌, true, ◌↔◌, ◌+◌, ◌<◌, ◌≤◌, max, length};
 ghost use Rattle.answer.specs.Result.{fine};
 ghost use Rattle.lasso.specs.Lasso.{letter, max_letters, lasso_check};

@@ -1,6 +1,8 @@
 // Sets of numbers, stored rising and with no repeats in the first places of a lent slice of any length. A count
 // one above the slice's length says that the set has more members than there are places; it stays so whatever
 // is inserted after it, and what the slice then holds is not said.
+#![tactic(auto)]
+
 ghost use Rattle.std.specs.Prelude.{◌≡◌, ◌≤◌, ◌<◌, length, take};
 ghost use Rattle.sets.specs.Bits.{has};
 ghost use Rattle.std.specs.Int.Bits.{bit_or};

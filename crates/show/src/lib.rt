@@ -1,4 +1,6 @@
 // Prints what the program showwatch prints of a rule: its automaton, or its refusal.
+#![tactic(auto)]
+
 ghost use Rattle.std.specs.Prelude.{◌≡◌, ◌≤◌, ◌<◌};
 ghost use Rattle.automaton.specs.Limits.{max_transitions};
 ghost use Rattle.show.specs.Shown.{digit, label, row_end};

@@ -1,4 +1,6 @@
 // Prints the automaton of the rule on standard input, or its refusal.
+#![tactic(auto)]
+
 use libc::STDIN_FILENO;
 
 // The 97th byte is enough to refuse a rule by its length.

@@ -1,6 +1,8 @@
 // Covers and terms of a rule's nodes, each by recursion into the node's children, and refusal 20. A term is packed
 // into one number, so that the order of terms is the order of numbers and a join is one `|`. One descent from the
 // root keeps the terms of all nodes in a table, a row for each node.
+#![tactic(auto)]
+
 ghost use Rattle.std.specs.Prelude.{◌≡◌, List, [], ◌∷◌, ℕ, suc, ◌*◌, ◌^◌, ◌≤◌, ◌<◌, min, length};
 ghost use Rattle.std.specs.Int.Bits.{bit_or};
 ghost use Rattle.sets.specs.Sets.{union_n, insert_product_n, product_conflicts_n};

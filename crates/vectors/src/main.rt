@@ -1,5 +1,7 @@
 // Translates many rules in one run. Standard input has them one after another, each behind its length in two bytes,
 // low byte first; each gets what the program showwatch prints.
+#![tactic(auto)]
+
 use answer::number_of;
 use libc::STDIN_FILENO;
 

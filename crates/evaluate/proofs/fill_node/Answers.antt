@@ -21,12 +21,11 @@ pub overflow_mul-at : goal.overflow_mul-at
 overflow_mul-at c = omega (arith, few (node c))
 
 pub fill_leaf-requires : goal.fill_leaf-requires
-fill_leaf-requires c =
-    (
-      proposition_known (node (goal.at.fill_leaf-requires c).After-left_of-left) (omega arith),
-      omega
-          (arith, few (node (goal.at.fill_leaf-requires c).After-left_of-left), c.requires.2.few, c.requires.2.places),
-    )
+fill_leaf-requires c = (
+  proposition_known (node (goal.at.fill_leaf-requires c).After-left_of-left) (omega arith),
+  omega
+      (arith, few (node (goal.at.fill_leaf-requires c).After-left_of-left), c.requires.2.few, c.requires.2.places),
+)
 
 pub returns-then-kind-lt-AND : goal.returns-then-kind-lt-AND
 returns-then-kind-lt-AND c =

@@ -21,12 +21,11 @@ returns-in-Refused c =
     (sym (ap answer c.in-Refused.is) ∙ c.check_nodes-nodes.ensures)
 
 pub check_places-requires : goal.check_places-requires
-check_places-requires c =
-    (
-      refl,
-      omega arith,
-      children_below _ _ _ (sym c.check_nodes-nodes.ensures ∙ ap answer c.in_default.is),
-    )
+check_places-requires c = (
+  refl,
+  omega arith,
+  children_below _ _ _ (sym c.check_nodes-nodes.ensures ∙ ap answer c.in_default.is),
+)
 
 pub returns : goal.returns
 returns c =

@@ -21,16 +21,15 @@ pub start-initial-requires : goal.start-initial-requires
 start-initial-requires c = (c.requires.0, c.requires.2.states_room)
 
 pub loop-state-init : goal.loop-state-init
-loop-state-init c =
-    (
-      walk_begins _ _ _ _ c.start-initial.ensures.0 c.start-initial.ensures.1
-          (record {
-            states_room = c.start-initial.auto.states ∙ c.requires.2.states_room;
-            transitions_room = c.requires.2.transitions_room;
-            ends_room = c.requires.2.ends_room;
-          }),
-      record { products = record { room = refl; beside = refl }; bytes_room = refl },
-    )
+loop-state-init c = (
+  walk_begins _ _ _ _ c.start-initial.ensures.0 c.start-initial.ensures.1
+      (record {
+        states_room = c.start-initial.auto.states ∙ c.requires.2.states_room;
+        transitions_room = c.requires.2.transitions_room;
+        ends_room = c.requires.2.ends_room;
+      }),
+  record { products = record { room = refl; beside = refl }; bytes_room = refl },
+)
 
 pub slice_bounds-state_terms-end : goal.slice_bounds-state_terms-end
 slice_bounds-state_terms-end c = sym c.loop-state.invariant.1.products.room
@@ -49,12 +48,11 @@ pub slice_bounds-fulfil-end-in-loop-state : goal.slice_bounds-fulfil-end-in-loop
 slice_bounds-fulfil-end-in-loop-state c = sym c.loop-state.invariant.1.bytes_room
 
 pub fulfil-requires : goal.fulfil-requires
-fulfil-requires c =
-    (
-      omega (arith, c.if-many-gt-MAX_PRODUCT.false, c.state_terms-terms.auto.product, c.loop-state.invariant.1.products.room),
-      omega (arith, c.if-many-gt-MAX_PRODUCT.false, c.loop-state.invariant.1.bytes_room),
-      record { accepted = bytes_fine _ c.requires.0; terms = c.requires.1; untils = c.untils_of-untils.ensures },
-    )
+fulfil-requires c = (
+  omega (arith, c.if-many-gt-MAX_PRODUCT.false, c.state_terms-terms.auto.product, c.loop-state.invariant.1.products.room),
+  omega (arith, c.if-many-gt-MAX_PRODUCT.false, c.loop-state.invariant.1.bytes_room),
+  record { accepted = bytes_fine _ c.requires.0; terms = c.requires.1; untils = c.untils_of-untils.ensures },
+)
 
 pub slice_bounds-drop_dominated-end : goal.slice_bounds-drop_dominated-end
 slice_bounds-drop_dominated-end c =
@@ -98,22 +96,21 @@ pub loop-state-smaller : goal.loop-state-smaller
 loop-state-smaller c = omega (arith, numbered (goal.at.loop-state-smaller c).After-put_end)
 
 pub loop-state-preserved : goal.loop-state-preserved
-loop-state-preserved c =
-    (
-      walk_steps c.loop-state.invariant.0 c.loop-state-test.true c.state_terms-terms.ensures.product c.requires.0
-          c.if-many-gt-MAX_PRODUCT.false c.fulfil.ensures c.drop_dominated-few.ensures c.meet_all-step.result
-          c.meet_all-step.new.states c.meet_all-step.new.transitions
-          c.meet_all-step.ensures c.in-On.is c.meet_all-step.auto.states
-          c.meet_all-step.auto.transitions c.put_end.ensures
-          (c.state_terms-terms.ensures.conflicts c.if-many-gt-MAX_PRODUCT.false),
-      record {
-        products = record {
-          room = sym (sym (c.state_terms-terms.auto.product ∙ c.loop-state.invariant.1.products.room) ∙ sym c.drop_dominated-few.auto.ts);
-          beside = c.state_terms-terms.auto.next ∙ c.loop-state.invariant.1.products.beside;
-        };
-        bytes_room = sym (sym (c.fulfil.auto.bytes ∙ c.loop-state.invariant.1.bytes_room) ∙ sym c.drop_dominated-few.auto.bytes);
-      },
-    )
+loop-state-preserved c = (
+  walk_steps c.loop-state.invariant.0 c.loop-state-test.true c.state_terms-terms.ensures.product c.requires.0
+      c.if-many-gt-MAX_PRODUCT.false c.fulfil.ensures c.drop_dominated-few.ensures c.meet_all-step.result
+      c.meet_all-step.new.states c.meet_all-step.new.transitions
+      c.meet_all-step.ensures c.in-On.is c.meet_all-step.auto.states
+      c.meet_all-step.auto.transitions c.put_end.ensures
+      (c.state_terms-terms.ensures.conflicts c.if-many-gt-MAX_PRODUCT.false),
+  record {
+    products = record {
+      room = sym (sym (c.state_terms-terms.auto.product ∙ c.loop-state.invariant.1.products.room) ∙ sym c.drop_dominated-few.auto.ts);
+      beside = c.state_terms-terms.auto.next ∙ c.loop-state.invariant.1.products.beside;
+    };
+    bytes_room = sym (sym (c.fulfil.auto.bytes ∙ c.loop-state.invariant.1.bytes_room) ∙ sym c.drop_dominated-few.auto.bytes);
+  },
+)
 
 pub shape_of-states-in-Stop : goal.shape_of-states-in-Stop
 shape_of-states-in-Stop c =

@@ -45,14 +45,13 @@ pub slice_bounds-judge_letters-end-2 : goal.slice_bounds-judge_letters-end-2
 slice_bounds-judge_letters-end-2 c = sym (length-take-le _ _ c.keep_remaining-c.ensures.0)
 
 pub judge_letters-requires-2 : goal.judge_letters-requires-2
-judge_letters-requires-2 c =
-    (
-      c.requires.0,
-      c.requires.1,
-      rw c.keep_remaining-c.ensures.1 (lasso_some _ _ c.requires.2),
-      rw (c.keep_remaining-s.ensures.1, c.keep_remaining-c.ensures.1)
-          (enough (goal.at.judge_letters-requires-2 c).After-none_skipped (remaining_few c.args.stem.now c.args.cycle.now (lasso_few _ _ c.requires.2))),
-    )
+judge_letters-requires-2 c = (
+  c.requires.0,
+  c.requires.1,
+  rw c.keep_remaining-c.ensures.1 (lasso_some _ _ c.requires.2),
+  rw (c.keep_remaining-s.ensures.1, c.keep_remaining-c.ensures.1)
+      (enough (goal.at.judge_letters-requires-2 c).After-none_skipped (remaining_few c.args.stem.now c.args.cycle.now (lasso_few _ _ c.requires.2))),
+)
 
 pub returns : goal.returns
 returns c =

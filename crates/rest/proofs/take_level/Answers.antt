@@ -71,15 +71,14 @@ returns-then-image-q-eq1 c =
     c.wide-q.ensures (byte_rests _ c.requires.0 _ (below (goal.at.returns-then-image-q-eq1 c).After-wide-q) c.if-image-q-eq1.true)
 
 pub take_state-more-requires : goal.take_state-more-requires
-take_state-more-requires c =
-    (
-      c.requires.0,
-      c.requires.1,
-      omega (arith, below (goal.at.take_state-more-requires c).After-wide-q, c.requires.1),
-      c.requires.2,
-      taking_ready _ _ _ (readable_in_range _ c.requires.0) c.requires.3 c.loop-i.i c.loop-i.invariant
-          c.position_after-onward.ensures,
-    )
+take_state-more-requires c = (
+  c.requires.0,
+  c.requires.1,
+  omega (arith, below (goal.at.take_state-more-requires c).After-wide-q, c.requires.1),
+  c.requires.2,
+  taking_ready _ _ _ (readable_in_range _ c.requires.0) c.requires.3 c.loop-i.i c.loop-i.invariant
+      c.position_after-onward.ensures,
+)
 
 pub loop-i-preserved : goal.loop-i-preserved
 loop-i-preserved c =

@@ -31,15 +31,14 @@ module _ (c : At-loop-count) where
       omega (arith, same, before_few _ _ _ c.loop-count.invariant.before range c.requires.2 en bytes)
 
 pub begin-count-requires : goal.begin-count-requires
-begin-count-requires c =
-    (
-      c.requires.0,
-      record {
-        older = [];
-        met = [];
-        shows = fresh_shows c.requires.0.few (omega (arith, c.requires.2, c.requires.3)) refl (blank_marks c.requires.4);
-      },
-    )
+begin-count-requires c = (
+  c.requires.0,
+  record {
+    older = [];
+    met = [];
+    shows = fresh_shows c.requires.0.few (omega (arith, c.requires.2, c.requires.3)) refl (blank_marks c.requires.4);
+  },
+)
 
 pub loop-count-init : goal.loop-count-init
 loop-count-init c =
@@ -52,16 +51,15 @@ loop-count-init c =
     }
 
 pub take_level-end-requires : goal.take_level-end-requires
-take_level-end-requires c =
-    (
-      c.requires.0,
-      c.requires.1,
-      c.find_places-places.ensures,
-      c.requires.2,
-      bytes (goal.at.take_level-end-requires c).At-loop-count,
-      c.loop-count.invariant.size,
-      c.loop-count.invariant.before,
-    )
+take_level-end-requires c = (
+  c.requires.0,
+  c.requires.1,
+  c.find_places-places.ensures,
+  c.requires.2,
+  bytes (goal.at.take_level-end-requires c).At-loop-count,
+  c.loop-count.invariant.size,
+  c.loop-count.invariant.before,
+)
 
 pub returns-then-end : goal.returns-then-end
 returns-then-end c =

@@ -5,13 +5,12 @@ use Rattle.lasso.proofs.Checking.{lasso_some, lasso_few}
 use Rattle.sameword.proofs.same_word.Goals as goal
 
 pub same_letters-requires : goal.same_letters-requires
-same_letters-requires c =
-    (
-      omega (arith, lasso_some _ _ c.requires.0, remaining_fewer c.args.cycle.now),
-      lasso_few _ _ c.requires.0,
-      omega (arith, lasso_some _ _ c.requires.1, remaining_fewer c.args.other_cycle.now),
-      lasso_few _ _ c.requires.1,
-    )
+same_letters-requires c = (
+  omega (arith, lasso_some _ _ c.requires.0, remaining_fewer c.args.cycle.now),
+  lasso_few _ _ c.requires.0,
+  omega (arith, lasso_some _ _ c.requires.1, remaining_fewer c.args.other_cycle.now),
+  lasso_few _ _ c.requires.1,
+)
 
 pub returns-then-none_skipped-2 : goal.returns-then-none_skipped-2
 returns-then-none_skipped-2 c =

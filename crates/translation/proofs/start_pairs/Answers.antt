@@ -10,13 +10,12 @@ pub loop-i-init : goal.loop-i-init
 loop-i-init c = start_begins _ _ _ c.requires.0
 
 pub add_pair-requires : goal.add_pair-requires
-add_pair-requires c =
-    (
-      c.loop-i.invariant.numbered,
-      omega arith,
-      omega (arith, c.code_of.ensures),
-      start_new _ _ _ _ c.loop-i.invariant _ c.requires.1 c.loop-i-test.true c.code_of.ensures,
-    )
+add_pair-requires c = (
+  c.loop-i.invariant.numbered,
+  omega arith,
+  omega (arith, c.code_of.ensures),
+  start_new _ _ _ _ c.loop-i.invariant _ c.requires.1 c.loop-i-test.true c.code_of.ensures,
+)
 
 pub loop-i-preserved : goal.loop-i-preserved
 loop-i-preserved c =

@@ -17,12 +17,11 @@ walks c e =
     c.walk-walked.new.ends e c.walk-walked.ensures
 
 pub degeneralize-requires : goal.degeneralize-requires
-degeneralize-requires c =
-    (
-      c.requires.0,
-      handed c.walk-walked.auto.states c.walk-walked.auto.transitions c.walk-walked.auto.ends (walks (goal.at.degeneralize-requires c).After-walk-walked c.in-Accepted.is),
-      c.requires.3,
-    )
+degeneralize-requires c = (
+  c.requires.0,
+  handed c.walk-walked.auto.states c.walk-walked.auto.transitions c.walk-walked.auto.ends (walks (goal.at.degeneralize-requires c).After-walk-walked c.in-Accepted.is),
+  c.requires.3,
+)
 
 pub returns-in-Refused : goal.returns-in-Refused
 returns-in-Refused c =

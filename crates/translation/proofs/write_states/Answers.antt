@@ -13,11 +13,10 @@ pub loop-pair-init : goal.loop-pair-init
 loop-pair-init c = states_begin _ _ _ _ _
 
 pub write_state-requires : goal.write_state-requires
-write_state-requires c =
-    (
-      one_alone _ c.requires.0 (at_in {A = ℕ} 0 c.args.pairs.now _ c.loop-pair-test.true),
-      state_room _ _ _ _ _ _ _ c.loop-pair.invariant c.loop-pair-test.true c.requires.1,
-    )
+write_state-requires c = (
+  one_alone _ c.requires.0 (at_in {A = ℕ} 0 c.args.pairs.now _ c.loop-pair-test.true),
+  state_room _ _ _ _ _ _ _ c.loop-pair.invariant c.loop-pair-test.true c.requires.1,
+)
 
 pub loop-pair-preserved : goal.loop-pair-preserved
 loop-pair-preserved c =
