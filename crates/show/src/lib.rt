@@ -1,30 +1,42 @@
 // Prints what the program showwatch prints of a rule: its automaton, or its refusal.
 #![tactic(auto)]
 
-ghost use Rattle.std.specs.Prelude.{◌≡◌, ◌≤◌, ◌<◌};
+ghost use Rattle.std.specs.Prelude.{◌≡◌, ◌≤◌, ◌<◌, length, IfOk};
 ghost use Rattle.automaton.specs.Limits.{max_transitions};
 ghost use Rattle.show.specs.Shown.{digit, label, row_end};
 
 use answer::number_of;
 use automaton::{INITIAL_BYTES, MAX_TRANSITIONS, STATES_BYTES, TRANSITIONS_BYTES};
-use libc::STDOUT_FILENO;
+use std::io;
+use std::io::{Read, Write};
 use translation::Translated;
 
-pub fn print(text: &[u8]) {
-    io::write_all(STDOUT_FILENO, text);
+// Reads until the buffer is full or the input ends; how many bytes.
+pub fn read_full<R: Read>(input: &mut R, buffer: &mut [u8]) -> io::Result<usize>
+    ensures { IfOk result (λ n. n ≤ length buffer.old) }
+{
+    let mut n = 0;
+    while n < buffer.len() {
+        let got = input.read(&mut buffer[n..])?;
+        if got == 0 {
+            return Ok(n);
+        }
+        n += got;
+    }
+    Ok(n)
 }
 
-fn print_number(n: usize) {
-    io::print_decimal(STDOUT_FILENO, n as u64);
+pub fn print<W: Write>(out: &mut W, text: &[u8]) -> io::Result<()> {
+    out.write_all(text)
+}
+
+fn print_number<W: Write>(out: &mut W, n: usize) -> io::Result<()> {
+    write!(out, "{n}")
 }
 
 // `refused N place P`
-pub fn print_refusal(number: u8, place: usize) {
-    print(b"refused ");
-    io::print_decimal(STDOUT_FILENO, number as u64);
-    print(b" place ");
-    print_number(place);
-    print(b"\n");
+pub fn print_refusal<W: Write>(out: &mut W, number: u8, place: usize) -> io::Result<()> {
+    writeln!(out, "refused {number} place {place}")
 }
 
 // A hexadecimal digit, a capital above 9.
@@ -50,101 +62,103 @@ fn label(must: u8, must_not: u8) -> [u8; 6]
 }
 
 // The label, then the target.
-fn print_transition(must: u8, must_not: u8, target: usize) {
+fn print_transition<W: Write>(out: &mut W, must: u8, must_not: u8, target: usize) -> io::Result<()> {
     let shown = label(must, must_not);
-    print(&shown);
-    print_number(target);
-    print(b"\n");
+    print(out, &shown)?;
+    print_number(out, target)?;
+    print(out, b"\n")
 }
 
 // Transition record k.
-fn print_record(transitions: &[u8], k: usize) {
+fn print_record<W: Write>(out: &mut W, transitions: &[u8], k: usize) -> io::Result<()> {
     if transitions.len() / 4 <= k {
-        return;
+        return Ok(());
     }
     let at = k * 4;
     print_transition(
+        out,
         transitions[at],
         transitions[at + 1],
         number_of(transitions[at + 2], transitions[at + 3]),
-    );
+    )
 }
 
 // Transition records from `from` on, count of them.
-fn print_transitions(transitions: &[u8], from: usize, count: usize)
+fn print_transitions<W: Write>(out: &mut W, transitions: &[u8], from: usize, count: usize) -> io::Result<()>
     requires { (from ≤ max_transitions) × (count ≤ 65535) }
 {
     let mut i = 0;
     while i < count {
-        print_record(transitions, from + i);
+        print_record(out, transitions, from + i)?;
         i += 1;
     }
+    Ok(())
 }
 
 // A state's number, kind and transition count.
-fn print_state(number: usize, accepting: u8, count: usize) {
-    print(b"state ");
-    print_number(number);
+fn print_state<W: Write>(out: &mut W, number: usize, accepting: u8, count: usize) -> io::Result<()> {
     if accepting == 1 {
-        print(b" accepting ");
+        writeln!(out, "state {number} accepting {count}")
     } else {
-        print(b" plain ");
+        writeln!(out, "state {number} plain {count}")
     }
-    print_number(count);
-    print(b"\n");
 }
 
 // State record i and its transitions, which begin at `from`; where they end.
-fn print_row(states: &[u8], i: usize, transitions: &[u8], from: usize) -> usize
-    ensures { result ≡ row_end states.now i from }
+fn print_row<W: Write>(out: &mut W, states: &[u8], i: usize, transitions: &[u8], from: usize) -> io::Result<usize>
+    ensures { IfOk result (λ end. end ≡ row_end states.now i from) }
 {
     if MAX_TRANSITIONS < from {
-        return from;
+        return Ok(from);
     }
     if states.len() / 4 <= i {
-        return from;
+        return Ok(from);
     }
     let at = i * 4;
     let count = number_of(states[at], states[at + 1]);
-    print_state(i, states[at + 2], count);
-    print_transitions(transitions, from, count);
-    from + count
+    print_state(out, i, states[at + 2], count)?;
+    print_transitions(out, transitions, from, count)?;
+    Ok(from + count)
 }
 
 // The first n state records with their transitions.
-fn print_rows(states: &[u8], n: usize, transitions: &[u8]) {
+fn print_rows<W: Write>(out: &mut W, states: &[u8], n: usize, transitions: &[u8]) -> io::Result<()> {
     let mut from = 0;
     let mut i = 0;
     while i < n {
-        from = print_row(states, i, transitions, from);
+        from = print_row(out, states, i, transitions, from)?;
         i += 1;
     }
+    Ok(())
 }
 
 // The answer of translate, with the tables that it filled.
-fn print_translated(answer: Translated, states: &[u8], transitions: &[u8]) {
+fn print_translated<W: Write>(
+    out: &mut W,
+    answer: Translated,
+    states: &[u8],
+    transitions: &[u8],
+) -> io::Result<()> {
     match answer {
         Translated::Accepted(counts, _) => {
-            print(b"states ");
-            print_number(counts.states);
-            print(b" initial ");
-            print_number(counts.initial);
-            print(b" transitions ");
-            print_number(counts.transitions);
-            print(b"\n");
-            print_rows(states, counts.states, transitions);
+            print(out, b"states ")?;
+            print_number(out, counts.states)?;
+            print(out, b" initial ")?;
+            print_number(out, counts.initial)?;
+            print(out, b" transitions ")?;
+            print_number(out, counts.transitions)?;
+            print(out, b"\n")?;
+            print_rows(out, states, counts.states, transitions)
         }
-        Translated::Refused(number, place) => {
-            print_refusal(number, place);
-        }
+        Translated::Refused(number, place) => print_refusal(out, number, place),
     }
 }
 
 // Translates the rule and prints the answer.
-pub fn show_rule(rule: &[u8]) {
+pub fn show_rule<W: Write>(out: &mut W, rule: &[u8]) -> io::Result<()> {
     let mut states = [0u8; STATES_BYTES];
     let mut transitions = [0u8; TRANSITIONS_BYTES];
     let mut initial = [0u8; INITIAL_BYTES];
     let answer = translation::translate(rule, &mut states, &mut transitions, &mut initial);
-    print_translated(answer, &states, &transitions);
+    print_translated(out, answer, &states, &transitions)
 }

@@ -3,39 +3,43 @@
 #![tactic(auto)]
 
 use answer::number_of;
-use libc::STDIN_FILENO;
+use std::io;
+use std::io::{Read, Write};
 
 // The longest input taken for a rule: enough for any that is not refused by its length, and for many that are.
 const LONGEST: usize = 1024;
 
 // Reads a rule of n bytes into the buffer and answers it; whether there was one.
-fn answer_rule(buffer: &mut [u8], n: usize) -> bool {
+fn answer_rule<R: Read, W: Write>(input: &mut R, out: &mut W, buffer: &mut [u8], n: usize) -> io::Result<bool> {
     if buffer.len() < n {
-        return false;
+        return Ok(false);
     }
-    let got = io::read_full(STDIN_FILENO, &mut buffer[..n]);
+    let got = show::read_full(input, &mut buffer[..n])?;
     if got < n {
-        return false;
+        return Ok(false);
     }
-    show::show_rule(&buffer[..n]);
-    true
+    show::show_rule(out, &buffer[..n])?;
+    Ok(true)
 }
 
 // Answers the next rule; whether there was one.
-fn answer_next() -> bool {
+fn answer_next<R: Read, W: Write>(input: &mut R, out: &mut W) -> io::Result<bool> {
     let mut prefix = [0u8; 2];
-    let got = io::read_full(STDIN_FILENO, &mut prefix);
+    let got = show::read_full(input, &mut prefix)?;
     if got < 2 {
-        return false;
+        return Ok(false);
     }
     let mut buffer = [0u8; LONGEST];
-    answer_rule(&mut buffer, number_of(prefix[0], prefix[1]))
+    answer_rule(input, out, &mut buffer, number_of(prefix[0], prefix[1]))
 }
 
 // A loop has to end, and nothing says that the input does: it counts its turns down.
-fn main() {
+fn main(rt: HostRuntime) -> io::Result<()> {
+    let mut input = rt.stdin();
+    let mut out = rt.stdout();
     let mut turns = u64::MAX;
-    while turns > 0 && answer_next() {
+    while turns > 0 && answer_next(&mut input, &mut out)? {
         turns -= 1;
     }
+    Ok(())
 }

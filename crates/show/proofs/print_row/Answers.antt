@@ -9,8 +9,7 @@ use borrow.Author.Tests.{lt-ltb, le-ltb, le-leb, lt-leb}
 use Rattle.automaton.specs.Limits.{max_transitions}
 use Rattle.answer.specs.Bytes.{number_at}
 use Rattle.show.specs.Shown.{row_end}
-use Rattle.show.proofs.print_row.Statement.{statement}
-use Rattle.show.proofs.print_row.Tie as tie
+use Rattle.show.proofs.print_row.Goals as goal
 
 module _ (states : List ℕ) (i from : ℕ) where
   past : max_transitions < from → from ≡ row_end states i from
@@ -26,18 +25,11 @@ module _ (states : List ℕ) (i from : ℕ) where
   unfolding row_end
   counted le there e = rw (le-ltb max_transitions from le, lt-leb (length states / 4) i there, e)
 
-returns : tie.Need-returns
-returns c = past _ _ _ (search rules)
+pub returns-then-from-gt-MAX_TRANSITIONS : goal.returns-then-from-gt-MAX_TRANSITIONS
+returns-then-from-gt-MAX_TRANSITIONS g c = past _ _ _ (search rules)
 
-returns-2 : tie.Need-returns-2
-returns-2 c = behind _ _ _ (search rules) (search rules)
+pub returns-then-states-i : goal.returns-then-states-i
+returns-then-states-i g c = behind _ _ _ (search rules) (search rules)
 
-returns-3 : tie.Need-returns-3
-returns-3 c = counted _ _ _ (search rules) (search rules) (search rules)
-
-pub print-row-spec : {M : Type 1} → statement M
-print-row-spec =
-    tie.close
-    (tie.spec returns returns-2 (λ c. search rules) (λ c. search rules) (λ c. search rules) (λ c. search rules)
-    (λ c κs. search rules) (λ c. search rules) (λ c. search rules) (λ c κs. search rules) (λ c κs. search rules)
-    (λ c. search rules) returns-3)
+pub returns : goal.returns
+returns g c = counted _ _ _ (search rules) (search rules) (search rules)
