@@ -10,7 +10,7 @@ use lib.Seq.{get_or-take, take-append-le, take-take, take_all, get_or-append_sea
 use Rattle.answer.specs.Result.{fine}
 use Rattle.formula.specs.Limits.{propositions}
 use Rattle.formula.specs.Rule.{node_count, kind_at, left_at, right_at, checked}
-use Rattle.formula.specs.Formula.{Formula, bottom, proposition, build, trees, tree, InRange}
+use Rattle.formula.specs.Formula.{Formula, bottom, build, trees, tree, InRange}
 use Rattle.formula.proofs.Accepted.{Node, accepted_fine}
 
 -- trees of any type, as `trees` makes them

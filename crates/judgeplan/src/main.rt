@@ -51,7 +51,11 @@ fn judge_input<W: Write>(out: &mut W, input: &[u8]) -> io::Result<()> {
     judge_after(out, input, 2 + number_of(input[0], input[1]))
 }
 
-fn read_and_judge<R: Read, W: Write>(input: &mut R, out: &mut W, buffer: &mut [u8]) -> io::Result<()> {
+fn read_and_judge<R: Read, W: Write>(
+    input: &mut R,
+    out: &mut W,
+    buffer: &mut [u8],
+) -> io::Result<()> {
     let n = show::read_full(input, buffer)?;
     judge_input(out, &buffer[..n])
 }

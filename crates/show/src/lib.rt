@@ -62,7 +62,12 @@ fn label(must: u8, must_not: u8) -> [u8; 6]
 }
 
 // The label, then the target.
-fn print_transition<W: Write>(out: &mut W, must: u8, must_not: u8, target: usize) -> io::Result<()> {
+fn print_transition<W: Write>(
+    out: &mut W,
+    must: u8,
+    must_not: u8,
+    target: usize,
+) -> io::Result<()> {
     let shown = label(must, must_not);
     print(out, &shown)?;
     print_number(out, target)?;
@@ -84,7 +89,12 @@ fn print_record<W: Write>(out: &mut W, transitions: &[u8], k: usize) -> io::Resu
 }
 
 // Transition records from `from` on, count of them.
-fn print_transitions<W: Write>(out: &mut W, transitions: &[u8], from: usize, count: usize) -> io::Result<()>
+fn print_transitions<W: Write>(
+    out: &mut W,
+    transitions: &[u8],
+    from: usize,
+    count: usize,
+) -> io::Result<()>
     requires { (from ≤ max_transitions) × (count ≤ 65535) }
 {
     let mut i = 0;
@@ -96,7 +106,12 @@ fn print_transitions<W: Write>(out: &mut W, transitions: &[u8], from: usize, cou
 }
 
 // A state's number, kind and transition count.
-fn print_state<W: Write>(out: &mut W, number: usize, accepting: u8, count: usize) -> io::Result<()> {
+fn print_state<W: Write>(
+    out: &mut W,
+    number: usize,
+    accepting: u8,
+    count: usize,
+) -> io::Result<()> {
     if accepting == 1 {
         writeln!(out, "state {number} accepting {count}")
     } else {
@@ -105,7 +120,13 @@ fn print_state<W: Write>(out: &mut W, number: usize, accepting: u8, count: usize
 }
 
 // State record i and its transitions, which begin at `from`; where they end.
-fn print_row<W: Write>(out: &mut W, states: &[u8], i: usize, transitions: &[u8], from: usize) -> io::Result<usize>
+fn print_row<W: Write>(
+    out: &mut W,
+    states: &[u8],
+    i: usize,
+    transitions: &[u8],
+    from: usize,
+) -> io::Result<usize>
     ensures { IfOk result (λ end. end ≡ row_end states.now i from) }
 {
     if MAX_TRANSITIONS < from {
@@ -122,7 +143,12 @@ fn print_row<W: Write>(out: &mut W, states: &[u8], i: usize, transitions: &[u8],
 }
 
 // The first n state records with their transitions.
-fn print_rows<W: Write>(out: &mut W, states: &[u8], n: usize, transitions: &[u8]) -> io::Result<()> {
+fn print_rows<W: Write>(
+    out: &mut W,
+    states: &[u8],
+    n: usize,
+    transitions: &[u8],
+) -> io::Result<()> {
     let mut from = 0;
     let mut i = 0;
     while i < n {

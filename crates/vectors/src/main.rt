@@ -10,7 +10,12 @@ use std::io::{Read, Write};
 const LONGEST: usize = 1024;
 
 // Reads a rule of n bytes into the buffer and answers it; whether there was one.
-fn answer_rule<R: Read, W: Write>(input: &mut R, out: &mut W, buffer: &mut [u8], n: usize) -> io::Result<bool> {
+fn answer_rule<R: Read, W: Write>(
+    input: &mut R,
+    out: &mut W,
+    buffer: &mut [u8],
+    n: usize,
+) -> io::Result<bool> {
     if buffer.len() < n {
         return Ok(false);
     }

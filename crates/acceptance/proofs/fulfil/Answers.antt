@@ -1,14 +1,6 @@
 -- `acceptance::fulfil` meets its contract: the bytes of the terms passed are in (`Filling`).
 -- Assumes nothing.
 use native.Mathlib.Omega.{arith}
-use native.Mathlib.Numerals.{add-one}
-use mathlib.Core.Path.{◌≡◌, refl, sym, ◌∙◌}
-use mathlib.Core.List.{List, [], ◌∷◌, map, map-append}
-use Prim.Native.Nat.{ℕ, ◌+◌, ◌-◌, ◌≤◌, ◌<◌}
-use lib.ListN.{length, get_or, take, set, length-set}
-use lib.Seq.{take-suc, take-suc-set}
-use Rattle.term.specs.Memory.{unpack}
-use Rattle.acceptance.specs.Acceptance.{fulfilment}
 use Rattle.acceptance.proofs.fulfil.Invariants.{fill_begins, fill_steps, fill_ends}
 use Rattle.acceptance.proofs.fulfil.Goals as goal
 

@@ -2,10 +2,7 @@
 -- Assumes nothing.
 use native.Mathlib.Omega.{arith}
 use mathlib.Core.Path.{refl}
-use Prim.Native.Nat.{◌-◌}
-use lib.ListN.{length}
-use Rattle.sets.proofs.Seeking.{Seeking, seek_finds, seek_steps, seek_ends}
-use Rattle.acceptance.specs.Memory.{shows_n}
+use Rattle.sets.proofs.Seeking.{seek_finds, seek_steps, seek_ends}
 use Rattle.acceptance.proofs.fulfils.Goals as goal
 
 pub returns-then-not-owes : goal.returns-then-not-owes

@@ -1,10 +1,8 @@
 -- `acceptance::fulfils` meets its contract: none of the terms passed shows it (`Seeking`).
 -- Assumes nothing.
-use native.Mathlib.Omega.{arith}
-use mathlib.Core.Path.{refl}
 use Prim.Native.Nat.{◌-◌}
 use lib.ListN.{length}
-use Rattle.sets.proofs.Seeking.{Seeking, seek_finds, seek_steps, seek_ends}
+use Rattle.sets.proofs.Seeking.{Seeking}
 use Rattle.acceptance.specs.Memory.{shows_n}
 use Rattle.acceptance.proofs.fulfils.Given as goal
 

@@ -1,8 +1,7 @@
 -- `answer::copy` meets its contract: the bytes before k are copied (`Storing`).
 -- Assumes nothing.
 use native.Mathlib.Omega.{arith}
-use Prim.Native.Nat.{◌-◌}
-use Rattle.answer.proofs.Storing.{Storing, store_begins, store_steps, store_ends}
+use Rattle.answer.proofs.Storing.{store_begins, store_steps, store_ends}
 use Rattle.answer.proofs.copy.Goals as goal
 
 pub loop-k-init : goal.loop-k-init

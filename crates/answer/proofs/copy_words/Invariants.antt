@@ -1,8 +1,7 @@
 -- `answer::copy_words` meets its contract: the words before i are copied (`Storing`).
 -- Assumes nothing.
-use native.Mathlib.Omega.{arith}
 use Prim.Native.Nat.{◌-◌}
-use Rattle.answer.proofs.Storing.{Storing, store_begins, store_steps, store_ends}
+use Rattle.answer.proofs.Storing.{Storing}
 use Rattle.answer.proofs.copy_words.Given as goal
 
 abbrev pub invariant-loop-i : goal.invariant-loop-i

@@ -1,8 +1,6 @@
 -- `answer::zero` meets its contract: a list of zeros is stored over the table (`Zeroing`).
 -- Assumes nothing.
-use Prim.Native.Nat.{◌-◌}
-use lib.ListN.{length}
-use Rattle.answer.proofs.Storing.{Zeroing, store_begins, zero_steps, zero_ends}
+use Rattle.answer.proofs.Storing.{store_begins, zero_steps, zero_ends}
 use Rattle.answer.proofs.zero.Goals as goal
 
 pub loop-i-init : goal.loop-i-init

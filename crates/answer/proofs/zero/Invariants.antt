@@ -2,7 +2,7 @@
 -- Assumes nothing.
 use Prim.Native.Nat.{◌-◌}
 use lib.ListN.{length}
-use Rattle.answer.proofs.Storing.{Zeroing, store_begins, zero_steps, zero_ends}
+use Rattle.answer.proofs.Storing.{Zeroing}
 use Rattle.answer.proofs.zero.Given as goal
 
 abbrev pub invariant-loop-i : goal.invariant-loop-i

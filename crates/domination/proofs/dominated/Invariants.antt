@@ -1,14 +1,13 @@
 -- `domination::dominated` meets its contract: none of the terms passed dominates the one that is asked about, whatever
 -- the untils are that the bytes tell (`Seeking`). Assumes nothing.
-use native.Mathlib.Omega.{arith}
-use mathlib.Core.Path.{◌≡◌, refl, ◌∙◌, ap}
+use mathlib.Core.Path.{◌≡◌, ◌∙◌, ap}
 use mathlib.Core.Bool.{Bool, true, false}
 use mathlib.Core.List.{List, map}
 use Prim.Native.Nat.{ℕ, ◌+◌, ◌-◌, ◌≤◌, ◌<◌}
 use lib.ListN.{length, get_or}
 use Rattle.sets.specs.Sets.{any}
 use Rattle.sets.proofs.Members.{map_at}
-use Rattle.sets.proofs.Seeking.{Seeking, seek_finds, seek_steps, seek_ends}
+use Rattle.sets.proofs.Seeking.{Seeking, seek_finds, seek_steps}
 use Rattle.domination.specs.Memory.{dominates_byte, dominates_n}
 use Rattle.domination.proofs.dominated.Given as goal
 

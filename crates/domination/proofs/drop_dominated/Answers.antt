@@ -1,19 +1,8 @@
 -- `domination::drop_dominated` meets its contract: of the terms passed, those that are kept stand in front, and the rest
 -- stands where it stood (`Sifting`). Assumes nothing.
 use native.Mathlib.Omega.{arith}
-use native.Mathlib.Numerals.{add-one}
-use mathlib.Core.Path.{◌≡◌, refl, sym, ◌∙◌, ap}
-use mathlib.Core.Bool.{Bool, true, false, cond, not}
-use mathlib.Core.List.{List, [], ◌∷◌, ◌++◌, map, map-append, append-nil}
-use Prim.Native.Nat.{ℕ, suc, ◌+◌, ◌-◌, ◌≤◌, ◌<◌}
-use lib.ListN.{length, get_or, take, set, length-set}
-use lib.Seq.{get_or-take, get_or-set_other, length-take-le, take_all, take-suc, take-set-le, take-suc-set}
-use Rattle.sets.specs.Sets.{any}
-use Rattle.sets.proofs.Members.{map_at}
-use Rattle.domination.specs.Domination.{sift, stays}
-use Rattle.domination.specs.Memory.{dominates_n, Sorted, Drops}
-use Rattle.domination.proofs.Undominated.{sift_append, dominated_before}
-use Rattle.domination.proofs.Packed.{number_falls, number_follows}
+use mathlib.Core.Path.{sym, ◌∙◌}
+use lib.Seq.{length-take-le}
 use Rattle.domination.proofs.drop_dominated.Invariants.{begins, steps, ends}
 use Rattle.domination.proofs.drop_dominated.Goals as goal
 

@@ -1,9 +1,8 @@
 -- `evaluate::fill` meets its contract: node by node. Assumes nothing.
-use Prim.Native.Nat.{◌-◌, ◌/◌}
+use Prim.Native.Nat.{◌/◌}
 use mathlib.Core.Path.{◌≡◌, refl}
 use lib.ListN.{length}
 use native.Mathlib.Omega.{arith}
-use Rattle.evaluate.proofs.Filling.{FilledTo}
 use borrow.Author.Rules.{rules}
 use Rattle.evaluate.proofs.fill.Goals as goal
 

@@ -1,8 +1,5 @@
 -- `evaluate::fill` meets its contract: node by node. Assumes nothing.
-use Prim.Native.Nat.{◌-◌, ◌/◌}
-use mathlib.Core.Path.{◌≡◌, refl}
-use lib.ListN.{length}
-use native.Mathlib.Omega.{arith}
+use Prim.Native.Nat.{◌-◌}
 use Rattle.evaluate.proofs.Filling.{FilledTo}
 use Rattle.evaluate.proofs.fill.Given as goal
 

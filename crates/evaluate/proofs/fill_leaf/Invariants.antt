@@ -1,11 +1,8 @@
 -- `evaluate::fill_leaf` meets its contract: the loop counts down. Assumes nothing.
-use Prim.Native.Nat.{◌+◌, ◌-◌}
-use mathlib.Core.Path.{◌≡◌}
+use Prim.Native.Nat.{◌+◌}
 use mathlib.Core.Bool.{false}
 use lib.ListN.{length}
-use native.Mathlib.Omega.{arith}
 use Rattle.evaluate.specs.Memory.{leaf_step, Swept}
-use Rattle.evaluate.proofs.Sweeping.{sweep_begins, sweep_steps, leaf_flag}
 use Rattle.evaluate.proofs.fill_leaf.Given as goal
 
 abbrev pub invariant-loop-i : goal.invariant-loop-i

@@ -5,7 +5,6 @@ use mathlib.Core.Bool.{false}
 use lib.ListN.{length}
 use native.Mathlib.Omega.{arith}
 use Rattle.lasso.proofs.Letters.{after_small}
-use Rattle.evaluate.specs.Memory.{pair_step, Swept}
 use Rattle.evaluate.proofs.Sweeping.{sweep_begins, sweep_steps, pair_flag}
 use Rattle.evaluate.proofs.fill_pair.Goals as goal
 

@@ -1,12 +1,8 @@
 -- `evaluate::fill_pair` meets its contract: the loop counts down. Assumes nothing.
-use Prim.Native.Nat.{◌+◌, ◌-◌}
-use mathlib.Core.Path.{◌≡◌, refl}
+use Prim.Native.Nat.{◌+◌}
 use mathlib.Core.Bool.{false}
 use lib.ListN.{length}
-use native.Mathlib.Omega.{arith}
-use Rattle.lasso.proofs.Letters.{after_small}
 use Rattle.evaluate.specs.Memory.{pair_step, Swept}
-use Rattle.evaluate.proofs.Sweeping.{sweep_begins, sweep_steps, pair_flag}
 use Rattle.evaluate.proofs.fill_pair.Given as goal
 
 abbrev pub invariant-loop-i : goal.invariant-loop-i

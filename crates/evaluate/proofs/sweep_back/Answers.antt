@@ -2,8 +2,7 @@
 use Prim.Native.Nat.{◌-◌}
 use mathlib.Core.Path.{◌≡◌}
 use native.Mathlib.Omega.{arith}
-use Rattle.evaluate.specs.Memory.{round_step}
-use Rattle.evaluate.proofs.Sweeping.{round_flag, Carrying, carry_begins, carry_steps}
+use Rattle.evaluate.proofs.Sweeping.{round_flag, carry_begins, carry_steps}
 use Rattle.evaluate.proofs.sweep_back.Goals as goal
 
 pub loop-i-init : goal.loop-i-init

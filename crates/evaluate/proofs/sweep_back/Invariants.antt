@@ -1,9 +1,6 @@
 -- `evaluate::sweep_back` meets its contract: the loop counts down and carries its last flag. Assumes nothing.
-use Prim.Native.Nat.{◌-◌}
-use mathlib.Core.Path.{◌≡◌}
-use native.Mathlib.Omega.{arith}
 use Rattle.evaluate.specs.Memory.{round_step}
-use Rattle.evaluate.proofs.Sweeping.{round_flag, Carrying, carry_begins, carry_steps}
+use Rattle.evaluate.proofs.Sweeping.{Carrying}
 use Rattle.evaluate.proofs.sweep_back.Given as goal
 
 abbrev pub invariant-loop-i : goal.invariant-loop-i

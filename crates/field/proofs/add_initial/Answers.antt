@@ -1,9 +1,8 @@
 -- `field::add_initial` meets its contract: in each turn joins one initial state. Assumes nothing.
-use Prim.Native.Nat.{◌-◌}
 use native.Mathlib.Omega.{arith}
 use Rattle.image.proofs.Lookup.{initial_offset}
-use Rattle.field.proofs.Adding.{added_as, Adding, adding_begins, adding_steps, adding_ends}
-use Rattle.field.proofs.Adding.{named, named_none, named_more, named_all, initial_fits}
+use Rattle.field.proofs.Adding.{added_as, adding_begins, adding_steps, adding_ends}
+use Rattle.field.proofs.Adding.{named_none, named_more, named_all, initial_fits}
 use Rattle.field.proofs.add_initial.Goals as goal
 
 pub number_at-count-requires : goal.number_at-count-requires

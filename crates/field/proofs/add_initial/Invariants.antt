@@ -1,9 +1,7 @@
 -- `field::add_initial` meets its contract: in each turn joins one initial state. Assumes nothing.
 use Prim.Native.Nat.{◌-◌}
-use native.Mathlib.Omega.{arith}
-use Rattle.image.proofs.Lookup.{initial_offset}
-use Rattle.field.proofs.Adding.{added_as, Adding, adding_begins, adding_steps, adding_ends}
-use Rattle.field.proofs.Adding.{named, named_none, named_more, named_all, initial_fits}
+use Rattle.field.proofs.Adding.{Adding}
+use Rattle.field.proofs.Adding.{named}
 use Rattle.field.proofs.add_initial.Given as goal
 
 abbrev pub invariant-loop-i : goal.invariant-loop-i

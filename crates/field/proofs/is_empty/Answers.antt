@@ -1,9 +1,7 @@
 -- `field::is_empty` meets its contract: none of the states passed is in the set. Assumes nothing.
-use Prim.Native.Nat.{◌-◌}
 use mathlib.Core.Path.{sym, ◌∙◌}
 use native.Mathlib.Omega.{arith}
-use Rattle.field.specs.Sets.{in_set}
-use Rattle.field.proofs.Emptiness.{NoneYet, none_begins, none_steps, none_stops, none_ends}
+use Rattle.field.proofs.Emptiness.{none_begins, none_steps, none_stops, none_ends}
 use Rattle.field.proofs.is_empty.Goals as goal
 
 pub loop-q-init : goal.loop-q-init

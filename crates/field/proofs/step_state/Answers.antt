@@ -1,11 +1,11 @@
 -- `field::step_state` meets its contract: in each turn joins what one record leads to. Assumes nothing.
-use Prim.Native.Nat.{◌+◌, ◌-◌, ◌*◌, ◌<◌}
+use Prim.Native.Nat.{◌+◌, ◌*◌, ◌<◌}
 use lib.ListN.{length}
 use native.Mathlib.Omega.{arith}
 use Rattle.answer.specs.Bytes.{number_at}
 use Rattle.automaton.specs.Limits.{max_states}
-use Rattle.field.proofs.Adding.{added_as, Adding, adding_begins, adding_steps, adding_ends}
-use Rattle.field.proofs.Adding.{followed, followed_none, followed_more, followed_all, record_fits}
+use Rattle.field.proofs.Adding.{added_as, adding_begins, adding_steps, adding_ends}
+use Rattle.field.proofs.Adding.{followed_none, followed_more, followed_all, record_fits}
 use Rattle.field.proofs.step_state.Goals as goal
 use Rattle.field.proofs.step_state.Goals.{In-loop-i}
 

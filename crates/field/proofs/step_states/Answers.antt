@@ -1,12 +1,9 @@
 -- `field::step_states` meets its contract: in each turn joins what one state leads to. Assumes nothing.
-use Prim.Native.Nat.{ℕ, ◌+◌, ◌-◌, ◌*◌, ◌≤◌}
-use mathlib.Core.Path.{◌≡◌}
-use mathlib.Core.List.{List}
+use Prim.Native.Nat.{◌+◌, ◌*◌, ◌≤◌}
 use lib.ListN.{length}
 use native.Mathlib.Omega.{arith}
-use Rattle.image.specs.Lookup.{records_at}
 use Rattle.image.proofs.Lookup.{records_begin, records_next, records_end}
-use Rattle.field.proofs.Adding.{Adding, adding_begins, adding_steps, adding_ends}
+use Rattle.field.proofs.Adding.{adding_begins, adding_steps, adding_ends}
 use Rattle.field.proofs.Adding.{reached, reached_none, reached_more}
 use Rattle.field.proofs.step_states.Goals as goal
 use Rattle.field.proofs.step_states.Goals.{After-number_at}

@@ -3,8 +3,6 @@
 use native.Mathlib.Omega.{arith}
 use mathlib.Core.Path.{◌≡◌}
 use mathlib.Core.Bool.{Bool, not}
-use mathlib.Core.List.{List}
-use Prim.Native.Nat.{ℕ}
 use Rattle.formula.specs.Rule.{left_operand, right_operand, byte_fits, child_fits, left_byte_fits, right_byte_fits}
 use Rattle.formula.specs.Rule.{left_child_fits, right_child_fits}
 use Rattle.formula.proofs.Checks.{read_test, kind_unknown, left_unfit, right_unfit, left_above, right_above}

@@ -1,11 +1,8 @@
 -- `formula::check_places` meets its contract: the nodes before k are fine (`Passing`), and the first refusal is the
 -- lowest. Assumes nothing.
-use native.Mathlib.Omega.{arith}
 use Prim.Native.Nat.{◌-◌}
-use mathlib.Core.Path.{sym, ap, ◌∙◌}
 use Rattle.formula.specs.Rule.{place_check}
-use Rattle.answer.specs.Result.{answer}
-use Rattle.answer.proofs.Lowest.{Passing, pass_begins, pass_steps, pass_fails, pass_ends}
+use Rattle.answer.proofs.Lowest.{Passing}
 use Rattle.formula.proofs.check_places.Given as goal
 
 abbrev pub invariant-loop-k : goal.invariant-loop-k

@@ -1,8 +1,7 @@
 -- `formula::count_places` meets its contract: the counts are the places of the nodes passed (`Counting`), and those are
 -- too few to overflow. Assumes nothing.
 use native.Mathlib.Omega.{arith}
-use Prim.Native.Nat.{◌-◌}
-use Rattle.formula.proofs.Places.{Counting, count_begins, count_ends, left_fits, right_fits, count_steps}
+use Rattle.formula.proofs.Places.{count_begins, count_ends, left_fits, right_fits, count_steps}
 use Rattle.formula.proofs.count_places.Goals as goal
 
 pub loop-i-init : goal.loop-i-init

@@ -1,9 +1,8 @@
 -- `formula::count_untils` meets its contract: the count is that of the nodes passed (`CountingUntils`).
 -- Assumes nothing.
 use native.Mathlib.Omega.{arith}
-use Prim.Native.Nat.{◌-◌}
 use lib.Dec.{eqb}
-use Rattle.formula.proofs.Untils.{CountingUntils, one_at_most, untils_begin, untils_step, untils_end}
+use Rattle.formula.proofs.Untils.{one_at_most, untils_begin, untils_step, untils_end}
 use Rattle.formula.proofs.count_untils.Goals as goal
 
 pub loop-i-init : goal.loop-i-init

@@ -1,8 +1,7 @@
 -- `generalized::meet_all` meets its contract: the transitions from i on, met now, come to what all come to (`Meeting`).
 -- Assumes nothing.
 use native.Mathlib.Omega.{arith}
-use Prim.Native.Nat.{◌-◌}
-use Rattle.generalized.proofs.Meeting.{Meeting, meeting_begins, meeting_late, meeting_full, target_small}
+use Rattle.generalized.proofs.Meeting.{meeting_begins, meeting_late, meeting_full, target_small}
 use Rattle.generalized.proofs.Meeting.{meeting_steps, meeting_ends}
 use Rattle.generalized.proofs.meet_all.Goals as goal
 

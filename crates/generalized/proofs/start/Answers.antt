@@ -1,10 +1,7 @@
 -- `generalized::start` meets its contract: the first i sets of the cover are in (`Covering`).
 -- Assumes nothing.
-use Prim.Native.Nat.{◌-◌}
-use Rattle.formula.specs.Formula.{formula}
-use Rattle.term.specs.Term.{cover}
 use Rattle.generalized.proofs.Passed.{initial_few}
-use Rattle.generalized.proofs.Covering.{Covering, cover_begins, cover_steps, cover_ends}
+use Rattle.generalized.proofs.Covering.{cover_begins, cover_steps, cover_ends}
 use borrow.Author.Rules.{rules}
 use Rattle.generalized.proofs.start.Goals as goal
 

@@ -3,8 +3,7 @@
 use Prim.Native.Nat.{◌-◌}
 use Rattle.formula.specs.Formula.{formula}
 use Rattle.term.specs.Term.{cover}
-use Rattle.generalized.proofs.Passed.{initial_few}
-use Rattle.generalized.proofs.Covering.{Covering, cover_begins, cover_steps, cover_ends}
+use Rattle.generalized.proofs.Covering.{Covering}
 use Rattle.generalized.proofs.start.Given as goal
 
 abbrev pub invariant-loop-i : goal.invariant-loop-i

@@ -2,10 +2,9 @@
 -- Assumes nothing.
 use native.Mathlib.Omega.{arith}
 use borrow.Author.Tests.{not-true, not-false}
-use Prim.Native.Nat.{◌-◌}
 use mathlib.Core.Path.{refl, sym, ◌∙◌}
 use Rattle.generalized.proofs.Passed.{most_nodes, in_range}
-use Rattle.generalized.proofs.Products.{factor_of, Multiplying, multiply_begins, multiply_skips}
+use Rattle.generalized.proofs.Products.{factor_of, multiply_begins, multiply_skips}
 use Rattle.generalized.proofs.Products.{multiply_steps, multiply_over, multiply_ends}
 use Rattle.generalized.proofs.state_terms.Goals as goal
 

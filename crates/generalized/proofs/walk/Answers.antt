@@ -1,11 +1,11 @@
 -- `generalized::walk` meets its contract: the states before place are in the tables, the rest is left (`Walking`).
 -- Assumes nothing.
 use native.Mathlib.Omega.{arith}
-use Prim.Native.Nat.{◌-◌, ◌<◌}
+use Prim.Native.Nat.{◌<◌}
 use mathlib.Core.Path.{refl, sym, ◌∙◌}
 use Rattle.generalized.specs.Limits.{max_generalized_states}
 use Rattle.term.proofs.Sizes.{bytes_fine}
-use Rattle.generalized.proofs.Walking.{Walking, Space, walk_begins, walk_refused, walk_over, walk_steps, walk_ends}
+use Rattle.generalized.proofs.Walking.{walk_begins, walk_refused, walk_over, walk_steps, walk_ends}
 use Rattle.generalized.proofs.Sifting.{terms_sorted}
 use Rattle.generalized.proofs.walk.Goals as goal
 use Rattle.generalized.proofs.walk.Goals.{After-put_end}

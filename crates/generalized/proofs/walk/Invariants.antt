@@ -1,12 +1,8 @@
 -- `generalized::walk` meets its contract: the states before place are in the tables, the rest is left (`Walking`).
 -- Assumes nothing.
-use native.Mathlib.Omega.{arith}
-use Prim.Native.Nat.{◌-◌, ◌<◌}
-use mathlib.Core.Path.{refl, sym, ◌∙◌}
+use Prim.Native.Nat.{◌-◌}
 use Rattle.generalized.specs.Limits.{max_generalized_states}
-use Rattle.term.proofs.Sizes.{bytes_fine}
-use Rattle.generalized.proofs.Walking.{Walking, Space, walk_begins, walk_refused, walk_over, walk_steps, walk_ends}
-use Rattle.generalized.proofs.Sifting.{terms_sorted}
+use Rattle.generalized.proofs.Walking.{Walking, Space}
 use Rattle.generalized.proofs.walk.Given as goal
 
 abbrev pub invariant-loop-state : goal.invariant-loop-state

@@ -1,9 +1,8 @@
 -- `image::check_rests` meets its contract: the last bytes before q are right, and the transition records of q begin
 -- where those before them end (`Resting`). Assumes nothing.
 use native.Mathlib.Omega.{arith}
-use Prim.Native.Nat.{◌-◌}
 use Rattle.answer.proofs.Lowest.{pass_ends}
-use Rattle.image.proofs.Rests.{Resting, rest_begins, records_there, rest_fails, rest_steps}
+use Rattle.image.proofs.Rests.{rest_begins, records_there, rest_fails, rest_steps}
 use Rattle.image.proofs.check_rests.Goals as goal
 
 pub loop-q-init : goal.loop-q-init

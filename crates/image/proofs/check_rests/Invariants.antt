@@ -1,9 +1,7 @@
 -- `image::check_rests` meets its contract: the last bytes before q are right, and the transition records of q begin
 -- where those before them end (`Resting`). Assumes nothing.
-use native.Mathlib.Omega.{arith}
 use Prim.Native.Nat.{◌-◌}
-use Rattle.answer.proofs.Lowest.{pass_ends}
-use Rattle.image.proofs.Rests.{Resting, rest_begins, records_there, rest_fails, rest_steps}
+use Rattle.image.proofs.Rests.{Resting}
 use Rattle.image.proofs.check_rests.Given as goal
 
 abbrev pub invariant-loop-q : goal.invariant-loop-q

@@ -2,11 +2,10 @@
 -- (`Summing`).
 -- Assumes nothing.
 use native.Mathlib.Omega.{arith}
-use Prim.Native.Nat.{◌-◌}
 use mathlib.Core.Path.{sym, ap, ◌∙◌}
 use Rattle.image.specs.Memory.{pass_answer}
 use Rattle.image.proofs.Before.{handed_on}
-use Rattle.image.proofs.Sums.{Summing, sum_begins, sum_steps, sum_fails, sum_ends}
+use Rattle.image.proofs.Sums.{sum_begins, sum_steps, sum_fails, sum_ends}
 use Rattle.image.proofs.pass_states.Goals as goal
 
 pub loop-i-init : goal.loop-i-init

@@ -1,11 +1,11 @@
 -- `image::some_free_to` meets its contract: none of the records before i is a free one to the state (`Seeking`).
 -- Assumes nothing.
 use native.Mathlib.Omega.{arith}
-use Prim.Native.Nat.{◌-◌, ◌<◌}
+use Prim.Native.Nat.{◌<◌}
 use mathlib.Core.Path.{◌≡◌, refl, ap, sym, ◌∙◌}
 use mathlib.Core.List.{[]}
 use lib.ListN.{length, get_or, drop}
-use Rattle.sets.proofs.Seeking.{Seeking, seek_finds, seek_steps, seek_ends}
+use Rattle.sets.proofs.Seeking.{seek_finds, seek_steps, seek_ends}
 use Rattle.automaton.specs.Automaton.{free_to}
 use Rattle.image.specs.Reader.{transitions_from}
 use Rattle.image.specs.Lookup.{record_at}

@@ -1,16 +1,10 @@
 -- `image::some_free_to` meets its contract: none of the records before i is a free one to the state (`Seeking`).
 -- Assumes nothing.
-use native.Mathlib.Omega.{arith}
-use Prim.Native.Nat.{◌-◌, ◌<◌}
-use mathlib.Core.Path.{◌≡◌, refl, ap, sym, ◌∙◌}
-use mathlib.Core.List.{[]}
-use lib.ListN.{length, get_or, drop}
-use Rattle.sets.proofs.Seeking.{Seeking, seek_finds, seek_steps, seek_ends}
+use Prim.Native.Nat.{◌-◌}
+use lib.ListN.{drop}
+use Rattle.sets.proofs.Seeking.{Seeking}
 use Rattle.automaton.specs.Automaton.{free_to}
 use Rattle.image.specs.Reader.{transitions_from}
-use Rattle.image.specs.Lookup.{record_at}
-use Rattle.image.proofs.Tables.{transitions_length}
-use Rattle.image.proofs.Rests.{entry_at}
 use Rattle.image.proofs.some_free_to.Given as goal
 
 abbrev pub invariant-loop-i : goal.invariant-loop-i

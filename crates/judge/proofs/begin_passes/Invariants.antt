@@ -1,11 +1,9 @@
 -- `judge::begin_passes` meets its contract: each turn begins a pass in one state, if it is marked (`Gathers`).
 -- Assumes nothing.
-use native.Mathlib.Omega.{arith}
 use Prim.Native.Nat.{◌+◌, ◌-◌}
 use mathlib.Core.Path.{◌≡◌}
 use lib.ListN.{get_or}
-use Rattle.judge.proofs.Gathers.{Gathering, gather_begins, gather_steps, gather_ends}
-use Rattle.judge.proofs.Turns.{all_states}
+use Rattle.judge.proofs.Gathers.{Gathering}
 use Rattle.judge.proofs.begin_passes.Given as goal
 
 abbrev pub invariant-loop-q : goal.invariant-loop-q

@@ -1,11 +1,8 @@
 -- `judge::clear_words` meets its contract: the words before i are 0, as those of a list of zeros are (`Storing`).
 -- Assumes nothing.
-use native.Mathlib.Omega.{arith}
-use Prim.Native.Nat.{ℕ, ◌-◌}
-use lib.ListN.{replicate, length-replicate}
-use lib.Seq.{take_all}
-use Rattle.answer.proofs.Storing.{Storing, store_begins, store_steps, store_ends}
-use Rattle.answer.proofs.Zeros.{zeros_at}
+use Prim.Native.Nat.{◌-◌}
+use lib.ListN.{replicate}
+use Rattle.answer.proofs.Storing.{Storing}
 use Rattle.judge.proofs.clear_words.Given as goal
 
 abbrev pub invariant-loop-i : goal.invariant-loop-i

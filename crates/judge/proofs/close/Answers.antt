@@ -1,8 +1,7 @@
 -- `judge::close` meets its contract: runs are closed through the states before m (`Closing`).
 -- Assumes nothing.
 use native.Mathlib.Omega.{arith}
-use Prim.Native.Nat.{◌-◌}
-use Rattle.judge.proofs.Closure.{Closing, closing_begins, closing_steps, closing_ends}
+use Rattle.judge.proofs.Closure.{closing_begins, closing_steps, closing_ends}
 use Rattle.judge.proofs.close.Goals as goal
 
 pub loop-m-init : goal.loop-m-init

@@ -1,8 +1,7 @@
 -- `judge::close` meets its contract: runs are closed through the states before m (`Closing`).
 -- Assumes nothing.
-use native.Mathlib.Omega.{arith}
 use Prim.Native.Nat.{◌-◌}
-use Rattle.judge.proofs.Closure.{Closing, closing_begins, closing_steps, closing_ends}
+use Rattle.judge.proofs.Closure.{Closing}
 use Rattle.judge.proofs.close.Given as goal
 
 abbrev pub invariant-loop-m : goal.invariant-loop-m

@@ -1,11 +1,9 @@
 -- `judge::join_through` meets its contract: the rows before q are joined (`Gathers`) with the row by which runs go
 -- through m. Assumes nothing.
-use native.Mathlib.Omega.{arith}
 use Prim.Native.Nat.{◌-◌}
 use mathlib.Core.Path.{◌≡◌}
 use Rattle.judge.specs.Memory.{Via}
-use Rattle.judge.proofs.Gathers.{Gathering, gather_begins, gather_steps, gather_ends}
-use Rattle.judge.proofs.Closure.{turn_covered, turn_through, all_through}
+use Rattle.judge.proofs.Gathers.{Gathering}
 use Rattle.judge.proofs.join_through.Given as goal
 
 abbrev pub invariant-loop-q : goal.invariant-loop-q

@@ -1,10 +1,9 @@
 -- `judge::lift` meets its contract: each turn lifts one row if its state accepts (`Gathers`).
 -- Assumes nothing.
-use native.Mathlib.Omega.{arith}
 use Prim.Native.Nat.{◌-◌}
 use mathlib.Core.Path.{◌≡◌}
-use Rattle.judge.proofs.Gathers.{Gathering, gather_begins, gather_steps, gather_ends}
-use Rattle.judge.proofs.Turns.{Lifts, turn_lifts, all_lifted}
+use Rattle.judge.proofs.Gathers.{Gathering}
+use Rattle.judge.proofs.Turns.{Lifts}
 use Rattle.judge.proofs.lift.Given as goal
 
 abbrev pub invariant-loop-q : goal.invariant-loop-q

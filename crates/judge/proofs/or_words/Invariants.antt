@@ -1,8 +1,7 @@
 -- `judge::or_words` meets its contract: the loop has joined the first i words (`Oring`).
 -- Assumes nothing.
-use native.Mathlib.Omega.{arith}
 use Prim.Native.Nat.{◌-◌}
-use Rattle.judge.proofs.RunBits.{Oring, or_begins, or_steps, or_ends}
+use Rattle.judge.proofs.RunBits.{Oring}
 use Rattle.judge.proofs.or_words.Given as goal
 
 abbrev pub invariant-loop-i : goal.invariant-loop-i

@@ -2,12 +2,11 @@
 -- rows and in the other. Assumes nothing.
 use borrow.Author.Tests.{not-true, not-false}
 use native.Mathlib.Omega.{arith}
-use Prim.Native.Nat.{ℕ, ◌+◌, ◌-◌, ◌<◌}
+use Prim.Native.Nat.{ℕ, ◌+◌, ◌<◌}
 use mathlib.Core.Path.{◌≡◌}
-use lib.ListN.{length}
 use Rattle.automaton.specs.Automaton.{Step}
 use Rattle.image.specs.Lookup.{image_automaton}
-use Rattle.judge.proofs.Letters.{Running, run_begins, run_confined, run_steps, run_stops, run_ends}
+use Rattle.judge.proofs.Letters.{run_begins, run_confined, run_steps, run_stops, run_ends}
 use Rattle.image.proofs.Lookup.{step_target}
 use Rattle.judge.proofs.run.Goals as goal
 use Rattle.judge.proofs.run.Goals.{Start}

@@ -1,10 +1,8 @@
 -- `judge::some_accepting` meets its contract: no state before q accepts (`Missing`).
 -- Assumes nothing.
 use native.Mathlib.Omega.{arith}
-use Prim.Native.Nat.{◌-◌}
 use mathlib.Core.Path.{refl}
-use Rattle.image.specs.Lookup.{AcceptingByte}
-use Rattle.judge.proofs.Decisions.{Missing, miss_begins, miss_steps, miss_finds, miss_ends, holds_so, holds_not}
+use Rattle.judge.proofs.Decisions.{miss_begins, miss_steps, miss_finds, miss_ends, holds_so, holds_not}
 use Rattle.judge.proofs.some_accepting.Goals as goal
 
 pub loop-q-init : goal.loop-q-init

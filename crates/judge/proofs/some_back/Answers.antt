@@ -1,10 +1,7 @@
 -- `judge::some_back` meets its contract: no state before q comes back to itself (`Missing`).
 -- Assumes nothing.
 use native.Mathlib.Omega.{arith}
-use Prim.Native.Nat.{◌+◌, ◌-◌}
-use Rattle.judge.specs.Limits.{met_bit}
-use Rattle.judge.specs.Memory.{Token}
-use Rattle.judge.proofs.Decisions.{Missing, miss_begins, miss_steps, miss_finds, miss_ends}
+use Rattle.judge.proofs.Decisions.{miss_begins, miss_steps, miss_finds, miss_ends}
 use Rattle.judge.proofs.some_back.Goals as goal
 
 pub loop-q-init : goal.loop-q-init

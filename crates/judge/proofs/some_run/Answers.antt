@@ -2,10 +2,8 @@
 -- Assumes nothing.
 use borrow.Author.Tests.{not-false}
 use native.Mathlib.Omega.{arith}
-use Prim.Native.Nat.{ℕ, ◌-◌}
 use mathlib.Core.Path.{refl}
-use Rattle.judge.specs.Memory.{Token}
-use Rattle.judge.proofs.Decisions.{Missing, miss_begins, miss_steps, miss_ends, holds_not, true_false}
+use Rattle.judge.proofs.Decisions.{miss_begins, miss_steps, miss_ends, holds_not, true_false}
 use Rattle.judge.proofs.some_run.Goals as goal
 
 pub loop-q-init : goal.loop-q-init

@@ -1,11 +1,8 @@
 -- `judge::some_run` meets its contract: no run stands in a state before q (`Missing`).
 -- Assumes nothing.
-use borrow.Author.Tests.{not-false}
-use native.Mathlib.Omega.{arith}
 use Prim.Native.Nat.{ℕ, ◌-◌}
-use mathlib.Core.Path.{refl}
 use Rattle.judge.specs.Memory.{Token}
-use Rattle.judge.proofs.Decisions.{Missing, miss_begins, miss_steps, miss_ends, holds_not, true_false}
+use Rattle.judge.proofs.Decisions.{Missing}
 use Rattle.judge.proofs.some_run.Given as goal
 
 abbrev pub invariant-loop-q : goal.invariant-loop-q

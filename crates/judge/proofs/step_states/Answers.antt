@@ -1,10 +1,8 @@
 -- `judge::step_states` meets its contract: each turn adds what one state adds (`Gathers`), and the records of the next
 -- state follow. Assumes nothing.
 use native.Mathlib.Omega.{arith}
-use Prim.Native.Nat.{◌-◌}
 use Rattle.judge.proofs.Gathers.{gather_begins, gather_steps, gather_ends}
 use Rattle.image.proofs.Lookup.{records_begin}
-use Rattle.judge.proofs.Turns.{Stepping}
 use Rattle.judge.proofs.step_states.Goals as goal
 
 pub loop-q-init : goal.loop-q-init

@@ -1,10 +1,10 @@
 -- `judge::take_transitions` meets its contract: each turn adds what one record of the state adds (`Gathers`), and the
 -- records are those of the state's transitions. Assumes nothing.
 use native.Mathlib.Omega.{arith}
-use Prim.Native.Nat.{◌+◌, ◌-◌, ◌*◌, ◌≤◌}
+use Prim.Native.Nat.{◌+◌, ◌*◌, ◌≤◌}
 use lib.ListN.{length}
-use Rattle.judge.proofs.Gathers.{Gathering, gather_begins, gather_steps, gather_ends}
-use Rattle.judge.proofs.Turns.{ByRecords, all_records, target_fits, records_fit}
+use Rattle.judge.proofs.Gathers.{gather_begins, gather_steps, gather_ends}
+use Rattle.judge.proofs.Turns.{all_records, target_fits, records_fit}
 use Rattle.judge.proofs.take_transitions.Goals as goal
 use Rattle.judge.proofs.take_transitions.Goals.{Start}
 

@@ -1,10 +1,8 @@
 -- `judge::take_transitions` meets its contract: each turn adds what one record of the state adds (`Gathers`), and the
 -- records are those of the state's transitions. Assumes nothing.
-use native.Mathlib.Omega.{arith}
-use Prim.Native.Nat.{◌+◌, ◌-◌, ◌*◌, ◌≤◌}
-use lib.ListN.{length}
-use Rattle.judge.proofs.Gathers.{Gathering, gather_begins, gather_steps, gather_ends}
-use Rattle.judge.proofs.Turns.{ByRecords, all_records, target_fits, records_fit}
+use Prim.Native.Nat.{◌-◌}
+use Rattle.judge.proofs.Gathers.{Gathering}
+use Rattle.judge.proofs.Turns.{ByRecords}
 use Rattle.judge.proofs.take_transitions.Given as goal
 
 abbrev pub invariant-loop-i : goal.invariant-loop-i

@@ -1,8 +1,6 @@
 -- `lasso::all_remain` meets its contract: the bits of the letters before i are joined (`Joining`). Assumes nothing.
 use native.Mathlib.Omega.{arith}
-use Prim.Native.Nat.{◌-◌}
-use lib.ListN.{length}
-use Rattle.lasso.proofs.Skipping.{Joining, join_begins, join_steps, join_ends}
+use Rattle.lasso.proofs.Skipping.{join_begins, join_steps, join_ends}
 use Rattle.lasso.proofs.all_remain.Goals as goal
 
 pub loop-i-init : goal.loop-i-init

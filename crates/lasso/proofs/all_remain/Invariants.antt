@@ -1,8 +1,7 @@
 -- `lasso::all_remain` meets its contract: the bits of the letters before i are joined (`Joining`). Assumes nothing.
-use native.Mathlib.Omega.{arith}
 use Prim.Native.Nat.{◌-◌}
 use lib.ListN.{length}
-use Rattle.lasso.proofs.Skipping.{Joining, join_begins, join_steps, join_ends}
+use Rattle.lasso.proofs.Skipping.{Joining}
 use Rattle.lasso.proofs.all_remain.Given as goal
 
 abbrev pub invariant-loop-i : goal.invariant-loop-i

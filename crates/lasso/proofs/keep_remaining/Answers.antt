@@ -1,10 +1,9 @@
 -- `lasso::keep_remaining` meets its contract: of the letters before i those that remain are kept (`Keeping`).
 -- Assumes nothing.
 use native.Mathlib.Omega.{arith}
-use Prim.Native.Nat.{◌-◌}
 use mathlib.Core.List.{[], ◌∷◌}
-use lib.ListN.{get_or, length}
-use Rattle.lasso.proofs.Skipping.{remaining_fewer, Keeping, keep_begins, keep_steps, keep_ends}
+use lib.ListN.{get_or}
+use Rattle.lasso.proofs.Skipping.{remaining_fewer, keep_begins, keep_steps, keep_ends}
 use Rattle.lasso.proofs.keep_remaining.Goals as goal
 
 pub loop-i-init : goal.loop-i-init

@@ -1,10 +1,8 @@
 -- `lasso::keep_remaining` meets its contract: of the letters before i those that remain are kept (`Keeping`).
 -- Assumes nothing.
-use native.Mathlib.Omega.{arith}
 use Prim.Native.Nat.{◌-◌}
-use mathlib.Core.List.{[], ◌∷◌}
-use lib.ListN.{get_or, length}
-use Rattle.lasso.proofs.Skipping.{remaining_fewer, Keeping, keep_begins, keep_steps, keep_ends}
+use lib.ListN.{length}
+use Rattle.lasso.proofs.Skipping.{Keeping}
 use Rattle.lasso.proofs.keep_remaining.Given as goal
 
 abbrev pub invariant-loop-i : goal.invariant-loop-i

@@ -1,11 +1,9 @@
 -- `lasso::some_remains` meets its contract: none of the letters before i remains. Assumes nothing.
-use native.Mathlib.Omega.{arith}
 use Prim.Native.Nat.{◌-◌, ◌≤◌}
 use mathlib.Core.Path.{◌≡◌}
 use mathlib.Core.List.{[]}
 use lib.ListN.{length, take}
 use Rattle.lasso.specs.Lasso.{remaining}
-use Rattle.lasso.proofs.Skipping.{none_begins, none_steps, none_ends, one_found}
 use Rattle.lasso.proofs.some_remains.Given as goal
 
 abbrev pub invariant-loop-i : goal.invariant-loop-i

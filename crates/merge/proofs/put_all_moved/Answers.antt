@@ -1,10 +1,9 @@
 -- `merge::put_all_moved` meets its contract: the nodes before i are stored (`Moving`).
 -- Assumes nothing.
 use native.Mathlib.Omega.{arith}
-use Prim.Native.Nat.{◌-◌}
 use Rattle.formula.specs.Rule.{release_kind}
 use Rattle.formula.proofs.Accepted.{formed_fine}
-use Rattle.merge.proofs.Moving.{Moving, moving_begins, moving_steps, moving_ends}
+use Rattle.merge.proofs.Moving.{moving_begins, moving_steps, moving_ends}
 use Rattle.merge.proofs.put_all_moved.Goals as goal
 
 pub loop-i-init : goal.loop-i-init

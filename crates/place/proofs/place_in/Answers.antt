@@ -1,9 +1,7 @@
 -- `place::place_in` meets its contract: the search passes letter by letter. Assumes nothing.
-use Prim.Native.Nat.{◌-◌}
 use mathlib.Core.Path.{sym, ◌∙◌}
-use lib.ListN.{length}
 use native.Mathlib.Omega.{arith}
-use Rattle.place.proofs.Standing.{passed, Seeking, seek_begins, seek_finds, seek_steps, seek_ends}
+use Rattle.place.proofs.Standing.{passed, seek_begins, seek_finds, seek_steps, seek_ends}
 use Rattle.place.proofs.place_in.Goals as goal
 
 pub loop-at-init : goal.loop-at-init

@@ -1,12 +1,11 @@
 -- `profile::check_no_untils` meets its contract: the nodes before n are no untils (`Passing`), and the first refusal is
 -- the lowest. Assumes nothing.
-use Prim.Native.Nat.{◌-◌}
 use mathlib.Core.Path.{sym, ap, ◌∙◌}
 use native.Mathlib.Omega.{arith}
 use Rattle.answer.specs.Result.{answer}
-use Rattle.answer.proofs.Lowest.{Passing, pass_begins, pass_steps, pass_fails, pass_ends}
+use Rattle.answer.proofs.Lowest.{pass_begins, pass_steps, pass_fails, pass_ends}
 use Rattle.image.proofs.Before.{handed_on}
-use Rattle.profile.specs.Profile.{until_at, no_untils}
+use Rattle.profile.specs.Profile.{no_untils}
 use Rattle.profile.proofs.check_no_untils.Goals as goal
 
 pub loop-n-init : goal.loop-n-init

@@ -4,8 +4,7 @@ use Prim.Native.Nat.{◌*◌, ◌-◌, ◌<◌}
 use lib.ListN.{length}
 use Rattle.image.specs.Reader.{counts_at}
 use Rattle.image.proofs.Lookup.{initial_offset, initial_inside}
-use Rattle.rest.specs.Memory.{buffers}
-use Rattle.rest.proofs.Filling.{Filling, numbered, fills_ready, begin_holds, begin_steps, begin_ends}
+use Rattle.rest.proofs.Filling.{fills_ready, begin_holds, begin_steps, begin_ends}
 use borrow.Author.Rules.{rules}
 use Rattle.rest.proofs.begin.Goals as goal
 use Rattle.rest.proofs.begin.Goals.{After-number_at}

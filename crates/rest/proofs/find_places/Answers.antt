@@ -1,10 +1,10 @@
 -- `rest::find_places` meets its contract: each turn stores where the records of one state begin (`Places`).
 -- Assumes nothing.
 use native.Mathlib.Omega.{arith}
-use Prim.Native.Nat.{◌+◌, ◌*◌, ◌-◌, ◌≤◌}
+use Prim.Native.Nat.{◌+◌, ◌*◌, ◌≤◌}
 use lib.ListN.{length}
 use Rattle.image.proofs.Lookup.{records_end}
-use Rattle.rest.proofs.Places.{Placing, placing_begins, placing_steps, placing_ends}
+use Rattle.rest.proofs.Places.{placing_begins, placing_steps, placing_ends}
 use borrow.Author.Rules.{rules}
 use Rattle.rest.proofs.find_places.Goals as goal
 use Rattle.rest.proofs.find_places.Goals.{After-number_at}

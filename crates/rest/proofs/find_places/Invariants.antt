@@ -1,10 +1,7 @@
 -- `rest::find_places` meets its contract: each turn stores where the records of one state begin (`Places`).
 -- Assumes nothing.
-use native.Mathlib.Omega.{arith}
-use Prim.Native.Nat.{◌+◌, ◌*◌, ◌-◌, ◌≤◌}
-use lib.ListN.{length}
-use Rattle.image.proofs.Lookup.{records_end}
-use Rattle.rest.proofs.Places.{Placing, placing_begins, placing_steps, placing_ends}
+use Prim.Native.Nat.{◌-◌}
+use Rattle.rest.proofs.Places.{Placing}
 use Rattle.rest.proofs.find_places.Given as goal
 
 abbrev pub invariant-loop-q : goal.invariant-loop-q

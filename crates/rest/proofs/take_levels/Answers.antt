@@ -1,16 +1,15 @@
 -- `rest::take_levels` meets its contract: each turn takes a level (`Levels`); the pairs taken grow, and are at most as
 -- many as there are bytes. Assumes nothing.
 use native.Mathlib.Omega.{arith}
-use Prim.Native.Nat.{◌+◌, ◌*◌, ◌-◌, ◌≤◌}
+use Prim.Native.Nat.{◌+◌, ◌*◌, ◌≤◌}
 use mathlib.Core.Path.{◌≡◌, refl, sym, ◌∙◌}
 use mathlib.Core.List.{[]}
 use mathlib.Core.Bool.{true≢false}
 use lib.ListN.{length}
 use Rattle.automaton.specs.Limits.{max_states}
-use Rattle.image.specs.Lookup.{image_automaton}
 use Rattle.image.proofs.Accepted.{readable_in_range}
 use Rattle.image.proofs.Lookup.{automaton_states}
-use Rattle.rest.proofs.Levels.{Turning, turning_steps, blank_marks, fresh_shows, before_first}
+use Rattle.rest.proofs.Levels.{turning_steps, blank_marks, fresh_shows, before_first}
 use Rattle.rest.proofs.Levels.{before_few, before_none}
 use borrow.Author.Rules.{rules}
 use Rattle.rest.proofs.take_levels.Goals as goal

@@ -1,15 +1,14 @@
 -- `rest::take_state` meets its contract: each turn follows one record (`Filling`), and the records are those of the
 -- state's transitions. Assumes nothing.
 use native.Mathlib.Omega.{arith}
-use Prim.Native.Nat.{ℕ, ◌+◌, ◌*◌, ◌-◌, ◌<◌, ◌≤◌}
+use Prim.Native.Nat.{ℕ, ◌+◌, ◌*◌, ◌<◌, ◌≤◌}
 use mathlib.Core.Path.{◌≡◌}
 use lib.ListN.{get_or, length}
 use Rattle.answer.specs.Bytes.{number_at}
 use Rattle.image.specs.Reader.{counts_at}
 use Rattle.image.specs.Lookup.{records_at}
 use Rattle.image.proofs.Lookup.{records_end}
-use Rattle.rest.specs.Memory.{buffers}
-use Rattle.rest.proofs.Filling.{Filling, led_to, fills_ready, target_below}
+use Rattle.rest.proofs.Filling.{fills_ready, target_below}
 use Rattle.rest.proofs.Filling.{follows_begin, follows_step, follows_end, follows_full}
 use borrow.Author.Rules.{rules}
 use Rattle.rest.proofs.take_state.Goals as goal

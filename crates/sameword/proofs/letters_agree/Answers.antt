@@ -1,11 +1,10 @@
 -- `sameword::letters_agree` meets its contract: both lassos are followed, and the letters before i agree (`Following`).
 -- Assumes nothing.
 use native.Mathlib.Omega.{arith}
-use Prim.Native.Nat.{◌-◌}
 use mathlib.Core.Path.{◌≡◌, sym, ◌∙◌}
 use Rattle.lasso.specs.Lasso.{letter}
 use Rattle.sameword.proofs.Agreement.{agree_not, stands_within, stands_letter}
-use Rattle.sameword.proofs.Agreement.{Following, follow_begins, follow_steps, follow_ends}
+use Rattle.sameword.proofs.Agreement.{follow_begins, follow_steps, follow_ends}
 use Rattle.sameword.proofs.letters_agree.Goals as goal
 use Rattle.sameword.proofs.letters_agree.Goals.{After-letter_at-in-loop-i}
 

@@ -1,11 +1,7 @@
 -- `sameword::letters_agree` meets its contract: both lassos are followed, and the letters before i agree (`Following`).
 -- Assumes nothing.
-use native.Mathlib.Omega.{arith}
 use Prim.Native.Nat.{◌-◌}
-use mathlib.Core.Path.{◌≡◌, sym, ◌∙◌}
-use Rattle.lasso.specs.Lasso.{letter}
-use Rattle.sameword.proofs.Agreement.{agree_not, stands_within, stands_letter}
-use Rattle.sameword.proofs.Agreement.{Following, follow_begins, follow_steps, follow_ends}
+use Rattle.sameword.proofs.Agreement.{Following}
 use Rattle.sameword.proofs.letters_agree.Given as goal
 
 abbrev pub invariant-loop-i : goal.invariant-loop-i

@@ -1,11 +1,6 @@
 -- `sets::insert_at` meets its contract: what is held in hand, put at j, gives the list with t at i. Assumes nothing.
-use native.Mathlib.Omega.{arith}
-use native.Mathlib.Numerals.{add-one}
 use Prim.Native.Nat.{◌-◌}
-use mathlib.Core.Path.{◌≡◌, refl, ◌∙◌}
-use lib.ListN.{length-set}
-use Rattle.sets.proofs.Lists.{Shifting, put_step}
-use Rattle.sets.proofs.Stores.{full, shifted}
+use Rattle.sets.proofs.Lists.{Shifting}
 use Rattle.sets.proofs.insert_at.Given as goal
 
 abbrev pub invariant-loop-j : goal.invariant-loop-j

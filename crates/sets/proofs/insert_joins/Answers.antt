@@ -1,7 +1,6 @@
 -- `sets::insert_joins` meets its contract: the loop counts down, so it is a right fold (`Folds`). Assumes nothing.
 use native.Mathlib.Omega.{arith}
-use Rattle.sets.specs.Sets.{insert_joins_n, join_conflicts_n}
-use Rattle.sets.proofs.Folds.{Joining, fold_joins, gather_joins, joining_begins, joining_steps, joining_ends}
+use Rattle.sets.proofs.Folds.{fold_joins, gather_joins, joining_begins, joining_steps, joining_ends}
 use borrow.Author.Rules.{rules}
 use Rattle.sets.proofs.insert_joins.Goals as goal
 

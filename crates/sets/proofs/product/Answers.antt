@@ -1,8 +1,6 @@
 -- `sets::product` meets its contract: the loop counts down, so it is a right fold (`Folds`). Assumes nothing.
 use native.Mathlib.Omega.{arith}
-use lib.ListN.{take}
-use Rattle.sets.specs.Sets.{insert_product_n, product_conflicts_n}
-use Rattle.sets.proofs.Folds.{Joining, fold_product, gather_product, joining_begins, joining_steps, joining_ends}
+use Rattle.sets.proofs.Folds.{fold_product, gather_product, joining_begins, joining_steps, joining_ends}
 use borrow.Author.Rules.{rules}
 use Rattle.sets.proofs.product.Goals as goal
 

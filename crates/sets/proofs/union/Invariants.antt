@@ -1,7 +1,6 @@
 -- `sets::union` meets its contract: the loop counts down, so it is a right fold (`Folds`). Assumes nothing.
-use native.Mathlib.Omega.{arith}
 use Rattle.sets.specs.Sets.{union_n}
-use Rattle.sets.proofs.Folds.{Folding, fold_union, fold_begins, fold_steps, fold_ends}
+use Rattle.sets.proofs.Folds.{Folding}
 use Rattle.sets.proofs.union.Given as goal
 
 abbrev pub invariant-loop-i : goal.invariant-loop-i

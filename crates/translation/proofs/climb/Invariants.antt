@@ -1,10 +1,8 @@
 -- `translation::climb` meets its contract: what is left to count from j comes to what there was from the start.
 -- Assumes nothing.
 use Prim.Native.Nat.{◌-◌}
-use mathlib.Core.Path.{◌≡◌, refl, sym, ◌∙◌}
-use borrow.Author.Tests.{not-true, not-false}
+use mathlib.Core.Path.{◌≡◌}
 use Rattle.translation.specs.Memory.{climb_n}
-use Rattle.translation.proofs.Levels.{climb_steps, climb_stops, climb_ends}
 use Rattle.translation.proofs.climb.Given as goal
 
 abbrev pub invariant-loop-j : goal.invariant-loop-j

@@ -1,15 +1,13 @@
 -- `translation::explore_pairs` meets its contract: the walk from a pair on comes to what the whole walk does, and the
 -- rows before it are written (`Pairing`). Assumes nothing.
 use native.Mathlib.Omega.{arith}
-use Prim.Native.Nat.{ℕ, ◌-◌, ◌/◌, ◌<◌}
+use Prim.Native.Nat.{ℕ, ◌/◌, ◌<◌}
 use mathlib.Core.Path.{◌≡◌, sym, ◌∙◌}
-use lib.ListN.{length, get_or, take}
-use Rattle.automaton.specs.Limits.{max_states}
-use Rattle.generalized.specs.Explore.{walked}
-use Rattle.translation.specs.Memory.{level_places, code_walk}
+use lib.ListN.{length, get_or}
+use Rattle.translation.specs.Memory.{level_places}
 use Rattle.translation.proofs.Within.{state_inside, OwnRow, own_row}
 use Rattle.translation.proofs.Meeting.{among}
-use Rattle.translation.proofs.Pairing.{Pairing, row_begins, row_fits, row_leads, row_room}
+use Rattle.translation.proofs.Pairing.{row_begins, row_fits, row_leads, row_room}
 use Rattle.translation.proofs.Pairing.{pairing_begins, pairing_ends, pairing_stops, pairing_steps}
 use Rattle.translation.proofs.explore_pairs.Goals as goal
 use Rattle.translation.proofs.explore_pairs.Goals.{After-row_end-end, In-loop-pair}

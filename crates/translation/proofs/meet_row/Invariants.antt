@@ -1,16 +1,11 @@
 -- `translation::meet_row` meets its contract: the targets from i on, met now, come to what all come to, and the records
 -- before i are written (`Meeting`). Assumes nothing.
-use native.Mathlib.Omega.{arith}
-use Prim.Native.Nat.{ℕ, ◌-◌}
-use mathlib.Core.Path.{sym, ◌∙◌}
+use Prim.Native.Nat.{◌-◌}
 use mathlib.Core.List.{map}
 use lib.ListN.{length, take}
-use Rattle.sets.proofs.Members.{at_in}
 use Rattle.generalized.specs.Explore.{meet_all}
 use Rattle.translation.specs.Memory.{code_numbering, target_n}
-use Rattle.translation.proofs.Levels.{target_inside}
-use Rattle.translation.proofs.Meeting.{Meeting, meeting_begins, meeting_ends, meeting_full, meeting_steps}
-use Rattle.translation.proofs.Meeting.{record_room, number_small}
+use Rattle.translation.proofs.Meeting.{Meeting}
 use Rattle.translation.proofs.meet_row.Given as goal
 
 abbrev pub invariant-loop-i : goal.invariant-loop-i

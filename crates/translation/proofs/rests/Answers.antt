@@ -1,13 +1,11 @@
 -- `translation::rests` meets its contract: by the level, and then none of the transitions before i stays (`Seeking`).
 -- Assumes nothing.
 use native.Mathlib.Omega.{arith}
-use Prim.Native.Nat.{ℕ, ◌-◌}
+use Prim.Native.Nat.{ℕ}
 use mathlib.Core.Path.{refl}
-use lib.ListN.{length}
 use borrow.Author.Tests.{eq-eqb, ne_eqb}
 use Rattle.sets.proofs.Members.{at_in}
-use Rattle.sets.proofs.Seeking.{Seeking, seek_finds, seek_steps, seek_ends}
-use Rattle.translation.specs.Memory.{stays_n}
+use Rattle.sets.proofs.Seeking.{seek_finds, seek_steps, seek_ends}
 use Rattle.translation.proofs.rests.Goals as goal
 
 pub returns-then-level_of-r : goal.returns-then-level_of-r

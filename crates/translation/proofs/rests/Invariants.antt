@@ -1,12 +1,8 @@
 -- `translation::rests` meets its contract: by the level, and then none of the transitions before i stays (`Seeking`).
 -- Assumes nothing.
-use native.Mathlib.Omega.{arith}
-use Prim.Native.Nat.{ℕ, ◌-◌}
-use mathlib.Core.Path.{refl}
+use Prim.Native.Nat.{◌-◌}
 use lib.ListN.{length}
-use borrow.Author.Tests.{eq-eqb, ne_eqb}
-use Rattle.sets.proofs.Members.{at_in}
-use Rattle.sets.proofs.Seeking.{Seeking, seek_finds, seek_steps, seek_ends}
+use Rattle.sets.proofs.Seeking.{Seeking}
 use Rattle.translation.specs.Memory.{stays_n}
 use Rattle.translation.proofs.rests.Given as goal
 

@@ -1,9 +1,8 @@
 -- `translation::start_pairs` meets its contract: the first i codes are numbered (`Starting`).
 -- Assumes nothing.
 use native.Mathlib.Omega.{arith}
-use Prim.Native.Nat.{◌-◌}
 use mathlib.Core.Path.{sym, ◌∙◌}
-use Rattle.translation.proofs.Codes.{Starting, start_begins, start_new, start_steps, start_ends}
+use Rattle.translation.proofs.Codes.{start_begins, start_new, start_steps, start_ends}
 use Rattle.translation.proofs.start_pairs.Goals as goal
 
 pub loop-i-init : goal.loop-i-init

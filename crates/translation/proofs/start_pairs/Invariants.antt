@@ -1,9 +1,7 @@
 -- `translation::start_pairs` meets its contract: the first i codes are numbered (`Starting`).
 -- Assumes nothing.
-use native.Mathlib.Omega.{arith}
 use Prim.Native.Nat.{◌-◌}
-use mathlib.Core.Path.{sym, ◌∙◌}
-use Rattle.translation.proofs.Codes.{Starting, start_begins, start_new, start_steps, start_ends}
+use Rattle.translation.proofs.Codes.{Starting}
 use Rattle.translation.proofs.start_pairs.Given as goal
 
 abbrev pub invariant-loop-i : goal.invariant-loop-i

@@ -1,9 +1,8 @@
 -- `translation::write_initial` meets its contract: the first i numbers are written (`Initials`).
 -- Assumes nothing.
 use native.Mathlib.Omega.{arith}
-use Prim.Native.Nat.{◌-◌}
 use mathlib.Core.Path.{◌∙◌}
-use Rattle.translation.proofs.Writing.{Initials, initials_begin, initials_step, initials_end}
+use Rattle.translation.proofs.Writing.{initials_begin, initials_step, initials_end}
 use Rattle.translation.proofs.write_initial.Goals as goal
 
 pub loop-i-init : goal.loop-i-init

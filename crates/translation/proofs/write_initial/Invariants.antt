@@ -1,9 +1,7 @@
 -- `translation::write_initial` meets its contract: the first i numbers are written (`Initials`).
 -- Assumes nothing.
-use native.Mathlib.Omega.{arith}
 use Prim.Native.Nat.{◌-◌}
-use mathlib.Core.Path.{◌∙◌}
-use Rattle.translation.proofs.Writing.{Initials, initials_begin, initials_step, initials_end}
+use Rattle.translation.proofs.Writing.{Initials}
 use Rattle.translation.proofs.write_initial.Given as goal
 
 abbrev pub invariant-loop-i : goal.invariant-loop-i
