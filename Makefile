@@ -26,11 +26,11 @@ PREFIX ?= /usr/local
 into = $(DESTDIR)$(PREFIX)
 library = target/staticlib/liboffice.a
 
-$(library): crates.txt $(shell find crates -name '*.rt' -o -name '*.antt')
-	@rt staticlib office
+$(library): crates.txt $(shell find crates -path '*/out' -prune -o \( -name '*.rt' -o -name '*.antt' \) -print)
+	@tests/build library
 
 programs:
-	@rt check showwatch judgeplan
+	@tests/build showwatch judgeplan
 
 install: $(library) programs
 	@install -d "$(into)/include" "$(into)/lib/pkgconfig" "$(into)/bin" "$(into)/share/doc/zimboralo"
