@@ -12,7 +12,7 @@ import pathlib
 import re
 import sys
 
-DECLARED = re.compile(r"^(\s*)(?:(?:abbrev|unfoldable|pub|opaque)\s+)*([a-z][\w\-'\u2080-\u2089]*)\s+:\s")
+DECLARED = re.compile(r"^(\s*)(?:(?:abbrev|unfoldable|pub|opaque)\s+)*([a-z][\w\-'\u2080-\u2089]*)\s+:(?:\s|$)")
 NAME = re.compile(r"(?<![\w\-'.])[A-Za-z][\w\-'\u2080-\u2089]*")
 FIELD = re.compile(r"(?<=\.)[A-Za-z][\w\-'\u2080-\u2089]*")
 RECORD = re.compile(r"^(\s*)(?:pub\s+)?record\s")
@@ -41,7 +41,7 @@ def declared():
     """Every declared name, and those of records' fields."""
     names, fields = set(), set()
     for path in files("*/specs/**/*.antt", "*/proofs/**/*.antt"):
-        if path.name == "Proof.antt":
+        if path.name in ("Proof.antt", "Answers.antt", "Invariants.antt"):
             continue
         record = None
         for line in path.read_text(encoding="utf-8").splitlines():

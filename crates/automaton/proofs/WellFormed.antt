@@ -34,7 +34,7 @@ pub record WellFormed (a : Automaton) : Type 0 where
   pub inside : (i : ℕ) → i < length a.initial → get_or a.initial i 0 < length a.states
   pub rising : (i : ℕ) → suc i < length a.initial → get_or a.initial i 0 < get_or a.initial (suc i) 0
 
--- so there are at most maxOfState transitions for each state
+-- so there are at most max_of_state transitions for each state
 pub few_together : (n : ℕ) (ss : List State) → ((s : State) → In s ss → WellFormedState n s)
     → transition_count ss ≤ max_of_state * length ss
 unfolding transition_count

@@ -22,7 +22,7 @@ pub record Automaton : Type 0 where
 abbrev pub no_state : State
 no_state = record { accepting = false; transitions = [] }
 
--- whether a transition can be taken at a letter: the letter has every proposition of must and none of mustNot (01,
+-- whether a transition can be taken at a letter: the letter has every proposition of must and none of must_not (01,
 -- First walk and second walk, sentence 6)
 abbrev pub reads : Transition → (letter : ℕ) → Bool
 reads t a = eqb (bit_or t.must a) a && eqb (bit_and t.must_not a) 0

@@ -26,7 +26,7 @@ state_bytes count accepting rests = two_bytes count ++ (cond accepting 1 0 ∷ (
 unfoldable pub state_record : (number : ℕ) → State → List ℕ
 state_record number s = state_bytes (length s.transitions) s.accepting (at_rest number s)
 
--- a transition, in 4 bytes: its propositions, must before mustNot, then the number of its target (01, The image,
+-- a transition, in 4 bytes: its propositions, must before must_not, then the number of its target (01, The image,
 -- sentence 6)
 abbrev pub transition_bytes : (must must_not target : ℕ) → List ℕ
 transition_bytes must must_not target = must ∷ (must_not ∷ two_bytes target)

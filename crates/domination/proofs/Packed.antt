@@ -1,5 +1,5 @@
 -- Domination among terms and among packed terms: both fall in rank and can be followed on, and packing carries one to
--- the other. Assumes of packed terms that their must and mustNot are bytes.
+-- the other. Assumes of packed terms that their must and must_not are bytes.
 use mathlib.Core.Path.{◌≡◌, refl, sym, ap}
 use mathlib.Core.Bool.{Bool, true, false, not, ◌&&◌, and-eq-true_iff, and_assoc, false≢true}
 use mathlib.Core.List.{List, map}

@@ -1,4 +1,4 @@
--- How the table of flags lies in memory: row k begins at place k * maxLetters and has a place for each position.
+-- How the table of flags lies in memory: row k begins at place k * max_letters and has a place for each position.
 use Rattle.std.specs.Prelude.{ℕ, ◌+◌, ◌-◌, ◌*◌, ◌/◌, ◌%◌, ◌^◌, ◌<◌, ◌≤◌, ◌≡◌, List, [], Bool, true, false, cond, not, ◌&&◌, ◌||◌, get_or, length, take, drop, eqb}
 use Rattle.lasso.specs.Lasso.{letter, after, max_letters}
 use Rattle.formula.specs.Rule.{node_count}

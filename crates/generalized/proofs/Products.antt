@@ -33,7 +33,7 @@ use Rattle.generalized.specs.Generalized.{times, partial_product, partial_confli
 use Rattle.generalized.specs.Memory.{Factor, ProductRoom, Multiplied, StateProduct}
 use Rattle.generalized.proofs.Passed.{few, in_range}
 
--- ts are terms whose must and mustNot are bytes
+-- ts are terms whose must and must_not are bytes
 abbrev pub Packed : List Term → Type 0
 Packed ts = Numbers of_terms ts (map pack ts)
 

@@ -32,7 +32,7 @@ state_terms rule state = partial_product rule state (node_count rule)
 unfoldable pub transitions : List ℕ → ℕ → List Term
 transitions rule state = undominated (dominates rule) (state_terms rule state)
 
--- 21, at the state that is walked: its product, or a partial one on the way, has more than maxProduct terms, counted
+-- 21, at the state that is walked: its product, or a partial one on the way, has more than max_product terms, counted
 -- before any is dropped (01, First walk and second walk, sentence 4; Numbers that come from the state, 21; R-1,
 -- sentence 5)
 unfoldable pub product_check : List ℕ → (place state : ℕ) → Check

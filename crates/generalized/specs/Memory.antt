@@ -54,7 +54,7 @@ pub record StateProduct (rule : List ℕ) (state : ℕ) (items : List ℕ) (r : 
 
 -- ---- a transition in the table
 
--- four bytes, from the top: the number of its target, the untils that it fulfils, must and mustNot
+-- four bytes, from the top: the number of its target, the untils that it fulfils, must and must_not
 abbrev pub kept_n : (target untils must must_not : ℕ) → ℕ
 kept_n target untils must must_not = ((target * 256 + untils) * 256 + must) * 256 + must_not
 

@@ -112,7 +112,7 @@ module _ (codes : List ℕ) where
   abbrev pub entry_of : (look : ℕ → Written) → ℕ → List ℕ
   entry_of look c = entry number (subject look c) (sense c)
 
--- the codes of a rule: those of the walk from the root as it stands, all below codeEnd
+-- the codes of a rule: those of the walk from the root as it stands, all below code_end
 abbrev pub codes_of : List ℕ → List ℕ
 codes_of rule = walk (written_tree rule (root rule)) false
 

@@ -11,7 +11,7 @@ use lib.Seq.{take_all, take_at}
 use borrow.Author.Tests.{le-leb, lt-leb}
 use Rattle.judge.specs.Judge.{judged}
 use Rattle.report.specs.Report.{report_bytes, Reporting, reporting, reported, SameVerdict}
-use Rattle.report.proofs.SameReport.{report_length, same_verdict_same_report, same-verdict-all-same}
+use Rattle.report.proofs.SameReport.{report_length, same_verdict_same_report, same_verdict_all_same}
 use Rattle.office.specs.Packing.{pack_refusal, packed_result}
 use Rattle.office.specs.Sending.{pack_report, sent}
 
@@ -66,10 +66,10 @@ module _ (number : ℕ) (image stem cycle work lent otherImage otherStem otherCy
   )
 
   -- and where the same bytes are lent, so many or so few, every one of them is left the same
-  pub same-verdict-all-sent-same :
+  pub same_verdict_all_sent_same :
       SameVerdict (judged image stem cycle work).answer (judged otherImage otherStem otherCycle work).answer
       → sent number image stem cycle work lent ≡ sent number otherImage otherStem otherCycle work lent
   unfolding sent
-  same-verdict-all-sent-same alike =
+  same_verdict_all_sent_same alike =
       ap (λ (r : Reporting). pack_report (leb report_bytes (length lent)) r work lent)
-      (same-verdict-all-same number image stem cycle work otherImage otherStem otherCycle alike)
+      (same_verdict_all_same number image stem cycle work otherImage otherStem otherCycle alike)

@@ -69,11 +69,11 @@ module _ (number : ℕ) (image stem cycle work otherImage otherStem otherCycle :
   same_verdict_same_report otherWork alike = ap (composed number) (byte_alike alike)
 
   -- and where the same working bytes are lent, these are left the same as well
-  pub same-verdict-all-same :
+  pub same_verdict_all_same :
       SameVerdict (judged image stem cycle work).answer (judged otherImage otherStem otherCycle work).answer
       → reported number image stem cycle work ≡ reported number otherImage otherStem otherCycle work
   unfolding reported judged
-  same-verdict-all-same alike =
+  same_verdict_all_same alike =
       ap₂ reporting (same_verdict_same_report work alike)
       (left_alike stem cycle otherStem otherCycle work (judgeable image stem cycle work)
       (judgeable otherImage otherStem otherCycle work) alike)

@@ -1,4 +1,4 @@
--- A count with places: from a lent array to a value, and the one list that may have a member more than maxTerms.
+-- A count with places: from a lent array to a value, and the one list that may have a member more than max_terms.
 -- Assumes nothing.
 use mathlib.Core.Path.{◌≡◌}
 use mathlib.Core.List.{List, [], ◌∷◌}
@@ -18,7 +18,7 @@ carries_of l h = record { count = omega (arith, h.count); items = λ le. h.items
 pub carried : {capacity n : ℕ} {xs ws : List ℕ} → Carries capacity xs n ws → n ≤ capacity → take n xs ≡ ws
 carried h le = h.items (omega (arith, h.count))
 
--- own with the first k of ys, at most maxTerms of them, has its places
+-- own with the first k of ys, at most max_terms of them, has its places
 module _ (xs ys : List ℕ) (n k own : ℕ) (is : Stores xs n (union_n (take k ys) (own ∷ []))) (le : k ≤ max_terms) (l : length xs ≡ suc max_terms) where
   pub more_fits : n ≤ length xs
   more_fits = count_fits is (omega (arith, union_shorter ltb (take k ys) (own ∷ []), length-take k ys))

@@ -1,4 +1,4 @@
--- What a descent finds of a node, from what it finds of the children: a count above maxTerms is handed on.
+-- What a descent finds of a node, from what it finds of the children: a count above max_terms is handed on.
 -- Assumes nothing.
 use mathlib.Core.Path.{◌≡◌, refl, sym, ◌∙◌}
 use mathlib.Core.List.{List, map}

@@ -74,7 +74,7 @@ module _ {A : Type 0} {less : A → A → Bool} {joined : A → A → A} {consis
   product_numbers none s = none
   product_numbers (more x g r) s = joins_numbers x g s (product_numbers r s)
 
--- ---- terms: must and mustNot are bytes
+-- ---- terms: must and must_not are bytes
 pub record Bytes (t : Term) : Type 0 where
   pub must : t.must < 256
   pub must_not : t.must_not < 256

@@ -1,4 +1,4 @@
--- A number is one term, and a term whose must and mustNot are bytes is read back from its number.
+-- A number is one term, and a term whose must and must_not are bytes is read back from its number.
 -- Assumes nothing.
 use mathlib.Core.Path.{◌≡◌, refl}
 use mathlib.Core.Logic.{inl, inr}

@@ -15,7 +15,7 @@ use Rattle.term.specs.Term
 
 -- ---- a term as one number, a node's terms as one value
 
--- obligations, must and mustNot from the top: the order of terms is the order of their numbers
+-- obligations, must and must_not from the top: the order of terms is the order of their numbers
 abbrev pub pack : Term → ℕ
 pack t = t.obligations * 65536 + t.must * 256 + t.must_not
 
@@ -56,7 +56,7 @@ abbrev pub IsNode : Terms → Formula → Type 0
 IsNode r f = IsJoined r (map pack (terms f)) (Term.conflicts f)
 
 -- r is made from a and b, the values of the two sides of node n of that kind: its terms and conflicts from theirs, and
--- of an and, an or its cover from theirs; if the count of a or b is above maxTerms, then so is that of r
+-- of an and, an or its cover from theirs; if the count of a or b is above max_terms, then so is that of r
 pub record FromChildren (kind n : ℕ) (a b r : Terms) : Type 0 where
   pub handed_on : r.count ≤ max_terms → (a.count ≤ max_terms) × (b.count ≤ max_terms)
   pub has_terms : a.count ≤ max_terms → b.count ≤ max_terms → (p : ℕ) (f g : Formula) → InRange f → InRange g
@@ -103,7 +103,7 @@ pub data Reaches (rule : List ℕ) : (n k : ℕ) → Type 0 where
 abbrev pub Over : (rule : List ℕ) (n : ℕ) → Type 0
 Over rule n = lowest (size_check rule) (suc n) ≡ fine → ⊥
 
--- r has the numbers ws of node n, or its count is above maxTerms and a node up to n is a 20
+-- r has the numbers ws of node n, or its count is above max_terms and a node up to n is a 20
 pub record Found (rule : List ℕ) (n : ℕ) (r : Terms) (ws : List ℕ) : Type 0 where
   pub within : r.count ≤ max_terms → IsPacked r ws
   pub over : max_terms < r.count → Over rule n
@@ -151,7 +151,7 @@ Tabulates rule (Refused number place) table = lowest (size_check rule) (node_cou
 
 -- ---- how many sets a cover has at most, without the sets
 
--- the most sets that the cover of a formula can have by those of its parts; all above maxTerms are one more than that
+-- the most sets that the cover of a formula can have by those of its parts; all above max_terms are one more than that
 unfoldable pub cover_bound : Formula → ℕ
 cover_bound bottom = 1
 cover_bound top = 1

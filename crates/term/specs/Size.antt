@@ -7,7 +7,7 @@ use Rattle.formula.specs.Formula.{tree}
 use Rattle.term.specs.Limits.{max_terms}
 use Rattle.term.specs.Term.{cover, terms}
 
--- 20, at place n: the terms of node n, or the sets of its cover, are more than maxTerms (01, Numbers that come from
+-- 20, at place n: the terms of node n, or the sets of its cover, are more than max_terms (01, Numbers that come from
 -- the state, 20)
 unfoldable pub size_check : List ℕ → ℕ → Check
 size_check rule n =

@@ -20,7 +20,7 @@ term must must_not obligations = record { must = must; must_not = must_not; obli
 abbrev pub less_then : (x y : ℕ) → Bool → Bool
 less_then x y rest = cond (ltb x y) true (cond (ltb y x) false rest)
 
--- the order of terms: obligations come first, must decides between equal ones, mustNot last (01, First walk and
+-- the order of terms: obligations come first, must decides between equal ones, must_not last (01, First walk and
 -- second walk, sentence 5)
 abbrev pub less : Term → Term → Bool
 less x y = less_then x.obligations y.obligations (less_then x.must y.must (ltb x.must_not y.must_not))

@@ -1,4 +1,4 @@
--- `term::bound_pair` meets its contract, kind by kind; two numbers up to one more than maxTerms have a product that fits.
+-- `term::bound_pair` meets its contract, kind by kind; two numbers up to one more than max_terms have a product that fits.
 -- Assumes nothing.
 use native.Mathlib.Omega.{arith}
 use native.Mathlib.Nat.{mul-le-mul}
