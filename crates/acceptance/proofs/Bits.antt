@@ -29,7 +29,9 @@ module _ (test : ℕ → Bool) where
   below : (d n j : ℕ) → j < n → (d + 2 ^ n) / 2 ^ j % 2 ≡ d / 2 ^ j % 2
   below d n j lt =
       let e : n ≡ (n - suc j) + suc j = omega arith in
-      let power : 2 ^ n ≡ 2 ^ (n - suc j) * 2 * 2 ^ j = ap (λ (k : ℕ). 2 ^ k) e ∙ pow-add 2 (n - suc j) (suc j) ∙ rw (pow-succ' 2 j) (sym (mul_assoc (2 ^ (n - suc j)) 2 (2 ^ j))) in
+      let power : 2 ^ n ≡ 2 ^ (n - suc j) * 2 * 2 ^ j =
+      ap (λ (k : ℕ). 2 ^ k) e ∙ pow-add 2 (n - suc j) (suc j) ∙ rw (pow-succ' 2 j)
+      (sym (mul_assoc (2 ^ (n - suc j)) 2 (2 ^ j))) in
       rw (power, add-mul-div_right d (2 ^ (n - suc j) * 2) (pow_pos j)) (omega arith)
 
   bits_has : (n j : ℕ) → j < n → has (bits_of test n) j ≡ test j
@@ -37,7 +39,8 @@ module _ (test : ℕ → Bool) where
   bits_has zero j lt = absurd (omega arith)
   bits_has (suc n) j lt = go (ℕ_discrete j n) (test n) refl (λ l. bits_has n j l)
     where
-      go : Dec (j ≡ n) → (b : Bool) → test n ≡ b → (j < n → has (bits_of test n) j ≡ test j) → has (bits_of test n + cond b (2 ^ n) 0) j ≡ test j
+      go : Dec (j ≡ n) → (b : Bool) → test n ≡ b → (j < n → has (bits_of test n) j ≡ test j)
+          → has (bits_of test n + cond b (2 ^ n) 0) j ≡ test j
       go (yes e) true t rest =
           rw (e, t, add-div_right (bits_of test n) (pow_pos n), div-eq_of_lt (bits_small test n))
       go (yes e) false t rest =
@@ -49,10 +52,17 @@ module _ (test : ℕ → Bool) where
           rw none (rest (omega arith))
 
 -- bit j of the byte says whether until j + 1 is fulfilled
-pub fulfilment_has : (rule : List ℕ) (t : Term) (j : ℕ) → j < until_count rule → has (fulfilment rule t) j ≡ fulfils_next rule j t
+pub fulfilment_has : (rule : List ℕ) (t : Term) (j : ℕ) → j < until_count rule
+    → has (fulfilment rule t) j ≡ fulfils_next rule j t
 unfolding fulfilment
 fulfilment_has rule t j lt = bits_has (λ k. fulfils_next rule k t) (until_count rule) j lt
 
 pub fulfilment_byte : (rule : List ℕ) → checked rule ≡ fine → (t : Term) → fulfilment rule t < 256
 unfolding fulfilment
-fulfilment_byte rule passed t = omega (arith, bits_small (λ k. fulfils_next rule k t) (until_count rule), pow_mono {i = until_count rule} {j = 8} (untils_few rule passed))
+fulfilment_byte rule passed t =
+    omega (
+      arith,
+      bits_small (λ k. fulfils_next rule k t) (until_count rule),
+      pow_mono {i = until_count rule} {j = 8}
+          (untils_few rule passed),
+    )

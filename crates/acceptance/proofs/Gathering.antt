@@ -27,7 +27,8 @@ untils_below rule zero k lt = absurd (omega arith)
 untils_below rule (suc n) k lt =
     go (eqb (kind_at rule n) 7) lt (dec_lt k (length (untils rule n))) (λ l. untils_below rule n k l)
   where
-    go : (b : Bool) → k < length (untils rule n ++ cond b (n ∷ []) []) → Dec (k < length (untils rule n)) → (k < length (untils rule n) → get_or (untils rule n) k 0 < n)
+    go : (b : Bool) → k < length (untils rule n ++ cond b (n ∷ []) []) → Dec (k < length (untils rule n))
+        → (k < length (untils rule n) → get_or (untils rule n) k 0 < n)
         → get_or (untils rule n ++ cond b (n ∷ []) []) k 0 < suc n
     go b h (yes l) below =
         rw (get_or-append (untils rule n) (cond b (n ∷ []) []) 0 k l) (omega (arith, below l))
@@ -42,7 +43,8 @@ untils_rise rule i zero le =
     rw e (omega arith)
 untils_rise rule i (suc n) le = pick (ℕ_discrete i (suc n)) (λ l. untils_rise rule i n l)
   where
-    pick : Dec (i ≡ suc n) → (i ≤ n → length (untils rule i) ≤ length (untils rule n)) → length (untils rule i) ≤ length (untils rule n ++ own_until (kind_at rule n) n)
+    pick : Dec (i ≡ suc n) → (i ≤ n → length (untils rule i) ≤ length (untils rule n))
+        → length (untils rule i) ≤ length (untils rule n ++ own_until (kind_at rule n) n)
     pick (yes e) below = rw e (omega arith)
     pick (no other) below =
         let l : length (untils rule i) ≤ length (untils rule n) = below (omega arith) in
@@ -60,7 +62,8 @@ module _ (rule : List ℕ) (n : ℕ) (nodes : List ℕ) where
   unfolding untils
   gather_begins room = record { within = omega arith; room = room; counted = refl; gathered = refl }
 
-  pub gather_ends : (count i : ℕ) → n ≡ node_count rule → n ≤ i → Gathering rule n nodes count i → IsUntils rule nodes count
+  pub gather_ends : (count i : ℕ) → n ≡ node_count rule → n ≤ i → Gathering rule n nodes count i
+      → IsUntils rule nodes count
   gather_ends count i e le inv =
       let same : i ≡ node_count rule = omega (arith, inv.within) in
       record { counted = rw same at inv.counted; gathered = rw same at inv.gathered }
@@ -75,7 +78,8 @@ module _ (rule : List ℕ) (n : ℕ) (nodes : List ℕ) where
         let l = untils_rise rule (suc i) (node_count rule) (omega arith) in
         omega (arith, next_count, untils_few rule passed, inv.room)
 
-    pub gather_steps : (after : List ℕ) (more : ℕ) → length after ≡ length nodes → take more after ≡ take count nodes ++ own_until kind i → more ≡ count + length (own_until kind i)
+    pub gather_steps : (after : List ℕ) (more : ℕ) → length after ≡ length nodes
+        → take more after ≡ take count nodes ++ own_until kind i → more ≡ count + length (own_until kind i)
         → Gathering rule n after more (i + 1)
     unfolding untils
     gather_steps after more size taken counted = record {

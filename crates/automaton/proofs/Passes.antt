@@ -21,7 +21,8 @@ pub record AutomatonOver (X : Type 0) : Type 1 where
 
 -- the states of an automaton as numbers
 abbrev pub numbered : Automaton → AutomatonOver ℕ
-numbered automaton = record { Initial = λ k. In k automaton.initial; Step = Step automaton; Accepting = Accepts automaton }
+numbered automaton =
+    record { Initial = λ k. In k automaton.initial; Step = Step automaton; Accepting = Accepts automaton }
 
 -- an endless run on w that accepts again and again
 pub record Endless (w : ℕ → ℕ) {X : Type 0} (automaton : AutomatonOver X) (p : ℕ → X) : Type 0 where
@@ -45,8 +46,28 @@ pub record Pass (s n : ℕ) (w : ℕ → ℕ) {X : Type 0} (automaton : Automato
 pub pass_iff : (a : Automaton) (stem cycle : List ℕ)
     → AcceptingPass a stem cycle ↔ Pass (length stem) (length cycle) (letter stem cycle) (numbered a)
 pass_iff a stem cycle = (
-  λ p. record { at = p.at; first = p.first; second = p.second; later = p.later; begins = p.begins; steps = p.steps; same = p.same; accepts = p.accepts },
-  λ p. record { at = p.at; first = p.first; second = p.second; later = p.later; begins = p.begins; steps = p.steps; same = p.same; accepts = p.accepts },
+  λ p. record {
+    at = p.at;
+    first = p.first;
+    second = p.second;
+    later = p.later;
+    begins = p.begins;
+    steps = p.steps;
+    same
+        = p.same;
+    accepts = p.accepts;
+  },
+  λ p. record {
+    at = p.at;
+    first = p.first;
+    second = p.second;
+    later = p.later;
+    begins = p.begins;
+    steps = p.steps;
+    same
+        = p.same;
+    accepts = p.accepts;
+  },
 )
 
 -- ---- from an endless run through states below N to a pass
@@ -134,7 +155,9 @@ module _ (s n : ℕ) (pos : 0 < n) (w : ℕ → ℕ) (round : (i : ℕ) → s �
   unfolding back turn Turned
   turned i = go (ℕ_discrete (suc (back i)) end)
     where
-      go : (d : Dec (suc (back i) ≡ end)) → ((suc (back i) ≡ end) × (turn (suc (back i)) d ≡ start)) ⊎ ((suc (back i) ≡ end → ⊥) × (turn (suc (back i)) d ≡ suc (back i)))
+      go : (d : Dec (suc (back i) ≡ end))
+          → ((suc (back i) ≡ end) × (turn (suc (back i)) d ≡ start)) ⊎ ((suc (back i) ≡ end
+          → ⊥) × (turn (suc (back i)) d ≡ suc (back i)))
       go (yes e) = inl (e, refl)
       go (no e) = inr (e, refl)
 
@@ -231,7 +254,8 @@ module _ (s n : ℕ) (pos : 0 < n) (w : ℕ → ℕ) (round : (i : ℕ) → s �
       begins = unfold back in l.begins;
       steps = λ i.
           subst (automaton.Step (l.at (back i)) (w i)) (back_step i)
-          (subst (λ (x : ℕ). automaton.Step (l.at (back i)) x (l.at (suc (back i)))) (same_letter i) (l.steps (back i) (back_lt i)));
+          (subst (λ (x : ℕ). automaton.Step (l.at (back i)) x (l.at (suc (back i)))) (same_letter i)
+          (l.steps (back i) (back_lt i)));
       again = accepts_again;
     },
   )

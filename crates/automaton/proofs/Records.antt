@@ -41,10 +41,12 @@ module _ {A : Type 0} (bytes_of : A → List ℕ) (size : ℕ) (sized : (x : A) 
       rw (append_assoc, n) (get_or-append (bytes_of x) (records bytes_of xs ++ rest) 0 j (omega (arith, sized x)))
   byte_at none (x ∷ xs) rest (suc i) j k l m e =
       let n : k ≡ length (bytes_of x) + (size * i + j) = omega (arith, mul-suc size i, sized x) in
-      rw (append_assoc, n) (get_or-append-add (bytes_of x) (records bytes_of xs ++ rest) (size * i + j) 0 ∙ byte_at none xs rest i j (size * i + j) (omega arith) m refl)
+      rw (append_assoc, n) (get_or-append-add (bytes_of x) (records bytes_of xs ++ rest) (size * i + j) 0 ∙ byte_at none
+      xs rest i j (size * i + j) (omega arith) m refl)
 
   -- the number whose first byte that is
-  pub number_at_lem : (none : A) (xs : List A) (rest : List ℕ) (i j k : ℕ) → i < length xs → j + 1 < size → k ≡ size * i + j
+  pub number_at_lem : (none : A) (xs : List A) (rest : List ℕ) (i j k : ℕ) → i < length xs → j + 1 < size
+      → k ≡ size * i + j
       → number_at (records bytes_of xs ++ rest) k ≡ number_at (bytes_of (get_or xs i none)) j
   number_at_lem none xs rest i j k l m e =
       ap₂ (λ (x y : ℕ). x + 256 * y) (byte_at none xs rest i j k l (omega arith) e)

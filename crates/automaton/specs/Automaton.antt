@@ -1,6 +1,7 @@
 -- A Büchi automaton (document 01's watcher) with labels on its transitions, and its runs. A rule's automaton and an
 -- image's records are both such a value.
-use Rattle.std.specs.Prelude.{ℕ, suc, ◌+◌, ◌*◌, ◌<◌, ◌≤◌, ◌≡◌, List, [], ◌↔◌, Bool, true, false, ◌&&◌, get_or, length, eqb}
+use Rattle.std.specs.Prelude.{ℕ, suc, ◌+◌, ◌*◌, ◌<◌, ◌≤◌, ◌≡◌, List, [], ◌↔◌, Bool, true, false, ◌&&◌, get_or, length}
+use Rattle.std.specs.Prelude.{eqb}
 use Rattle.std.specs.Int.Bits.{bit_and, bit_or}
 use Rattle.sets.specs.Sets.{In, any}
 use Rattle.lasso.specs.Lasso.{letter}

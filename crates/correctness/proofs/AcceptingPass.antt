@@ -44,7 +44,8 @@ pass_iff_satisfied_by rule stem cycle listing represents a e pos =
     a e
 
 -- the same, translated by the first walk's transitions
-pub form_pass_iff_satisfied : (rule stem cycle : List ℕ) (a : Automaton) → translation rule ≡ accepted a → 0 < length cycle
+pub form_pass_iff_satisfied : (rule stem cycle : List ℕ) (a : Automaton) → translation rule ≡ accepted a
+    → 0 < length cycle
     → AcceptingPass a stem cycle ↔ Satisfies rule stem cycle
 form_pass_iff_satisfied rule stem cycle a e pos =
     pass_iff_satisfied_by rule stem cycle (transitions rule) (transitions_represent rule) a

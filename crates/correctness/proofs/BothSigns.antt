@@ -125,13 +125,17 @@ module _ (P Q : ℕ → Type 0) where
     partial_signed state zero le = own_signed 0
     partial_signed state (suc n) le = go (has state n) (partial_signed state n (omega arith))
       where
-        go : (b : Bool) → All Signed (partial_product rule state n) → All Signed (times b (partial_product rule state n) (terms (tree rule n)))
-        go true ih = product_signed (partial_product rule state n) (terms (tree rule n)) ih (terms_signed (tree rule n) (trees n le))
+        go : (b : Bool) → All Signed (partial_product rule state n)
+            → All Signed (times b (partial_product rule state n) (terms (tree rule n)))
+        go true ih =
+            product_signed (partial_product rule state n) (terms (tree rule n)) ih
+            (terms_signed (tree rule n) (trees n le))
         go false ih = ih
 
     join_signed : {states : List ℕ} {t u : Term} → Join rule states t u → Signed (joined t u)
     join_signed (of_node n t u inside l m) =
-        joined_signed t u (first_signed (tree rule n) (trees n inside) t l) (second_signed (tree rule n) (trees n inside) u m)
+        joined_signed t u (first_signed (tree rule n) (trees n inside) t l)
+        (second_signed (tree rule n) (trees n inside) u m)
     join_signed (of_state state n t u is inside owed l m) =
         joined_signed t u (partial_signed state n (omega arith) t l) (terms_signed (tree rule n) (trees n inside) u m)
 
@@ -142,7 +146,8 @@ module _ (P Q : ℕ → Type 0) where
         (signed.plain p both.0, signed.negated p both.1)
 
   -- in the tree of a node
-  signs_build : (k n l : ℕ) (f g : Formula) → (k ≡ 2 → P l) → (k ≡ 3 → Q l) → (3 < k → Signs f) → (3 < k → Signs g) → Signs (build k n l f g)
+  signs_build : (k n l : ℕ) (f g : Formula) → (k ≡ 2 → P l) → (k ≡ 3 → Q l) → (3 < k → Signs f) → (3 < k → Signs g)
+      → Signs (build k n l f g)
   unfolding Signs
   signs_build zero n l f g p q a b = tt
   signs_build (suc zero) n l f g p q a b = tt
@@ -172,11 +177,14 @@ module _ (rule : List ℕ) (passed : Rule.checked rule ≡ fine) where
 
       pick : Dec (3 < kind_at rule n) → SignsIn n
       pick (yes inner) =
-          pair_in rule n inside node (Signs (Stands rule 2) (Stands rule 3)) (kind_at rule n) refl (left_at rule n) (right_at rule n) refl refl inner
-          (signs_build (Stands rule 2) (Stands rule 3) (kind_at rule n) n (left_at rule n) _ _ (stands 2) (stands 3) (λ _. below (left_at rule n) (node.left inner)) (λ _. below (right_at rule n) (node.right inner)))
+          pair_in rule n inside node (Signs (Stands rule 2) (Stands rule 3)) (kind_at rule n) refl (left_at rule n)
+          (right_at rule n) refl refl inner
+          (signs_build (Stands rule 2) (Stands rule 3) (kind_at rule n) n (left_at rule n) _ _ (stands 2) (stands 3)
+          (λ _. below (left_at rule n) (node.left inner)) (λ _. below (right_at rule n) (node.right inner)))
       pick (no leaf) =
           leaf_in rule n inside node (Signs (Stands rule 2) (Stands rule 3)) (kind_at rule n) refl (left_at rule n) refl
-          (λ f g. signs_build (Stands rule 2) (Stands rule 3) (kind_at rule n) n (left_at rule n) f g (stands 2) (stands 3) (λ inner. absurd (leaf inner)) (λ inner. absurd (leaf inner)))
+          (λ f g. signs_build (Stands rule 2) (Stands rule 3) (kind_at rule n) n (left_at rule n) f g (stands 2)
+          (stands 3) (λ inner. absurd (leaf inner)) (λ inner. absurd (leaf inner)))
 
   signs_to : (bound n : ℕ) → n < bound → n < node_count rule → SignsIn n
   signs_to zero n lt inside = absurd (omega arith)

@@ -13,7 +13,8 @@ use lib.Dec.{ltb}
 use borrow.Author.Tests.{eq-eqb}
 use Rattle.sets.specs.Sets.{union, In}
 use Rattle.formula.specs.Rule.{root, node_count}
-use Rattle.formula.specs.Formula.{Formula, bottom, top, proposition, negatedProposition, conjunction, disjunction, next, until, release, tree, formula}
+use Rattle.formula.specs.Formula.{Formula, bottom, top, proposition, negatedProposition, conjunction, disjunction, next}
+use Rattle.formula.specs.Formula.{until, release, tree, formula}
 use Rattle.formula.specs.Satisfaction.{Holds}
 use Rattle.sets.specs.Bits.{has, Has}
 use Rattle.term.specs.Term.{Term, term, less, joined, consistent, product, cover, terms}
@@ -21,13 +22,15 @@ use Rattle.generalized.specs.Generalized.{times, partial_product}
 use Rattle.sets.proofs.Bits.{has_dec, has_true, has_false, not_has, or_has, zero_has, has_pow, and_disjoint}
 use Rattle.sets.proofs.Members.{in_map}
 use Rattle.correctness.proofs.Members.{in_union, in_product, ltb_equal, less_equal}
-use Rattle.correctness.proofs.Runs.{Reads, Within, within_trans, within_l, within_r, Fulfilling, Known, Fits, Run, Fair, Dominates, TermOf}
+use Rattle.correctness.proofs.Runs.{Reads, Within, within_trans, within_l, within_r, Fulfilling, Known, Fits, Run, Fair}
+use Rattle.correctness.proofs.Runs.{Dominates, TermOf}
 use Rattle.correctness.proofs.Trees.{tree_fits}
 use Rattle.correctness.proofs.Obligations.{terms_own}
 
 -- what reads a letter is not at odds with itself
 reads_consistent : (t : Term) (letter : ℕ) → Reads t letter → consistent t ≡ true
-reads_consistent t letter r = eq-eqb (bit_and t.must t.must_not) 0 (and_disjoint t.must t.must_not (λ n p q. r.clear n q (r.set n p)))
+reads_consistent t letter r =
+    eq-eqb (bit_and t.must t.must_not) 0 (and_disjoint t.must t.must_not (λ n p q. r.clear n q (r.set n p)))
 
 reads_joined : (x y : Term) (letter : ℕ) → Reads x letter → Reads y letter → Reads (joined x y) letter
 reads_joined x y letter p q = record {
@@ -39,7 +42,8 @@ reads_free : (d letter : ℕ) → Reads (term 0 0 d) letter
 reads_free d letter = record { set = λ n h. absurd (zero_has h); clear = λ n h s. zero_has h }
 
 -- until and release, taken apart
-until_goes_on : (w : ℕ → ℕ) (n : ℕ) (a b : Formula) (i : ℕ) → Holds w (until n a b) i → (Holds w b i → ⊥) → Holds w a i × Holds w (until n a b) (suc i)
+until_goes_on : (w : ℕ → ℕ) (n : ℕ) (a b : Formula) (i : ℕ) → Holds w (until n a b) i → (Holds w b i → ⊥)
+    → Holds w a i × Holds w (until n a b) (suc i)
 until_goes_on w n a b i (k, l, hb, f) no-b = go (ℕ_discrete i k)
   where
     go : Dec (i ≡ k) → Holds w a i × Holds w (until n a b) (suc i)
@@ -49,14 +53,17 @@ until_goes_on w n a b i (k, l, hb, f) no-b = go (ℕ_discrete i k)
 release_right : (w : ℕ → ℕ) (n : ℕ) (a b : Formula) (i : ℕ) → Holds w (release n a b) i → Holds w b i
 release_right w n a b i h = elim (h i (omega arith)) [ inl x ↦ x | inr x ↦ absurd (omega arith) ]
 
-release_goes_on : (w : ℕ → ℕ) (n : ℕ) (a b : Formula) (i : ℕ) → Holds w (release n a b) i → (Holds w a i → ⊥) → Holds w (release n a b) (suc i)
+release_goes_on : (w : ℕ → ℕ) (n : ℕ) (a b : Formula) (i : ℕ) → Holds w (release n a b) i → (Holds w a i → ⊥)
+    → Holds w (release n a b) (suc i)
 release_goes_on w n a b i h no-a k l = go (h k (omega arith))
   where
-    past : (j : ℕ) → i ≤ j → j < k → Holds w a j → Dec (i ≡ j) → Holds w b k ⊎ ((j : ℕ) × (suc i ≤ j) × (j < k) × Holds w a j)
+    past : (j : ℕ) → i ≤ j → j < k → Holds w a j → Dec (i ≡ j)
+        → Holds w b k ⊎ ((j : ℕ) × (suc i ≤ j) × (j < k) × Holds w a j)
     past j x y ha (yes q) = absurd (no-a (subst (Holds w a) (sym q) ha))
     past j x y ha (no q) = inr (j, omega arith, y, ha)
 
-    go : Holds w b k ⊎ ((j : ℕ) × (i ≤ j) × (j < k) × Holds w a j) → Holds w b k ⊎ ((j : ℕ) × (suc i ≤ j) × (j < k) × Holds w a j)
+    go : Holds w b k ⊎ ((j : ℕ) × (i ≤ j) × (j < k) × Holds w a j)
+        → Holds w b k ⊎ ((j : ℕ) × (suc i ≤ j) × (j < k) × Holds w a j)
     go (inl x) = inl x
     go (inr (j, x, y, ha)) = past j x y ha (ℕ_discrete i j)
 
@@ -106,18 +113,31 @@ module _ (rule : List ℕ) (w : ℕ → ℕ) (decide : (g : Formula) (i : ℕ) �
 
   pick_left : (ts us : List Term) {i : ℕ} → Picked ts i → Picked (union less ts us) i
   pick_left ts us p =
-      record { choice = p.choice; listed = in_union less less_equal p.choice ts us (inl p.listed); reads = p.reads; owes = p.owes }
+      record {
+        choice = p.choice;
+        listed = in_union less less_equal p.choice ts us (inl p.listed);
+        reads = p.reads;
+        owes
+            = p.owes;
+      }
 
   pick_right : (ts us : List Term) {i : ℕ} → Picked us i → Picked (union less ts us) i
   pick_right ts us p =
-      record { choice = p.choice; listed = in_union less less_equal p.choice ts us (inr p.listed); reads = p.reads; owes = p.owes }
+      record {
+        choice = p.choice;
+        listed = in_union less less_equal p.choice ts us (inr p.listed);
+        reads = p.reads;
+        owes
+            = p.owes;
+      }
 
   pick_both : {ts us : List Term} {i : ℕ} → Picked ts i → Picked us i → Picked (product ts us) i
   pick_both {ts} {us} {i} p q =
       let r = reads_joined p.choice q.choice (w i) p.reads q.reads in
       record {
         choice = joined p.choice q.choice;
-        listed = in_product less less_equal joined consistent p.choice q.choice ts us p.listed q.listed (reads_consistent (joined p.choice q.choice) (w i) r);
+        listed = in_product less less_equal joined consistent p.choice q.choice ts us p.listed q.listed
+            (reads_consistent (joined p.choice q.choice) (w i) r);
         reads = r;
         owes = owes_or p.choice.obligations q.choice.obligations (suc i) p.owes q.owes;
       }
@@ -142,54 +162,84 @@ module _ (rule : List ℕ) (w : ℕ → ℕ) (decide : (g : Formula) (i : ℕ) �
   unfolding terms Chosen pick_left
   pick bottom f i h = absurd h
   pick top f i h = (pick_owing 0 i (term 0 0 0 ∷ []) (inl refl) (owes_none (suc i)), tt)
-  pick (proposition n p) f i h = (record { choice = term (2 ^ p) 0 0; listed = inl refl; reads = r; owes = owes_none (suc i) }, tt)
+  pick (proposition n p) f i h =
+      (record { choice = term (2 ^ p) 0 0; listed = inl refl; reads = r; owes = owes_none (suc i) }, tt)
     where
       r : Reads (term (2 ^ p) 0 0) (w i)
-      r = record { set = λ k b. subst (Has (w i)) (sym (has_pow p k b)) (record { set = h }); clear = λ k b s. zero_has b }
-  pick (negatedProposition n p) f i h = (record { choice = term 0 (2 ^ p) 0; listed = inl refl; reads = r; owes = owes_none (suc i) }, tt)
+      r =
+          record {
+            set = λ k b. subst (Has (w i)) (sym (has_pow p k b)) (record { set = h });
+            clear = λ k b s. zero_has
+                b;
+          }
+  pick (negatedProposition n p) f i h =
+      (record { choice = term 0 (2 ^ p) 0; listed = inl refl; reads = r; owes = owes_none (suc i) }, tt)
     where
       r : Reads (term 0 (2 ^ p) 0) (w i)
-      r = record { set = λ k b. absurd (zero_has b); clear = λ k b s. not_has (w i) p h (subst (Has (w i)) (has_pow p k b) s) }
+      r =
+          record {
+            set = λ k b. absurd (zero_has b);
+            clear = λ k b s. not_has (w i) p h
+                (subst (Has (w i)) (has_pow p k b) s);
+          }
   pick (conjunction a b) (fa, fb) i (ha, hb) = (pick_both (pick a fa i ha).0 (pick b fb i hb).0, tt)
   pick (disjunction a b) (fa, fb) i (inl h) = (pick_left (terms a) (terms b) (pick a fa i h).0, tt)
   pick (disjunction a b) (fa, fb) i (inr h) = (pick_right (terms a) (terms b) (pick b fb i h).0, tt)
   pick (next n a) (k, fa) i h =
-      let (c, mc, oc) = choose a fa (suc i) h in (pick_owing c i (map (term 0 0) (cover a)) (in_map (term 0 0) c (cover a) mc) oc, tt)
+      let (c, mc, oc) = choose a fa (suc i) h in
+      (pick_owing c i (map (term 0 0) (cover a)) (in_map (term 0 0) c (cover a) mc) oc, tt)
   pick (until n a b) (k, l, fa, fb) i h = go (decide b i) (λ hb. (pick b fb i hb).0) (λ ha. (pick a fa i ha).0)
     where
       owed : List Term
       owed = term 0 0 (2 ^ n) ∷ []
 
       go : Dec (Holds w b i) → (Holds w b i → Picked (terms b) i) → (Holds w a i → Picked (terms a) i)
-          → (p : Picked (union less (terms b) (product (terms a) owed)) i) × (Holds w b i → Has p.choice.obligations n → ⊥)
-      go (yes hb) pb pa = (pick_left (terms b) (product (terms a) owed) (pb hb), λ q. terms_own n b l (pb hb).choice (pb hb).listed)
+          → (p : Picked (union less (terms b) (product (terms a) owed)) i) × (Holds w b i → Has p.choice.obligations n
+          → ⊥)
+      go (yes hb) pb pa =
+          (pick_left (terms b) (product (terms a) owed) (pb hb), λ q. terms_own n b l (pb hb).choice (pb hb).listed)
       go (no no-b) pb pa =
-          let (ha, hu) = until_goes_on w n a b i h no-b in
-          (pick_right (terms b) (product (terms a) owed) (pick_both (pa ha) (pick_owing (2 ^ n) i owed (inl refl) (owes_one n (until n a b) k (suc i) hu))), λ hb. absurd (no-b hb))
-  pick (release n a b) (k, fa, fb) i h = (pick_both (pick b fb i (release_right w n a b i h)).0 (go (decide a i) (λ ha. (pick a fa i ha).0)), tt)
+          let (ha, hu) = until_goes_on w n a b i h no-b in (
+            pick_right (terms b) (product (terms a) owed)
+                (pick_both (pa ha) (pick_owing (2 ^ n) i owed (inl refl) (owes_one n (until n a b) k (suc i) hu))),
+            λ hb.
+                absurd (no-b hb),
+          )
+  pick (release n a b) (k, fa, fb) i h =
+      (pick_both (pick b fb i (release_right w n a b i h)).0 (go (decide a i) (λ ha. (pick a fa i ha).0)), tt)
     where
       owed : List Term
       owed = term 0 0 (2 ^ n) ∷ []
 
       go : Dec (Holds w a i) → (Holds w a i → Picked (terms a) i) → Picked (union less (terms a) owed) i
       go (yes ha) pa = pick_left (terms a) owed (pa ha)
-      go (no no-a) pa = pick_right (terms a) owed (pick_owing (2 ^ n) i owed (inl refl) (owes_one n (release n a b) k (suc i) (release_goes_on w n a b i h no-a)))
+      go (no no-a) pa =
+          pick_right (terms a) owed (pick_owing (2 ^ n) i owed (inl refl)
+          (owes_one n (release n a b) k (suc i) (release_goes_on w n a b i h no-a)))
 
   -- the join of the picks of a state's obligations below k
   record Gathered (k e i : ℕ) : Type 0 where
     picked : Picked (partial_product rule e k) i
-    each : (m : ℕ) → m < k → Has e m → (u : Term) × In u (terms (tree rule m)) × Within u picked.choice × Prompt (tree rule m) u i
+    each : (m : ℕ) → m < k → Has e m
+        → (u : Term) × In u (terms (tree rule m)) × Within u picked.choice × Prompt (tree rule m) u i
 
   gather : (k e i : ℕ) → Owes e i → Gathered k e i
   unfolding partial_product pick_both
-  gather zero e i o = record { picked = pick_owing 0 i (term 0 0 0 ∷ []) (inl refl) (owes_none (suc i)); each = λ m l h. absurd (omega arith) }
+  gather zero e i o =
+      record {
+        picked = pick_owing 0 i (term 0 0 0 ∷ []) (inl refl) (owes_none (suc i));
+        each = λ m l h. absurd
+            (omega arith);
+      }
   gather (suc k) e i o = let (p, f) = grown (has e k) refl (gather k e i o) in record { picked = p; each = f }
     where
       Each : Term → ℕ → Type 0
       Each v m = (u : Term) × In u (terms (tree rule m)) × Within u v × Prompt (tree rule m) u i
 
       Grown : Bool → Type 0
-      Grown b = (p : Picked (times b (partial_product rule e k) (terms (tree rule k))) i) × ((m : ℕ) → m < suc k → Has e m → Each p.choice m)
+      Grown b =
+          (p : Picked (times b (partial_product rule e k) (terms (tree rule k))) i) ×
+          ((m : ℕ) → m < suc k → Has e m → Each p.choice m)
 
       grown : (b : Bool) → has e k ≡ b → Gathered k e i → Grown b
       grown true q r = add (pick (tree rule k) (tree_fits rule k) i (o k (has_true e k q)))
@@ -198,7 +248,9 @@ module _ (rule : List ℕ) (w : ℕ → ℕ) (decide : (g : Formula) (i : ℕ) �
           add (p, c) = (pick_both r.picked p, λ m l h. each m l h (ℕ_discrete k m))
             where
               each : (m : ℕ) → m < suc k → Has e m → Dec (k ≡ m) → Each (joined r.picked.choice p.choice) m
-              each m l h (yes z) = subst (Each (joined r.picked.choice p.choice)) z (p.choice, p.listed, within_r r.picked.choice p.choice, c)
+              each m l h (yes z) =
+                  subst (Each (joined r.picked.choice p.choice)) z
+                  (p.choice, p.listed, within_r r.picked.choice p.choice, c)
               each m l h (no z) =
                   let (u, mu, wi, pr) = r.each m (omega arith) h in
                   (u, mu, within_trans wi (within_l r.picked.choice p.choice), pr)
@@ -209,20 +261,23 @@ module _ (rule : List ℕ) (w : ℕ → ℕ) (decide : (g : Formula) (i : ℕ) �
           each m l h (no z) = r.each m (omega arith) h
 
   -- the term gathered fulfils an until whose right side holds now
-  gathered_fulfils : (e i : ℕ) (r : Gathered (node_count rule) e i) (n : ℕ) (a b : Formula) → Known rule n (until n a b) → Has e n → Holds w b i
+  gathered_fulfils : (e i : ℕ) (r : Gathered (node_count rule) e i) (n : ℕ) (a b : Formula) → Known rule n (until n a b)
+      → Has e n → Holds w b i
       → Fulfilling n (until n a b) r.picked.choice
   gathered_fulfils e i r n a b (l, q) h hb =
       let (u, mu, wi, pr) = r.each n l h in
       inr (u, subst (λ (f : Formula). In u (terms f)) q mu, wi, subst (λ (f : Formula). Prompt f u i) q pr hb)
 
-  module _ (Move : ℕ → Term → Type 0) (enough : (e : ℕ) (t : Term) → TermOf rule e t → (v : Term) × Move e v × Dominates rule v t)
+  module _ (Move : ℕ → Term → Type 0)
+      (enough : (e : ℕ) (t : Term) → TermOf rule e t → (v : Term) × Move e v × Dominates rule v t)
       (holds : Holds w (formula rule) 0) where
     record Step (e i : ℕ) : Type 0 where
       onward : Term
       moves : Move e onward
       reads : Reads onward (w i)
       owes : Owes onward.obligations (suc i)
-      fulfils : (n : ℕ) (a b : Formula) → Known rule n (until n a b) → Has e n → Holds w b i → Fulfilling n (until n a b) onward
+      fulfils : (n : ℕ) (a b : Formula) → Known rule n (until n a b) → Has e n → Holds w b i
+          → Fulfilling n (until n a b) onward
 
     step : (e i : ℕ) → Owes e i → Step e i
     step e i o =
@@ -257,7 +312,8 @@ module _ (rule : List ℕ) (w : ℕ → ℕ) (decide : (g : Formula) (i : ℕ) �
     unfolding state at taken
     fair n a b known i = now (has_dec (taken i).onward.obligations n)
       where
-        later : (k : ℕ) → suc i ≤ k → Holds w b k → Dec (Has (at k) n) → (j : ℕ) × (i ≤ j) × Fulfilling n (until n a b) (taken j).onward
+        later : (k : ℕ) → suc i ≤ k → Holds w b k → Dec (Has (at k) n)
+            → (j : ℕ) × (i ≤ j) × Fulfilling n (until n a b) (taken j).onward
         later zero x hb d = absurd (omega arith)
         later (suc k) x hb (yes h) = (suc k, omega arith, (taken (suc k)).fulfils n a b known h hb)
         later (suc k) x hb (no h) = (k, omega arith, inl h)

@@ -27,7 +27,8 @@ use Rattle.term.specs.Size.{sizes_checked}
 use Rattle.term.specs.Memory.{Reaches, here, left, right}
 use Rattle.term.proofs.Sizes.{bytes_fine}
 use Rattle.term.proofs.Reached.{reached_whole}
-use Rattle.generalized.specs.Generalized.{partial_product, times_conflicts, partial_conflicts, state_conflicts, walk_conflicts, generalized}
+use Rattle.generalized.specs.Generalized.{partial_product, times_conflicts, partial_conflicts, state_conflicts}
+use Rattle.generalized.specs.Generalized.{walk_conflicts, generalized}
 use Rattle.translation.specs.Degeneralized.{translation}
 use Rattle.translation.specs.Conflicts.{rule_conflicts, written_conflicts}
 
@@ -126,13 +127,15 @@ own_counts bottom p h = h
 own_counts top p h = h
 own_counts (proposition n q) p h = h
 own_counts (negatedProposition n q) p h = h
-own_counts (conjunction a b) p h = has_or_l (conflicts_between (terms a) (terms b)) (bit_or (conflicts a) (conflicts b)) p h
+own_counts (conjunction a b) p h =
+    has_or_l (conflicts_between (terms a) (terms b)) (bit_or (conflicts a) (conflicts b)) p h
 own_counts (disjunction a b) p h = absurd (zero_has h)
 own_counts (next n a) p h = absurd (zero_has h)
 own_counts (until n a b) p h =
     has_or_l (conflicts_between (terms a) (term 0 0 (2 ^ n) ∷ [])) (bit_or (conflicts a) (conflicts b)) p h
 own_counts (release n a b) p h =
-    has_or_l (conflicts_between (terms b) (union less (terms a) (term 0 0 (2 ^ n) ∷ []))) (bit_or (conflicts a) (conflicts b)) p h
+    has_or_l (conflicts_between (terms b) (union less (terms a) (term 0 0 (2 ^ n) ∷ [])))
+    (bit_or (conflicts a) (conflicts b)) p h
 
 -- the conflicts of a node by its kind, and by those of its sides
 module _ (n l : ℕ) (f g : Formula) where
@@ -252,7 +255,8 @@ module _ (rule : List ℕ) (passed : Rule.checked rule ≡ fine) where
             below (left_at rule n) ((node n inside).left inner) (subst (λ (x : ℕ). Has x p) (of_next n inside e) h)
         pick (yes inner) (no pair) =
             parts inner pair
-            (or_has (own n inside) (bit_or (conflicts (tree rule (left_at rule n))) (conflicts (tree rule (right_at rule n)))) p
+            (or_has (own n inside) (bit_or (conflicts (tree rule (left_at rule n)))
+            (conflicts (tree rule (right_at rule n)))) p
             (subst (λ (x : ℕ). Has x p) (of_pair n inside inner pair) h))
 
     found_to : (bound n : ℕ) → n < bound → n < node_count rule → Has (conflicts (tree rule n)) p → Found
@@ -262,7 +266,8 @@ module _ (rule : List ℕ) (passed : Rule.checked rule ≡ fine) where
 
     root_found : Has (conflicts (formula rule)) p → Found
     unfolding formula
-    root_found h = found_to (suc (root rule)) (root rule) (omega arith) (omega (arith, (accepted_fine rule passed).some)) h
+    root_found h =
+        found_to (suc (root rule)) (root rule) (omega arith) (omega (arith, (accepted_fine rule passed).some)) h
 
 -- ---- the partial products of all states
 
@@ -281,7 +286,8 @@ module _ (rule : List ℕ) (p : ℕ) where
       ]
     where
       own : (b : Bool) → has state n ≡ b
-          → Has (times_conflicts b (partial_product rule state n) (terms (tree rule n))) p → (m : ℕ) × (m < suc n) × At state m
+          → Has (times_conflicts b (partial_product rule state n) (terms (tree rule n))) p
+          → (m : ℕ) × (m < suc n) × At state m
       own true e k = (n, omega arith, (has_true state n e, k))
       own false e k = absurd (zero_has k)
 
@@ -292,13 +298,16 @@ module _ (rule : List ℕ) (p : ℕ) where
     where
       last : m ≡ n → (b : Bool) → has state n ≡ b
           → Has (times_conflicts b (partial_product rule state n) (terms (tree rule n))) p
-      last e true q = subst (λ (k : ℕ). Has (conflicts_between (partial_product rule state k) (terms (tree rule k))) p) e at.1
+      last e true q =
+          subst (λ (k : ℕ). Has (conflicts_between (partial_product rule state k) (terms (tree rule k))) p) e at.1
       last e false q = absurd (has_false state n q (subst (λ (k : ℕ). Has state k) e at.0))
 
-      pick : Dec (m ≡ n) → (m < n → Has (partial_conflicts rule state n) p) → Has (partial_conflicts rule state (suc n)) p
+      pick : Dec (m ≡ n) → (m < n → Has (partial_conflicts rule state n) p)
+          → Has (partial_conflicts rule state (suc n)) p
       pick (yes e) ih =
           has_or_r (partial_conflicts rule state n)
-          (times_conflicts (has state n) (partial_product rule state n) (terms (tree rule n))) p (last e (has state n) refl)
+          (times_conflicts (has state n) (partial_product rule state n) (terms (tree rule n))) p
+          (last e (has state n) refl)
       pick (no other) ih =
           has_or_l (partial_conflicts rule state n)
           (times_conflicts (has state n) (partial_product rule state n) (terms (tree rule n))) p (ih (omega arith))
@@ -317,7 +326,8 @@ module _ (rule : List ℕ) (p : ℕ) where
   unfolding walk_conflicts
   walk_counts [] state m h = absurd m
   walk_counts (x ∷ xs) state (inl e) h =
-      has_or_l (state_conflicts rule x) (walk_conflicts rule xs) p (subst (λ (s : ℕ). Has (state_conflicts rule s) p) e h)
+      has_or_l (state_conflicts rule x) (walk_conflicts rule xs) p
+      (subst (λ (s : ℕ). Has (state_conflicts rule s) p) e h)
   walk_counts (x ∷ xs) state (inr m) h =
       has_or_r (state_conflicts rule x) (walk_conflicts rule xs) p (walk_counts xs state m h)
 
@@ -342,10 +352,12 @@ module _ (rule states : List ℕ) (set : ℕ) (walked : generalized rule ≡ acc
       cc
 
   clashes : (p : ℕ) → Has set p → Clash rule states p
-  clashes p h = elim (or_has (conflicts (formula rule)) (walk_conflicts rule states) p (subst (λ (x : ℕ). Has x p) (sym set_is) h)) [
-    | inl k ↦ at_node (root_found rule passed p k)
-    | inr k ↦ at_state (walk_found rule p states k)
-  ]
+  clashes p h =
+      elim (or_has (conflicts (formula rule)) (walk_conflicts rule states) p
+      (subst (λ (x : ℕ). Has x p) (sym set_is) h)) [
+        | inl k ↦ at_node (root_found rule passed p k)
+        | inr k ↦ at_state (walk_found rule p states k)
+      ]
     where
       at_node : (n : ℕ) × (n < node_count rule) × Has (own_conflicts (tree rule n)) p → Clash rule states p
       at_node (n, inside, k) =
@@ -366,7 +378,8 @@ module _ (rule states : List ℕ) (set : ℕ) (walked : generalized rule ≡ acc
       of (of_node n v w inside l m) k =
           has_or_l (conflicts (formula rule)) (walk_conflicts rule states) p
           (every_node_counts rule passed n inside p
-          (own_counts (tree rule n) p (dropped_product p v w (first_factor (tree rule n)) (second_factor (tree rule n)) l m k)))
+          (own_counts (tree rule n) p (dropped_product p v w (first_factor (tree rule n)) (second_factor (tree rule n))
+          l m k)))
       of (of_state state n v w is inside owed l m) k =
           has_or_r (conflicts (formula rule)) (walk_conflicts rule states) p
           (walk_counts rule p states state is

@@ -38,7 +38,8 @@ abbrev pub counting : List ℕ → (ℕ → Term → Type 0) → AutomatonOver C
 counting rule Move = record {
   Initial = λ x. In x.obligations (cover (formula rule)) × (x.level ≡ 0);
   Step = λ x letter y.
-      (t : Term) × Move x.obligations t × Reads t letter × (y.obligations ≡ t.obligations) × (y.level ≡ next_level rule x.level t);
+      (t : Term) × Move x.obligations t × Reads t letter × (y.obligations ≡ t.obligations) ×
+      (y.level ≡ next_level rule x.level t);
   Accepting = λ x. x.level ≡ until_count rule;
 }
 
@@ -59,10 +60,15 @@ module _ (rule : List ℕ) where
   in_untils : (k n : ℕ) → n < k → kind_at rule n ≡ 7 → In n (untils rule k)
   unfolding untils
   in_untils zero n l q = absurd (omega arith)
-  in_untils (suc k) n l q = in_append n (untils rule k) (cond (eqb (kind_at rule k) 7) (k ∷ []) []) (go (λ m. in_untils k n m q) (ℕ_discrete n k))
+  in_untils (suc k) n l q =
+      in_append n (untils rule k) (cond (eqb (kind_at rule k) 7) (k ∷ []) [])
+      (go (λ m. in_untils k n m q) (ℕ_discrete n k))
     where
-      go : (n < k → In n (untils rule k)) → Dec (n ≡ k) → In n (untils rule k) ⊎ In n (cond (eqb (kind_at rule k) 7) (k ∷ []) [])
-      go ih (yes e) = inr (subst (λ (b : Bool). In n (cond b (k ∷ []) [])) (sym (eq-eqb (kind_at rule k) 7 (sym (ap (kind_at rule) e) ∙ q))) (inl e))
+      go : (n < k → In n (untils rule k)) → Dec (n ≡ k)
+          → In n (untils rule k) ⊎ In n (cond (eqb (kind_at rule k) 7) (k ∷ []) [])
+      go ih (yes e) =
+          inr (subst (λ (b : Bool). In n (cond b (k ∷ []) []))
+          (sym (eq-eqb (kind_at rule k) 7 (sym (ap (kind_at rule) e) ∙ q))) (inl e))
       go ih (no e) = inl (ih (omega arith))
 
   -- each until has a number, which tells the terms that fulfil it
@@ -99,7 +105,8 @@ module _ (rule : List ℕ) where
 
 module _ (rule : List ℕ) (Move : ℕ → Term → Type 0) (represents : Represents rule Move) (w : ℕ → ℕ) where
   -- a fair run, with its levels
-  run_endless : (e : ℕ → ℕ) (t : ℕ → Term) → Run rule Move w e t → Fair rule t → (p : ℕ → Counted) × Endless w (counting rule Move) p
+  run_endless : (e : ℕ → ℕ) (t : ℕ → Term) → Run rule Move w e t → Fair rule t
+      → (p : ℕ → Counted) × Endless w (counting rule Move) p
   unfolding level Counts
   run_endless e t run fair = (
     λ i. record { obligations = e i; level = level rule t i },
@@ -115,7 +122,14 @@ module _ (rule : List ℕ) (Move : ℕ → Term → Type 0) (represents : Repres
     taken i = (run.steps i).0
 
     taken_run : Run rule Move w (λ i. (p i).obligations) taken
-    taken_run = record { start = run.begins.0; steps = λ i. (run.steps i).1; reads = λ i. (run.steps i).2; goes = λ i. sym (run.steps i).3 }
+    taken_run =
+        record {
+          start = run.begins.0;
+          steps = λ i. (run.steps i).1;
+          reads = λ i. (run.steps i).2;
+          goes = λ i. sym
+              (run.steps i).3;
+        }
 
     level_is : (i : ℕ) → level rule taken i ≡ (p i).level
     unfolding level
@@ -124,11 +138,15 @@ module _ (rule : List ℕ) (Move : ℕ → Term → Type 0) (represents : Repres
 
     taken_fair : Fair rule taken
     unfolding Counts
-    taken_fair = counts_fair rule taken (fulfilled_again rule taken (λ i. let (j, x, c) = run.again i in (j, x, level_is j ∙ c)))
+    taken_fair =
+        counts_fair rule taken (fulfilled_again rule taken (λ i. let (j, x, c) = run.again i in (j, x, level_is j ∙ c)))
 
   -- where w repeats from position s on with period n
-  pub endless_iff_holds : (s n : ℕ) → 0 < n → ((i : ℕ) → s ≤ i → w (i + n) ≡ w i) → ((p : ℕ → Counted) × Endless w (counting rule Move) p) ↔ Holds w (formula rule) 0
+  pub endless_iff_holds : (s n : ℕ) → 0 < n → ((i : ℕ) → s ≤ i → w (i + n) ≡ w i)
+      → ((p : ℕ → Counted) × Endless w (counting rule Move) p) ↔ Holds w (formula rule) 0
   endless_iff_holds s n pos round = (
-    λ (p, run). sound rule Move represents.listed w (λ i. (p i).obligations) (taken p run) (taken_run p run) (taken_fair p run),
-    λ h. let (e, t, run, fair) = complete rule w (holds_dec s n pos w round) Move represents.enough h in run_endless e t run fair,
+    λ (p, run). sound rule Move represents.listed w (λ i. (p i).obligations) (taken p run) (taken_run p run)
+        (taken_fair p run),
+    λ h. let (e, t, run, fair) = complete rule w (holds_dec s n pos w round) Move represents.enough h in run_endless e t
+        run fair,
   )

@@ -12,7 +12,8 @@ use Rattle.lasso.specs.Lasso.{skipped}
 use Rattle.sets.specs.Sets.{union}
 use Rattle.formula.specs.Limits.{propositions}
 use Rattle.formula.specs.Rule.{node_count}
-use Rattle.formula.specs.Formula.{Formula, bottom, top, proposition, negatedProposition, conjunction, disjunction, next, until, release, tree, InRange}
+use Rattle.formula.specs.Formula.{Formula, bottom, top, proposition, negatedProposition, conjunction, disjunction, next}
+use Rattle.formula.specs.Formula.{until, release, tree, InRange}
 use Rattle.sets.specs.Bits.{has}
 use Rattle.term.specs.Term.{Term, term, less, joined, consistent, product, cover, terms}
 use Rattle.generalized.specs.Generalized.{times, partial_product, transitions}
@@ -47,17 +48,25 @@ terms_labelled : (f : Formula) → InRange f → All Labelled (terms f)
 unfolding terms InRange
 terms_labelled bottom m = λ t h. absurd h
 terms_labelled top m = all_one Labelled (term 0 0 0) (owing_labelled 0)
-terms_labelled (proposition n p) m = all_one Labelled (term (2 ^ p) 0 0) (record { must_small = pow-lt {j = propositions} m; not_small = omega arith; disjoint = and_zero_r (2 ^ p) })
-terms_labelled (negatedProposition n p) m = all_one Labelled (term 0 (2 ^ p) 0) (record { must_small = omega arith; not_small = pow-lt {j = propositions} m; disjoint = and_zero_l (2 ^ p) })
+terms_labelled (proposition n p) m =
+    all_one Labelled (term (2 ^ p) 0 0)
+    (record { must_small = pow-lt {j = propositions} m; not_small = omega arith; disjoint = and_zero_r (2 ^ p) })
+terms_labelled (negatedProposition n p) m =
+    all_one Labelled (term 0 (2 ^ p) 0)
+    (record { must_small = omega arith; not_small = pow-lt {j = propositions} m; disjoint = and_zero_l (2 ^ p) })
 terms_labelled (conjunction a b) (p, q) = product_labelled (terms a) (terms b) (terms_labelled a p) (terms_labelled b q)
-terms_labelled (disjunction a b) (p, q) = all_union less Labelled (terms a) (terms b) (terms_labelled a p) (terms_labelled b q)
-terms_labelled (next n a) m = λ t h. let (c, mc, e) = map_in (term 0 0) t (cover a) h in subst Labelled (sym e) (owing_labelled c)
+terms_labelled (disjunction a b) (p, q) =
+    all_union less Labelled (terms a) (terms b) (terms_labelled a p) (terms_labelled b q)
+terms_labelled (next n a) m =
+    λ t h. let (c, mc, e) = map_in (term 0 0) t (cover a) h in subst Labelled (sym e) (owing_labelled c)
 terms_labelled (until n a b) (p, q) =
     all_union less Labelled (terms b) (product (terms a) (term 0 0 (2 ^ n) ∷ [])) (terms_labelled b q)
-    (product_labelled (terms a) (term 0 0 (2 ^ n) ∷ []) (terms_labelled a p) (all_one Labelled (term 0 0 (2 ^ n)) (owing_labelled (2 ^ n))))
+    (product_labelled (terms a) (term 0 0 (2 ^ n) ∷ []) (terms_labelled a p)
+    (all_one Labelled (term 0 0 (2 ^ n)) (owing_labelled (2 ^ n))))
 terms_labelled (release n a b) (p, q) =
     product_labelled (terms b) (union less (terms a) (term 0 0 (2 ^ n) ∷ [])) (terms_labelled b q)
-    (all_union less Labelled (terms a) (term 0 0 (2 ^ n) ∷ []) (terms_labelled a p) (all_one Labelled (term 0 0 (2 ^ n)) (owing_labelled (2 ^ n))))
+    (all_union less Labelled (terms a) (term 0 0 (2 ^ n) ∷ []) (terms_labelled a p)
+    (all_one Labelled (term 0 0 (2 ^ n)) (owing_labelled (2 ^ n))))
 
 module _ (rule : List ℕ) (in_range : (n : ℕ) → n < node_count rule → InRange (tree rule n)) (state : ℕ) where
   partial_labelled : (n : ℕ) → n ≤ node_count rule → All Labelled (partial_product rule state n)
@@ -65,8 +74,11 @@ module _ (rule : List ℕ) (in_range : (n : ℕ) → n < node_count rule → InR
   partial_labelled zero l = all_one Labelled (term 0 0 0) (owing_labelled 0)
   partial_labelled (suc n) l = go (has state n) (partial_labelled n (omega arith))
     where
-      go : (b : Bool) → All Labelled (partial_product rule state n) → All Labelled (times b (partial_product rule state n) (terms (tree rule n)))
-      go true ih = product_labelled (partial_product rule state n) (terms (tree rule n)) ih (terms_labelled (tree rule n) (in_range n l))
+      go : (b : Bool) → All Labelled (partial_product rule state n)
+          → All Labelled (times b (partial_product rule state n) (terms (tree rule n)))
+      go true ih =
+          product_labelled (partial_product rule state n) (terms (tree rule n)) ih
+          (terms_labelled (tree rule n) (in_range n l))
       go false ih = ih
 
   -- the transitions of any state

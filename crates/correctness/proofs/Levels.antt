@@ -35,7 +35,8 @@ module _ (rule : List ℕ) where
   climb_over : (d j : ℕ) (x : Term) (k : ℕ) → j ≤ k → k < climb rule d j x → Over k x
   unfolding climb
   climb_over zero j x k l m = absurd (omega arith)
-  climb_over (suc d) j x k l m = go (fulfils_next rule j x) refl m (λ l m. climb_over d (suc j) x k l m) (ℕ_discrete j k)
+  climb_over (suc d) j x k l m =
+      go (fulfils_next rule j x) refl m (λ l m. climb_over d (suc j) x k l m) (ℕ_discrete j k)
     where
       go : (b : Bool) → fulfils_next rule j x ≡ b → k < elim b [ true ↦ climb rule d (suc j) x | false ↦ j ]
           → (suc j ≤ k → k < climb rule d (suc j) x → Over k x) → Dec (j ≡ k) → Over k x
@@ -46,7 +47,9 @@ module _ (rule : List ℕ) where
   -- what is fulfilled is climbed over
   over_climb : (d j : ℕ) (x : Term) → Over j x → j < climb rule (suc d) j x
   unfolding climb
-  over_climb d j x q = subst (λ (b : Bool). j < elim b [ true ↦ climb rule d (suc j) x | false ↦ j ]) (sym q) (climb_bounds d (suc j) x).0
+  over_climb d j x q =
+      subst (λ (b : Bool). j < elim b [ true ↦ climb rule d (suc j) x | false ↦ j ]) (sym q)
+      (climb_bounds d (suc j) x).0
 
   next_below : (j : ℕ) (x : Term) → j < r → next_level rule j x ≡ climb rule (r - j) j x
   unfolding next_level
@@ -82,7 +85,9 @@ module _ (rule : List ℕ) where
     unfolding level
     level_over i l q =
         let f : suc (r - suc (level i)) ≡ r - level i = omega arith in
-        let b = subst (λ (d : ℕ). level i < climb rule d (level i) (t i)) f (over_climb (r - suc (level i)) (level i) (t i) q) in
+        let b =
+        subst (λ (d : ℕ). level i < climb rule d (level i) (t i)) f (over_climb (r - suc (level i)) (level i) (t i) q)
+        in
         omega (arith, next_below (level i) (t i) l)
 
     -- below r the level rises in the end
@@ -90,7 +95,8 @@ module _ (rule : List ℕ) where
     rises zero i l q = (suc i, omega arith, level_over i l (subst (λ (c : ℕ). Over (level i) (t c)) (omega arith) q))
     rises (suc d) i l q = go (rises d (suc i)) (dec_lt (level i) (level (suc i)))
       where
-        go : (level (suc i) < r → Over (level (suc i)) (t (suc i + d)) → (j : ℕ) × (suc i ≤ j) × (level (suc i) < level j))
+        go : (level (suc i) < r → Over (level (suc i)) (t (suc i + d))
+            → (j : ℕ) × (suc i ≤ j) × (level (suc i) < level j))
             → Dec (level i < level (suc i)) → (j : ℕ) × (i ≤ j) × (level i < level j)
         go ih (yes m) = (suc i, omega arith, m)
         go ih (no m) =
@@ -99,11 +105,13 @@ module _ (rule : List ℕ) where
             let (j, x, y) = ih (omega arith) (subst₂ (λ (c k : ℕ). Over c (t k)) e f q) in
             (j, omega arith, omega arith)
 
-    climbs : ((k : ℕ) → k < r → Again (λ j. Over k (t j))) → (d i : ℕ) → r ≤ level i + d → (j : ℕ) × (i ≤ j) × (level j ≡ r)
+    climbs : ((k : ℕ) → k < r → Again (λ j. Over k (t j))) → (d i : ℕ) → r ≤ level i + d
+        → (j : ℕ) × (i ≤ j) × (level j ≡ r)
     climbs often zero i h = (i, omega arith, omega (arith, level_le i))
     climbs often (suc d) i h = go (climbs often d) (dec_lt (level i) r)
       where
-        go : ((j : ℕ) → r ≤ level j + d → (k : ℕ) × (j ≤ k) × (level k ≡ r)) → Dec (level i < r) → (j : ℕ) × (i ≤ j) × (level j ≡ r)
+        go : ((j : ℕ) → r ≤ level j + d → (k : ℕ) × (j ≤ k) × (level k ≡ r)) → Dec (level i < r)
+            → (j : ℕ) × (i ≤ j) × (level j ≡ r)
         go ih (no l) = (i, omega arith, omega (arith, level_le i))
         go ih (yes l) =
             let (k, x, q) = often (level i) l i in
@@ -113,7 +121,8 @@ module _ (rule : List ℕ) where
             (p, omega arith, e)
 
     -- each until fulfilled again and again: the last level again and again
-    pub last_again : ((k : ℕ) → k < until_count rule → Again (λ j. Over k (t j))) → Again (λ j. level j ≡ until_count rule)
+    pub last_again : ((k : ℕ) → k < until_count rule → Again (λ j. Over k (t j)))
+        → Again (λ j. level j ≡ until_count rule)
     last_again often i = climbs often r i (omega arith)
 
     -- what is passed at level q + 1 was passed at level q, or is fulfilled here
@@ -123,7 +132,8 @@ module _ (rule : List ℕ) where
       where
         up : level q < r → Dec (k < level q) → ((level q < r) × (k < level q)) ⊎ Over k (t q)
         up l (yes m) = inl (l, m)
-        up l (no m) = inr (climb_over (r - level q) (level q) (t q) k (omega arith) (omega (arith, next_below (level q) (t q) l)))
+        up l (no m) =
+            inr (climb_over (r - level q) (level q) (t q) k (omega arith) (omega (arith, next_below (level q) (t q) l)))
 
         go : Dec (level q < r) → ((level q < r) × (k < level q)) ⊎ Over k (t q)
         go (yes l) = up l (dec_lt k (level q))
@@ -140,13 +150,15 @@ module _ (rule : List ℕ) where
         f : suc p + suc d ≡ suc (suc p + d)
         f = omega arith
 
-        go : (k < level (suc p + d) → (j : ℕ) × (p ≤ j) × Over k (t j)) → ((level (suc p + d) < r) × (k < level (suc p + d))) ⊎ Over k (t (suc p + d))
+        go : (k < level (suc p + d) → (j : ℕ) × (p ≤ j) × Over k (t j))
+            → ((level (suc p + d) < r) × (k < level (suc p + d))) ⊎ Over k (t (suc p + d))
             → (j : ℕ) × (p ≤ j) × Over k (t j)
         go ih (inl x) = ih x.1
         go ih (inr g) = (suc p + d, omega arith, g)
 
     -- and back
-    pub fulfilled_again : (Again (λ j. level j ≡ until_count rule)) → (k : ℕ) → k < until_count rule → Again (λ j. Over k (t j))
+    pub fulfilled_again : (Again (λ j. level j ≡ until_count rule)) → (k : ℕ) → k < until_count rule
+        → Again (λ j. Over k (t j))
     fulfilled_again last k l i =
         let (p, x, e) = last i in
         let (q, y, f) = last (suc p) in

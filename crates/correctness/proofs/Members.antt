@@ -47,23 +47,28 @@ module _ {A : Type 0} (less : A → A → Bool) where
         go true h = insert_in z (joined x y) ws h
         go false h = inr h
 
-    joins_in : (z x : A) (ys ws : List A) → In z (insert_joins less joined consistent x ys ws) → ((y : A) × In y ys × (z ≡ joined x y)) ⊎ In z ws
+    joins_in : (z x : A) (ys ws : List A) → In z (insert_joins less joined consistent x ys ws)
+        → ((y : A) × In y ys × (z ≡ joined x y)) ⊎ In z ws
     unfolding insert_joins
     joins_in z x [] ws h = inr h
     joins_in z x (y ∷ ys) ws h = go (joins_in z x ys ws) (join_in z x y (insert_joins less joined consistent x ys ws) h)
       where
         go : (In z (insert_joins less joined consistent x ys ws) → ((v : A) × In v ys × (z ≡ joined x v)) ⊎ In z ws)
-            → (z ≡ joined x y) ⊎ In z (insert_joins less joined consistent x ys ws) → ((v : A) × In v (y ∷ ys) × (z ≡ joined x v)) ⊎ In z ws
+            → (z ≡ joined x y) ⊎ In z (insert_joins less joined consistent x ys ws)
+            → ((v : A) × In v (y ∷ ys) × (z ≡ joined x v)) ⊎ In z ws
         go ih (inl q) = inl (y, inl refl, q)
         go ih (inr k) = elim (ih k) [ inl r ↦ inl (r.0, inr r.1, r.2) | inr m ↦ inr m ]
 
-    pub product_in : (z : A) (xs ys : List A) → In z (insert_product less joined consistent xs ys []) → Joined joined z xs ys
+    pub product_in : (z : A) (xs ys : List A) → In z (insert_product less joined consistent xs ys [])
+        → Joined joined z xs ys
     unfolding insert_product
     product_in z [] ys h = absurd h
-    product_in z (x ∷ xs) ys h = go (product_in z xs ys) (joins_in z x ys (insert_product less joined consistent xs ys []) h)
+    product_in z (x ∷ xs) ys h =
+        go (product_in z xs ys) (joins_in z x ys (insert_product less joined consistent xs ys []) h)
       where
         go : (In z (insert_product less joined consistent xs ys []) → Joined joined z xs ys)
-            → ((y : A) × In y ys × (z ≡ joined x y)) ⊎ In z (insert_product less joined consistent xs ys []) → Joined joined z (x ∷ xs) ys
+            → ((y : A) × In y ys × (z ≡ joined x y)) ⊎ In z (insert_product less joined consistent xs ys [])
+            → Joined joined z (x ∷ xs) ys
         go ih (inl (y, m, q)) = (x, y, inl refl, m, q)
         go ih (inr k) = let (v, y, m, n, q) = ih k in (v, y, inr m, n, q)
 
@@ -73,7 +78,8 @@ module _ {A : Type 0} (less : A → A → Bool) where
     in_insert z x [] h = h
     in_insert z x (y ∷ ys) h = go (in_insert z x ys) (less x y) (less y x) refl refl h
       where
-        go : ((z ≡ x) ⊎ In z ys → In z (insert less x ys)) → (b c : Bool) → less x y ≡ b → less y x ≡ c → (z ≡ x) ⊎ In z (y ∷ ys)
+        go : ((z ≡ x) ⊎ In z ys → In z (insert less x ys)) → (b c : Bool) → less x y ≡ b → less y x ≡ c
+            → (z ≡ x) ⊎ In z (y ∷ ys)
             → In z (cond b (x ∷ (y ∷ ys)) (cond c (y ∷ insert less x ys) (y ∷ ys)))
         go ih true c p q h = h
         go ih false true p q (inl e) = inr (ih (inl e))
@@ -91,41 +97,53 @@ module _ {A : Type 0} (less : A → A → Bool) where
     in_union z (x ∷ xs) ys (inr b) = in_insert z x (union less xs ys) (inr (in_union z xs ys (inr b)))
 
     module _ (joined : A → A → A) (consistent : A → Bool) where
-      in_join : (z x y : A) (ws : List A) → ((z ≡ joined x y) × (consistent (joined x y) ≡ true)) ⊎ In z ws → In z (insert_join less joined consistent x y ws)
+      in_join : (z x y : A) (ws : List A) → ((z ≡ joined x y) × (consistent (joined x y) ≡ true)) ⊎ In z ws
+          → In z (insert_join less joined consistent x y ws)
       unfolding insert_join
-      in_join z x y ws (inl (e, c)) = subst (λ (b : Bool). In z (cond b (insert less (joined x y) ws) ws)) (sym c) (in_insert z (joined x y) ws (inl e))
+      in_join z x y ws (inl (e, c)) =
+          subst (λ (b : Bool). In z (cond b (insert less (joined x y) ws) ws)) (sym c)
+          (in_insert z (joined x y) ws (inl e))
       in_join z x y ws (inr k) = go (consistent (joined x y))
         where
           go : (b : Bool) → In z (cond b (insert less (joined x y) ws) ws)
           go true = in_insert z (joined x y) ws (inr k)
           go false = k
 
-      in_joins : (x y : A) (ys ws : List A) → In y ys → consistent (joined x y) ≡ true → In (joined x y) (insert_joins less joined consistent x ys ws)
+      in_joins : (x y : A) (ys ws : List A) → In y ys → consistent (joined x y) ≡ true
+          → In (joined x y) (insert_joins less joined consistent x ys ws)
       unfolding insert_joins
       in_joins x y [] ws m c = absurd m
       in_joins x y (v ∷ ys) ws (inl e) c =
-          in_join (joined x y) x v (insert_joins less joined consistent x ys ws) (inl (ap (joined x) e, subst (λ (u : A). consistent (joined x u) ≡ true) e c))
-      in_joins x y (v ∷ ys) ws (inr m) c = in_join (joined x y) x v (insert_joins less joined consistent x ys ws) (inr (in_joins x y ys ws m c))
+          in_join (joined x y) x v (insert_joins less joined consistent x ys ws)
+          (inl (ap (joined x) e, subst (λ (u : A). consistent (joined x u) ≡ true) e c))
+      in_joins x y (v ∷ ys) ws (inr m) c =
+          in_join (joined x y) x v (insert_joins less joined consistent x ys ws) (inr (in_joins x y ys ws m c))
 
       joins_keep : (z x : A) (ys ws : List A) → In z ws → In z (insert_joins less joined consistent x ys ws)
       unfolding insert_joins
       joins_keep z x [] ws k = k
-      joins_keep z x (y ∷ ys) ws k = in_join z x y (insert_joins less joined consistent x ys ws) (inr (joins_keep z x ys ws k))
+      joins_keep z x (y ∷ ys) ws k =
+          in_join z x y (insert_joins less joined consistent x ys ws) (inr (joins_keep z x ys ws k))
 
-      pub in_product : (x y : A) (xs ys : List A) → In x xs → In y ys → consistent (joined x y) ≡ true → In (joined x y) (insert_product less joined consistent xs ys [])
+      pub in_product : (x y : A) (xs ys : List A) → In x xs → In y ys → consistent (joined x y) ≡ true
+          → In (joined x y) (insert_product less joined consistent xs ys [])
       unfolding insert_product
       in_product x y [] ys m n c = absurd m
       in_product x y (u ∷ xs) ys (inl e) n c =
-          subst (λ (v : A). In (joined v y) (insert_joins less joined consistent u ys (insert_product less joined consistent xs ys []))) (sym e)
-          (in_joins u y ys (insert_product less joined consistent xs ys []) n (subst (λ (v : A). consistent (joined v y) ≡ true) e c))
+          subst (λ (v : A). In (joined v y)
+          (insert_joins less joined consistent u ys (insert_product less joined consistent xs ys []))) (sym e)
+          (in_joins u y ys (insert_product less joined consistent xs ys []) n
+          (subst (λ (v : A). consistent (joined v y) ≡ true) e c))
       in_product x y (u ∷ xs) ys (inr m) n c =
           joins_keep (joined x y) u ys (insert_product less joined consistent xs ys []) (in_product x y xs ys m n c)
 
 -- what holds of all that goes into a set holds of all that is in it
-pub all_union : {A : Type 0} (less : A → A → Bool) (P : A → Type 0) (xs ys : List A) → All P xs → All P ys → All P (union less xs ys)
+pub all_union : {A : Type 0} (less : A → A → Bool) (P : A → Type 0) (xs ys : List A) → All P xs → All P ys
+    → All P (union less xs ys)
 all_union less P xs ys p q z h = elim (union_in less z xs ys h) [ inl m ↦ p z m | inr m ↦ q z m ]
 
-pub all_product : {A : Type 0} (less : A → A → Bool) (joined : A → A → A) (consistent : A → Bool) (P : A → Type 0) → ((x y : A) → P x → P y → P (joined x y))
+pub all_product : {A : Type 0} (less : A → A → Bool) (joined : A → A → A) (consistent : A → Bool) (P : A → Type 0)
+    → ((x y : A) → P x → P y → P (joined x y))
     → (xs ys : List A) → All P xs → All P ys → All P (insert_product less joined consistent xs ys [])
 all_product less joined consistent P join xs ys p q z h =
     let (x, y, mx, my, e) = product_in less joined consistent z xs ys h in subst P (sym e) (join x y (p x mx) (q y my))
@@ -157,10 +175,12 @@ module _ {A : Type 0} (less : A → A → Bool) (joined : A → A → A) (consis
 pub ltb_equal : (x y : ℕ) → ltb x y ≡ false → ltb y x ≡ false → x ≡ y
 ltb_equal x y p q = omega (arith, ltb-false x y p, ltb-false y x q)
 
-then_equal : (x y : ℕ) (r s : Bool) → less_then x y r ≡ false → less_then y x s ≡ false → (x ≡ y) × (r ≡ false) × (s ≡ false)
+then_equal : (x y : ℕ) (r s : Bool) → less_then x y r ≡ false → less_then y x s ≡ false
+    → (x ≡ y) × (r ≡ false) × (s ≡ false)
 then_equal x y r s p q = go (ltb x y) (ltb y x) refl refl p q
   where
-    go : (b c : Bool) → ltb x y ≡ b → ltb y x ≡ c → cond b true (cond c false r) ≡ false → cond c true (cond b false s) ≡ false → (x ≡ y) × (r ≡ false) × (s ≡ false)
+    go : (b c : Bool) → ltb x y ≡ b → ltb y x ≡ c → cond b true (cond c false r) ≡ false
+        → cond c true (cond b false s) ≡ false → (x ≡ y) × (r ≡ false) × (s ≡ false)
     go true c e f p q = let z : ◌≡◌ {A = ℕ} 0 1 = cc in absurd (omega arith)
     go false true e f p q = let z : ◌≡◌ {A = ℕ} 0 1 = cc in absurd (omega arith)
     go false false e f p q = (ltb_equal x y e f, p, q)

@@ -7,18 +7,21 @@ use Rattle.automaton.proofs.Passes.{AutomatonOver, Endless, Pass, endless_pass, 
 
 -- valid numbers stand for states of automaton: every initial state has one, every step from a state that has one leads to
 -- one, and they are below N
-pub record Numbering {X : Type 0} (automaton : AutomatonOver X) (numbered : AutomatonOver ℕ) (N : ℕ) (Valid : ℕ → Type 0) (means : ℕ → X) : Type 0 where
+pub record Numbering {X : Type 0} (automaton : AutomatonOver X) (numbered : AutomatonOver ℕ) (N : ℕ)
+    (Valid : ℕ → Type 0) (means : ℕ → X) : Type 0 where
   pub small : (k : ℕ) → Valid k → k < N
   pub initial_valid : (k : ℕ) → numbered.Initial k → Valid k
   pub initial_means : (k : ℕ) → numbered.Initial k → automaton.Initial (means k)
   pub initial_has : (x : X) → automaton.Initial x → (k : ℕ) × numbered.Initial k × (means k ≡ x)
   pub step_valid : (k letter j : ℕ) → Valid k → numbered.Step k letter j → Valid j
   pub step_means : (k letter j : ℕ) → Valid k → numbered.Step k letter j → automaton.Step (means k) letter (means j)
-  pub step_has : (k letter : ℕ) (x : X) → Valid k → automaton.Step (means k) letter x → (j : ℕ) × numbered.Step k letter j × (means j ≡ x)
+  pub step_has : (k letter : ℕ) (x : X) → Valid k → automaton.Step (means k) letter x
+      → (j : ℕ) × numbered.Step k letter j × (means j ≡ x)
   pub accepting_means : (k : ℕ) → Valid k → numbered.Accepting k → automaton.Accepting (means k)
   pub accepting_has : (k : ℕ) → Valid k → automaton.Accepting (means k) → numbered.Accepting k
 
-module _ (w : ℕ → ℕ) {X : Type 0} {automaton : AutomatonOver X} {numbered : AutomatonOver ℕ} {N : ℕ} {Valid : ℕ → Type 0} {means : ℕ → X}
+module _ (w : ℕ → ℕ) {X : Type 0} {automaton : AutomatonOver X} {numbered : AutomatonOver ℕ} {N : ℕ}
+    {Valid : ℕ → Type 0} {means : ℕ → X}
     (numbering : Numbering automaton numbered N Valid means) where
   module _ (q : ℕ → ℕ) (run : Endless w numbered q) where
     valid : (i : ℕ) → Valid (q i)
@@ -43,7 +46,9 @@ module _ (w : ℕ → ℕ) {X : Type 0} {automaton : AutomatonOver X} {numbered 
     start = numbering.initial_has (p 0) run.begins
 
     on : (i : ℕ) (x : Numbered i) → (j : ℕ) × numbered.Step x.number (w i) j × (means j ≡ p (suc i))
-    on i x = numbering.step_has x.number (w i) (p (suc i)) x.valid (subst (λ (y : X). automaton.Step y (w i) (p (suc i))) (sym x.is) (run.steps i))
+    on i x =
+        numbering.step_has x.number (w i) (p (suc i)) x.valid
+        (subst (λ (y : X). automaton.Step y (w i) (p (suc i))) (sym x.is) (run.steps i))
 
     at : (i : ℕ) → Numbered i
     at zero = record { number = start.0; valid = numbering.initial_valid start.0 start.1; is = start.2 }
@@ -57,11 +62,14 @@ module _ (w : ℕ → ℕ) {X : Type 0} {automaton : AutomatonOver X} {numbered 
     endless_numbered = record {
       begins = start.1;
       steps = λ i. (on i (at i)).1;
-      again = λ i. let (j, l, c) = run.again i in (j, l, numbering.accepting_has (at j).number (at j).valid (subst automaton.Accepting (sym (at j).is) c));
+      again = λ i. let (j, l, c) = run.again i in
+          (j, l, numbering.accepting_has (at j).number (at j).valid (subst automaton.Accepting (sym (at j).is) c));
     }
 
-  pub pass_iff_endless : (s n : ℕ) → 0 < n → ((i : ℕ) → s ≤ i → w (i + n) ≡ w i) → Pass s n w numbered ↔ ((p : ℕ → X) × Endless w automaton p)
+  pub pass_iff_endless : (s n : ℕ) → 0 < n → ((i : ℕ) → s ≤ i → w (i + n) ≡ w i)
+      → Pass s n w numbered ↔ ((p : ℕ → X) × Endless w automaton p)
   pass_iff_endless s n pos round = (
     λ pass. let (q, run) = pass_endless s n pos w round numbered pass in (λ i. means (q i), endless_means q run),
-    λ (p, run). endless_pass s n pos w numbered (λ i. (at p run i).number) (endless_numbered p run) N (λ i. numbering.small (at p run i).number (at p run i).valid),
+    λ (p, run). endless_pass s n pos w numbered (λ i. (at p run i).number) (endless_numbered p run) N
+        (λ i. numbering.small (at p run i).number (at p run i).valid),
   )

@@ -9,7 +9,8 @@ use native.Mathlib.Omega.{arith}
 use lib.Bits.{bit_or}
 use lib.Dec.{ltb}
 use Rattle.sets.specs.Sets.{union, In}
-use Rattle.formula.specs.Formula.{Formula, bottom, top, proposition, negatedProposition, conjunction, disjunction, next, until, release}
+use Rattle.formula.specs.Formula.{Formula, bottom, top, proposition, negatedProposition, conjunction, disjunction, next}
+use Rattle.formula.specs.Formula.{until, release}
 use Rattle.term.specs.Term.{Term, term, less, joined, consistent, product, cover, terms}
 use Rattle.sets.specs.Bits.{Has}
 use Rattle.sets.proofs.Bits.{or_has, zero_has, has_pow}
@@ -36,7 +37,8 @@ cover_low k bottom l = λ c h. absurd h
 cover_low k top l = all_one (Low k) 0 (low_none k)
 cover_low k (proposition n p) l = all_one (Low k) (2 ^ n) (low_one k n l)
 cover_low k (negatedProposition n p) l = all_one (Low k) (2 ^ n) (low_one k n l)
-cover_low k (conjunction a b) (p, q) = all_product ltb bit_or (λ _. true) (Low k) (low_or k) (cover a) (cover b) (cover_low k a p) (cover_low k b q)
+cover_low k (conjunction a b) (p, q) =
+    all_product ltb bit_or (λ _. true) (Low k) (low_or k) (cover a) (cover b) (cover_low k a p) (cover_low k b q)
 cover_low k (disjunction a b) (p, q) = all_union ltb (Low k) (cover a) (cover b) (cover_low k a p) (cover_low k b q)
 cover_low k (next n a) (l, p) = all_one (Low k) (2 ^ n) (low_one k n l)
 cover_low k (until n a b) (l, p, q) = all_one (Low k) (2 ^ n) (low_one k n l)
@@ -54,17 +56,23 @@ terms_low k bottom l = λ u h. absurd h
 terms_low k top l = all_one (LowTerm k) (term 0 0 0) (low_none k)
 terms_low k (proposition n p) l = all_one (LowTerm k) (term (2 ^ p) 0 0) (low_none k)
 terms_low k (negatedProposition n p) l = all_one (LowTerm k) (term 0 (2 ^ p) 0) (low_none k)
-terms_low k (conjunction a b) (p, q) = all_product less joined consistent (LowTerm k) (low_joined k) (terms a) (terms b) (terms_low k a p) (terms_low k b q)
-terms_low k (disjunction a b) (p, q) = all_union less (LowTerm k) (terms a) (terms b) (terms_low k a p) (terms_low k b q)
+terms_low k (conjunction a b) (p, q) =
+    all_product less joined consistent (LowTerm k) (low_joined k) (terms a) (terms b) (terms_low k a p)
+    (terms_low k b q)
+terms_low k (disjunction a b) (p, q) =
+    all_union less (LowTerm k) (terms a) (terms b) (terms_low k a p) (terms_low k b q)
 terms_low k (next n a) (l, p) = λ u h.
     let (c, mc, e) = map_in (term 0 0) u (cover a) h in
     subst (LowTerm k) (sym e) (cover_low k a p c mc)
 terms_low k (until n a b) (l, p, q) =
     all_union less (LowTerm k) (terms b) (product (terms a) (term 0 0 (2 ^ n) ∷ [])) (terms_low k b q)
-    (all_product less joined consistent (LowTerm k) (low_joined k) (terms a) (term 0 0 (2 ^ n) ∷ []) (terms_low k a p) (all_one (LowTerm k) (term 0 0 (2 ^ n)) (low_one k n l)))
+    (all_product less joined consistent (LowTerm k) (low_joined k) (terms a) (term 0 0 (2 ^ n) ∷ []) (terms_low k a p)
+    (all_one (LowTerm k) (term 0 0 (2 ^ n)) (low_one k n l)))
 terms_low k (release n a b) (l, p, q) =
-    all_product less joined consistent (LowTerm k) (low_joined k) (terms b) (union less (terms a) (term 0 0 (2 ^ n) ∷ [])) (terms_low k b q)
-    (all_union less (LowTerm k) (terms a) (term 0 0 (2 ^ n) ∷ []) (terms_low k a p) (all_one (LowTerm k) (term 0 0 (2 ^ n)) (low_one k n l)))
+    all_product less joined consistent (LowTerm k) (low_joined k) (terms b)
+    (union less (terms a) (term 0 0 (2 ^ n) ∷ [])) (terms_low k b q)
+    (all_union less (LowTerm k) (terms a) (term 0 0 (2 ^ n) ∷ []) (terms_low k a p)
+    (all_one (LowTerm k) (term 0 0 (2 ^ n)) (low_one k n l)))
 
 -- no term of a tree whose numbers are below n owes n
 pub terms_own : (n : ℕ) (g : Formula) → Below n g → (u : Term) → In u (terms g) → Has u.obligations n → ⊥

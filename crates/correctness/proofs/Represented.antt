@@ -59,5 +59,9 @@ module _ (rule : List ℕ) where
           let up =
           dominated_above (dominates rule) rank (term_falls rule) (term_follows rule) (state_terms rule e) t q in
           (up.above, up.listed, dominates_says up.above t up.holds)
-      go e t m false q =
-          (t, in_sift (stays (dominates rule) (state_terms rule e)) t (state_terms rule e) m (ap not q), dominates_self t)
+      go e t m false q = (
+        t,
+        in_sift (stays (dominates rule) (state_terms rule e)) t (state_terms rule e) m (ap not q),
+        dominates_self
+            t,
+      )

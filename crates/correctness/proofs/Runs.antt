@@ -8,7 +8,8 @@ use mathlib.Core.Bool.{Bool, true, false}
 use native.Mathlib.Omega.{arith}
 use native.Mathlib.Decide.{ℕ_discrete}
 use Rattle.formula.specs.Rule.{node_count}
-use Rattle.formula.specs.Formula.{Formula, bottom, top, proposition, negatedProposition, conjunction, disjunction, next, until, release, tree, formula}
+use Rattle.formula.specs.Formula.{Formula, bottom, top, proposition, negatedProposition, conjunction, disjunction, next}
+use Rattle.formula.specs.Formula.{until, release, tree, formula}
 use Rattle.sets.specs.Bits.{has, Has}
 use Rattle.term.specs.Term.{Term, less, joined, consistent, cover, terms}
 use Rattle.generalized.specs.Generalized.{times, partial_product, state_terms}
@@ -101,7 +102,8 @@ module _ (rule : List ℕ) where
   pub record Dominates (v t : Term) : Type 0 where
     pub reads : (letter : ℕ) → Reads t letter → Reads v letter
     pub obligations : Sub v.obligations t.obligations
-    pub fulfils : (n : ℕ) (a b : Formula) → Known n (until n a b) → Fulfilling n (until n a b) t → Fulfilling n (until n a b) v
+    pub fulfils : (n : ℕ) (a b : Formula) → Known n (until n a b) → Fulfilling n (until n a b) t
+        → Fulfilling n (until n a b) v
 
   -- a term of state e
   abbrev pub TermOf : ℕ → Term → Type 0
@@ -113,7 +115,8 @@ module _ (rule : List ℕ) where
     pub enough : (e : ℕ) (t : Term) → TermOf e t → (v : Term) × Move e v × Dominates v t
 
   -- a term of a partial product has within it a term of each obligation
-  pub product_has : (k e : ℕ) (t : Term) → In t (partial_product rule e k) → (n : ℕ) → n < k → Has e n → (u : Term) × In u (terms (tree rule n)) × Within u t
+  pub product_has : (k e : ℕ) (t : Term) → In t (partial_product rule e k) → (n : ℕ) → n < k → Has e n
+      → (u : Term) × In u (terms (tree rule n)) × Within u t
   unfolding partial_product
   product_has zero e t h n l d = absurd (omega arith)
   product_has (suc k) e t h n l d = go (λ v m i. product_has k e v m n i d) (has e k) refl h (ℕ_discrete n k)
@@ -124,10 +127,12 @@ module _ (rule : List ℕ) where
       go : ((v : Term) → In v (partial_product rule e k) → n < k → Found v) → (b : Bool) → has e k ≡ b
           → In t (times b (partial_product rule e k) (terms (tree rule k))) → Dec (n ≡ k) → Found t
       go ih true q h (yes p) =
-          let (x, y, mx, my, r) = product_in less joined consistent t (partial_product rule e k) (terms (tree rule k)) h in
+          let (x, y, mx, my, r) =
+          product_in less joined consistent t (partial_product rule e k) (terms (tree rule k)) h in
           (y, subst (λ (c : ℕ). In y (terms (tree rule c))) (sym p) my, subst (Within y) (sym r) (within_r x y))
       go ih true q h (no p) =
-          let (x, y, mx, my, r) = product_in less joined consistent t (partial_product rule e k) (terms (tree rule k)) h in
+          let (x, y, mx, my, r) =
+          product_in less joined consistent t (partial_product rule e k) (terms (tree rule k)) h in
           let (u, m, i) = ih x mx (omega arith) in
           (u, m, within_trans i (subst (Within x) (sym r) (within_l x y)))
       go ih false q h (yes p) = absurd (has_false e k q (subst (Has e) p d))

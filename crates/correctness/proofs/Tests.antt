@@ -33,7 +33,12 @@ shows_iff f t u = (there, back)
         let (a, p) = (and-eq-true_iff (within u.must t.must) _).0 e in
         let (b, q) = (and-eq-true_iff (within u.must_not t.must_not) _).0 p in
         let (c, r) = (and-eq-true_iff (within u.obligations t.obligations) _).0 q in (
-          record { must = (within_iff u.must t.must).0 a; must_not = (within_iff u.must_not t.must_not).0 b; obligations = (within_iff u.obligations t.obligations).0 c },
+          record {
+            must = (within_iff u.must t.must).0 a;
+            must_not = (within_iff u.must_not t.must_not).0 b;
+            obligations
+                = (within_iff u.obligations t.obligations).0 c;
+          },
           (lacks_iff u.obligations f).0 r,
         )
 
@@ -43,7 +48,8 @@ shows_iff f t u = (there, back)
           (within_iff u.must t.must).1 k.must,
           (and-eq-true_iff (within u.must_not t.must_not) _).1 (
             (within_iff u.must_not t.must_not).1 k.must_not,
-            (and-eq-true_iff (within u.obligations t.obligations) _).1 ((within_iff u.obligations t.obligations).1 k.obligations, (lacks_iff u.obligations f).1 h),
+            (and-eq-true_iff (within u.obligations t.obligations) _).1
+                ((within_iff u.obligations t.obligations).1 k.obligations, (lacks_iff u.obligations f).1 h),
           ),
         )
 
@@ -57,15 +63,18 @@ fulfils_iff rule f t = (there, back)
     there : fulfils rule f t ≡ true → Fulfilling f (tree rule f) t
     there e = elim (one.0 e) [
       | inl p ↦ inl ((lacks_iff t.obligations f).0 p)
-      | inr p ↦ (let (u, m, q) = (any_iff (shows f t) (terms (tree rule f))).0 p in let (k, h) = (shows_iff f t u).0 q in inr (u, m, k, h))
+      | inr p ↦ (let (u, m, q) = (any_iff (shows f t) (terms (tree rule f))).0 p in let (k, h) = (shows_iff f t u).0 q
+          in inr (u, m, k, h))
     ]
 
     back : Fulfilling f (tree rule f) t → fulfils rule f t ≡ true
     back (inl h) = one.1 (inl ((lacks_iff t.obligations f).1 h))
-    back (inr (u, m, k, h)) = one.1 (inr ((any_iff (shows f t) (terms (tree rule f))).1 (u, m, (shows_iff f t u).1 (k, h))))
+    back (inr (u, m, k, h)) =
+        one.1 (inr ((any_iff (shows f t) (terms (tree rule f))).1 (u, m, (shows_iff f t u).1 (k, h))))
 
 -- the transition of term t, whatever its target
-pub reads_iff : (t : Term) (target letter : ℕ) → reads (record { must = t.must; must_not = t.must_not; target = target }) letter ≡ true ↔ Reads t letter
+pub reads_iff : (t : Term) (target letter : ℕ)
+    → reads (record { must = t.must; must_not = t.must_not; target = target }) letter ≡ true ↔ Reads t letter
 reads_iff t target letter = (
   λ e.
       let (p, q) = (and-eq-true_iff (eqb (bit_or t.must letter) letter) _).0 e in

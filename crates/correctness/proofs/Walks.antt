@@ -22,7 +22,8 @@ use Rattle.generalized.proofs.Explored.{Explored, walk_explored, extends_longer,
 use Rattle.automaton.specs.Automaton.{Transition, State, no_state, reads, Step}
 use Rattle.sets.specs.Sets.{In}
 use Rattle.acceptance.specs.Acceptance.{until_count}
-use Rattle.translation.specs.Degeneralized.{next_level, Pair, pair, same_pair, numbers, initial_numbers, target, transition_of}
+use Rattle.translation.specs.Degeneralized.{next_level, Pair, pair, same_pair, numbers, initial_numbers, target}
+use Rattle.translation.specs.Degeneralized.{transition_of}
 use Rattle.translation.proofs.Codes.{numbers_length}
 use Rattle.sets.proofs.Members.{All, at_in, in_at, map_in, in_map, map_at}
 use Rattle.correctness.proofs.Runs.{Reads}
@@ -40,14 +41,21 @@ numbers_at zero k l = absurd (omega arith)
 numbers_at (suc n) k l = go (numbers_at n k) (ℕ_discrete (length (numbers n)) k)
   where
     go : (k < n → get_or (numbers n) k 0 ≡ k) → Dec (length (numbers n) ≡ k) → get_or (numbers n ++ (n ∷ [])) k 0 ≡ k
-    go ih (yes e) = subst (λ (j : ℕ). get_or (numbers n ++ (n ∷ [])) j 0 ≡ j) e (get_or-append_seam (numbers n) n [] 0 ∙ sym (numbers_length n))
-    go ih (no e) = let l : k < length (numbers n) = omega (arith, numbers_length n) in get_or-append (numbers n) (n ∷ []) 0 k l ∙ ih (omega (arith, numbers_length n))
+    go ih (yes e) =
+        subst (λ (j : ℕ). get_or (numbers n ++ (n ∷ [])) j 0 ≡ j) e
+        (get_or-append_seam (numbers n) n [] 0 ∙ sym (numbers_length n))
+    go ih (no e) =
+        let l : k < length (numbers n) = omega (arith, numbers_length n) in get_or-append (numbers n) (n ∷ []) 0 k l ∙
+        ih (omega (arith, numbers_length n))
 
 numbers_in : (n k : ℕ) → In k (numbers n) → k < n
-numbers_in n k h = let (i, l, q) = in_at 0 k (numbers n) h in omega (arith, numbers_length n, numbers_at n i (omega (arith, numbers_length n)))
+numbers_in n k h =
+    let (i, l, q) = in_at 0 k (numbers n) h in omega
+    (arith, numbers_length n, numbers_at n i (omega (arith, numbers_length n)))
 
 in_numbers : (n k : ℕ) → k < n → In k (numbers n)
-in_numbers n k l = subst (λ (x : ℕ). In x (numbers n)) (numbers_at n k l) (at_in 0 (numbers n) k (omega (arith, numbers_length n)))
+in_numbers n k l =
+    subst (λ (x : ℕ). In x (numbers n)) (numbers_at n k l) (at_in 0 (numbers n) k (omega (arith, numbers_length n)))
 
 -- two pairs are the same exactly if they are equal
 same_equal : (x y : Pair) → same_pair x y ≡ true → x ≡ y
@@ -110,10 +118,12 @@ module _ (rule : List ℕ) (listing : ℕ → List Term) (accepted-rule : sizes_
   pub initial_valid : (k : ℕ) → k < count → Valid states pairs k
   initial_valid k l = record {
     inside = omega (arith, extends_longer second_walked.extends, initial_count);
-    known = subst (λ (x : Pair). x.state < length states) (sym (initial_at_lem k l)) (omega (arith, extends_longer first_walked.extends));
+    known = subst (λ (x : Pair). x.state < length states) (sym (initial_at_lem k l))
+        (omega (arith, extends_longer first_walked.extends));
   }
 
-  initial_means : (k : ℕ) → k < count → means states pairs k ≡ record { obligations = get_or (cover (formula rule)) k 0; level = 0 }
+  initial_means : (k : ℕ) → k < count
+      → means states pairs k ≡ record { obligations = get_or (cover (formula rule)) k 0; level = 0 }
   initial_means k l =
       let o = ap (λ (x : Pair). get_or states x.state 0) (initial_at_lem k l) ∙ extends_at first_walked.extends 0 k l in
       λ i. record { obligations = o i; level = (initial_at_lem k l i).level }
@@ -156,7 +166,8 @@ module _ (rule : List ℕ) (listing : ℕ → List Term) (accepted-rule : sizes_
   lands k v t m =
       let (a, e) = target_known (at k).state v.known t m in
       let (b, f) = second_walked.numbered (target rule states (at k) t)
-      ((second_walked.taken k (omega arith) v.inside).closed (target rule states (at k) t) (in_map (target rule states (at k)) t (listed_at k) m)) in
+      ((second_walked.taken k (omega arith) v.inside).closed (target rule states (at k) t)
+      (in_map (target rule states (at k)) t (listed_at k) m)) in
       let o = ap (λ (x : Pair). get_or states x.state 0) f ∙ e in
       record {
         valid = record { inside = b; known = subst (λ (x : Pair). x.state < length states) (sym f) a };
@@ -177,14 +188,21 @@ module _ (rule : List ℕ) (listing : ℕ → List Term) (accepted-rule : sizes_
       there : Step (automaton_by rule listing states pairs) k letter j
           → (t : Term) × In t (listed_at k) × Reads t letter × (j ≡ leads k t)
       there (u, m, r, e) =
-          let (t, l, q) = map_in transition u (listed_at k) (subst (λ (s : State). In u s.transitions) (state_at_lem k v) m) in
-          (t, l, (reads_iff t (leads k t) letter).0 (subst (λ (x : Transition). reads x letter ≡ true) q r), e ∙ ap (λ (x : Transition). x.target) q)
+          let (t, l, q) =
+          map_in transition u (listed_at k) (subst (λ (s : State). In u s.transitions) (state_at_lem k v) m) in (
+            t,
+            l,
+            (reads_iff t (leads k t) letter).0 (subst (λ (x : Transition). reads x letter ≡ true) q r),
+            e ∙ ap
+                (λ (x : Transition). x.target) q,
+          )
 
       back : (t : Term) × In t (listed_at k) × Reads t letter × (j ≡ leads k t)
           → Step (automaton_by rule listing states pairs) k letter j
       back (t, l, r, e) = (
         transition t,
-        subst (λ (s : State). In (transition t) s.transitions) (sym (state_at_lem k v)) (in_map transition t (listed_at k) l),
+        subst (λ (s : State). In (transition t) s.transitions) (sym (state_at_lem k v))
+            (in_map transition t (listed_at k) l),
         (reads_iff t (leads k t) letter).1 r,
         e,
       )
@@ -197,11 +215,13 @@ module _ (rule : List ℕ) (listing : ℕ → List Term) (accepted-rule : sizes_
     initial_valid = λ k h. initial_valid k (numbers_in count k h);
     initial_means = λ k h.
         let l = numbers_in count k h in
-        subst (counting rule (Listed listing)).Initial (sym (initial_means k l)) (at_in 0 (cover (formula rule)) k l, refl);
+        subst (counting rule (Listed listing)).Initial (sym (initial_means k l))
+        (at_in 0 (cover (formula rule)) k l, refl);
     initial_has = λ x (m, z).
         let (k, l, q) = in_at 0 x.obligations (cover (formula rule)) m in
         (k, in_numbers count k l, initial_means k l ∙ sym (λ i. record { obligations = sym q i; level = z i }));
-    step_valid = λ k letter j v s. let (t, l, r, e) = (step_iff k letter j v).0 s in subst (Valid states pairs) (sym e) (lands k v t l).valid;
+    step_valid = λ k letter j v s. let (t, l, r, e) = (step_iff k letter j v).0 s in subst (Valid states pairs) (sym e)
+        (lands k v t l).valid;
     step_means = λ k letter j v s.
         let (t, l, r, e) = (step_iff k letter j v).0 s in
         let q = ap (means states pairs) e ∙ (lands k v t l).is in
@@ -211,6 +231,8 @@ module _ (rule : List ℕ) (listing : ℕ → List Term) (accepted-rule : sizes_
       (step_iff k letter (leads k t) v).1 (t, l, r, refl),
       (lands k v t l).is ∙ sym (λ i. record { obligations = o i; level = p i }),
     );
-    accepting_means = λ k v c. eqb-true (at k).level (until_count rule) (subst (λ (s : State). s.accepting ≡ true) (state_at_lem k v) c);
-    accepting_has = λ k v c. subst (λ (s : State). s.accepting ≡ true) (sym (state_at_lem k v)) (eq-eqb (at k).level (until_count rule) c);
+    accepting_means = λ k v c. eqb-true (at k).level (until_count rule)
+        (subst (λ (s : State). s.accepting ≡ true) (state_at_lem k v) c);
+    accepting_has = λ k v c. subst (λ (s : State). s.accepting ≡ true) (sym (state_at_lem k v))
+        (eq-eqb (at k).level (until_count rule) c);
   }

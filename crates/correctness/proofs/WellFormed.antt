@@ -36,7 +36,8 @@ module _ (rule : List ℕ) (accepted-rule : sizes_checked rule ≡ fine)
     few = omega (arith, length-map listed transition, few_transitions rule accepted-rule here.state _ passed);
     labels = λ t m.
         let (u, n, e) = map_in transition t listed m in
-        subst (λ (x : Transition). Label x.must x.must_not) (sym e) (transitions_labelled rule (in_range rule accepted-rule) (get_or states here.state 0) u n);
+        subst (λ (x : Transition). Label x.must x.must_not) (sym e)
+        (transitions_labelled rule (in_range rule accepted-rule) (get_or states here.state 0) u n);
     targets = λ t m.
         let (u, n, e) = map_in transition t listed m in
         subst (λ (x : Transition). x.target < length pairs) (sym e)
@@ -80,7 +81,12 @@ module _ (rule : List ℕ) (accepted-rule : sizes_checked rule ≡ fine)
         let m : i < c = omega (arith, numbers_length c) in
         let valid = initial_valid rule (transitions rule) accepted-rule states first pairs second i m in
         omega (arith, numbers_at c i m, valid.inside, size);
-    rising = λ i l. omega (arith, numbers_at c i (omega (arith, numbers_length c)), numbers_at c (suc i) (omega (arith, numbers_length c)));
+    rising = λ i l. omega (
+      arith,
+      numbers_at c i (omega (arith, numbers_length c)),
+      numbers_at c (suc i)
+          (omega (arith, numbers_length c)),
+    );
   }
     where
       c : ℕ

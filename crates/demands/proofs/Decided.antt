@@ -29,7 +29,8 @@ module _ (rule stem cycle s t i image work : List ℕ) where
           let (_, _, lasso) = then_accepted (written_checked rule) _ after-room in
           lasso_some stem cycle (sym lasso)
 
-      go : (check : Check) → input_check rule stem cycle s t i image work ≡ check → (r : Result Automaton) → written_translation rule ≡ r
+      go : (check : Check) → input_check rule stem cycle s t i image work ≡ check → (r : Result Automaton)
+          → written_translation rule ≡ r
           → Answers (decided_by check (concluded r stem cycle s t i image work) s t i image work).answer (and_then check (λ _. and_then r (λ _. accepted tt))) (SatisfiesWritten rule (remaining stem) (remaining cycle))
       go (refused number place) e r known = refl
       go (accepted u) e (refused number place) known = refl

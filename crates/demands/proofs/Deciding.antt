@@ -38,68 +38,73 @@ pub record Passed (rule stem cycle states transitions initial image work : List 
 
 -- ---- the three calls
 
-module _ (rule stem cycle s t i image work : List ℕ) (passes : input_check rule stem cycle s t i image work ≡ fine) where
-  pub passed : Passed rule stem cycle s t i image work
-  unfolding input_check room_check
-  passed =
-      let (_, room, after-room) = then_accepted (room_check s t i image work) _ passes in
-      let (_, tables, after-tables) = then_accepted (table_check s t i) _ room in
-      let (_, buffer, works) = then_accepted (buffer_check image) _ after-tables in
-      let (_, bytes, lasso) = then_accepted (written_checked rule) _ after-room in
-      record {
-        room = record {
-          tables = room_fine s t i tables;
-          buffer = leb-true largest_image (length image) (require_fine _ 25 0 buffer);
-          working = leb-true work_bytes (length work) (require_fine _ 25 0 works);
-        };
-        bytes = bytes;
-        lasso = lasso;
-      }
+module _ (rule stem cycle s t i image work : List ℕ) (passes : input_check rule stem cycle s t i image work ≡ fine)
+  where
+    pub passed : Passed rule stem cycle s t i image work
+    unfolding input_check room_check
+    passed =
+        let (_, room, after-room) = then_accepted (room_check s t i image work) _ passes in
+        let (_, tables, after-tables) = then_accepted (table_check s t i) _ room in
+        let (_, buffer, works) = then_accepted (buffer_check image) _ after-tables in
+        let (_, bytes, lasso) = then_accepted (written_checked rule) _ after-room in
+        record {
+          room = record {
+            tables = room_fine s t i tables;
+            buffer = leb-true largest_image (length image) (require_fine _ 25 0 buffer);
+            working = leb-true work_bytes (length work) (require_fine _ 25 0 works);
+          };
+          bytes = bytes;
+          lasso = lasso;
+        }
 
-  fits : TablesRoom s t i
-  fits = passed.room.tables
+    fits : TablesRoom s t i
+    fits = passed.room.tables
 
-  room : largest_image ≤ length image
-  room = passed.room.buffer
+    room : largest_image ≤ length image
+    room = passed.room.buffer
 
-  bytes : written_checked rule ≡ fine
-  bytes = passed.bytes
+    bytes : written_checked rule ≡ fine
+    bytes = passed.bytes
 
-  module _ (s' t' i' : List ℕ) {told : Result Counts} (translates : outcome told s' t' i' ≡ translated rule s t i) where
-    -- 20 to 24
-    pub rule_refused : {number place : ℕ} → told ≡ refused number place
-        → decision (refused number place) s' t' i' image work ≡ concluded (written_translation rule) stem cycle s t i image work
-    unfolding stored
-    rule_refused {number} {place} e =
-        go (written_translation rule) refl (is_stored rule s t i image fits room bytes s' t' i' translates)
-      where
-        go : (r : Result Automaton) → written_translation rule ≡ r → outcome told s' t' i' ≡ stored r s t i
-            → decision (refused number place) s' t' i' image work ≡ concluded r stem cycle s t i image work
-        go (accepted a) known is = never_both (sym e ∙ ap (λ (o : Outcome). o.answer) is)
-        go (refused n p) known is =
-            let same : ◌≡◌ {A = Result Counts} (refused number place) (refused n p) =
-            sym e ∙ ap (λ (o : Outcome). o.answer) is in
-            let same_number : number ≡ n = cc in
-            let same_place : place ≡ p = cc in
-            λ k. decision (refused (same_number k) (same_place k)) (is k).states (is k).transitions (is k).initial image work
-
-    module _ (c : Counts) (counted : told ≡ accepted c) (image' : List ℕ) {written : Result ℕ}
-        (writing : buffer written image' ≡ writes c s' t' i' image) (n : ℕ) (e : written ≡ accepted n) where
-      abbrev has : Stored rule s t i image fits room bytes s' t' i' translates c counted image' writing
-      has = has_stored rule s t i image fits room bytes s' t' i' translates c counted image' writing
-
-      abbrev a : Automaton
-      a = has.automaton
-
-      pub lasso_judged : {answer : Result Finding} {work' : List ℕ}
-          → judgement answer work' ≡ judged (take n image') stem cycle work
-          → decision answer s' t' i' image' work' ≡ concluded (written_translation rule) stem cycle s t i image work
+    module _ (s' t' i' : List ℕ) {told : Result Counts} (translates : outcome told s' t' i' ≡ translated rule s t i) where
+      -- 20 to 24
+      pub rule_refused : {number place : ℕ} → told ≡ refused number place
+          → decision (refused number place) s' t' i' image work ≡ concluded (written_translation rule) stem cycle s t i image work
       unfolding stored
-      lasso_judged {answer} {work'} judges =
-          let known : judgement answer work' ≡ letters_judged a (remaining stem) (remaining cycle) work =
-          judges ∙ ap (λ (bytes : List ℕ). judged bytes stem cycle work) (image_is rule s t i image fits room bytes s' t' i' translates c counted image' writing n e) ∙ image_judged a (written_well_formed rule a has.translated_to) stem cycle work passed.lasso passed.room.working in
-          let tables = has.tables in
-          rw has.translated_to (λ k. decision (known k).answer (tables k).states (tables k).transitions (tables k).initial (has.stored_in k) (known k).work)
+      rule_refused {number} {place} e =
+          go (written_translation rule) refl (is_stored rule s t i image fits room bytes s' t' i' translates)
+        where
+          go : (r : Result Automaton) → written_translation rule ≡ r → outcome told s' t' i' ≡ stored r s t i
+              → decision (refused number place) s' t' i' image work ≡ concluded r stem cycle s t i image work
+          go (accepted a) known is = never_both (sym e ∙ ap (λ (o : Outcome). o.answer) is)
+          go (refused n p) known is =
+              let same : ◌≡◌ {A = Result Counts} (refused number place) (refused n p) =
+              sym e ∙ ap (λ (o : Outcome). o.answer) is in
+              let same_number : number ≡ n = cc in
+              let same_place : place ≡ p = cc in
+              λ k. decision (refused (same_number k) (same_place k)) (is k).states (is k).transitions (is k).initial image
+              work
+
+      module _ (c : Counts) (counted : told ≡ accepted c) (image' : List ℕ) {written : Result ℕ}
+          (writing : buffer written image' ≡ writes c s' t' i' image) (n : ℕ) (e : written ≡ accepted n) where
+        abbrev has : Stored rule s t i image fits room bytes s' t' i' translates c counted image' writing
+        has = has_stored rule s t i image fits room bytes s' t' i' translates c counted image' writing
+
+        abbrev a : Automaton
+        a = has.automaton
+
+        pub lasso_judged : {answer : Result Finding} {work' : List ℕ}
+            → judgement answer work' ≡ judged (take n image') stem cycle work
+            → decision answer s' t' i' image' work' ≡ concluded (written_translation rule) stem cycle s t i image work
+        unfolding stored
+        lasso_judged {answer} {work'} judges =
+            let known : judgement answer work' ≡ letters_judged a (remaining stem) (remaining cycle) work =
+            judges ∙ ap (λ (bytes : List ℕ). judged bytes stem cycle work)
+            (image_is rule s t i image fits room bytes s' t' i' translates c counted image' writing n e) ∙ image_judged a
+            (written_well_formed rule a has.translated_to) stem cycle work passed.lasso passed.room.working in
+            let tables = has.tables in
+            rw has.translated_to (λ k. decision (known k).answer (tables k).states (tables k).transitions
+            (tables k).initial (has.stored_in k) (known k).work)
 
 -- ---- the checks before them
 

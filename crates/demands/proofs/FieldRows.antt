@@ -15,8 +15,10 @@ use Rattle.normalform.specs.Written.{written_check, written_tree}
 use Rattle.normalform.specs.NormalForm.{code, below, member, rank, emit, size, normal_bytes, normal_form}
 use Rattle.normalform.specs.NormalForm
 use Rattle.automaton.specs.Automaton.{at_rest}
-use Rattle.image.specs.Reader.{counts_fit, contents_check, state_check, state_pass, states_check, transitions_from, states_from}
-use Rattle.image.specs.Reader.{rest_check, rests_check, label_fits, transition_record_check, initial_check, records_check}
+use Rattle.image.specs.Reader.{counts_fit, contents_check, state_check, state_pass, states_check, transitions_from}
+use Rattle.image.specs.Reader.{states_from}
+use Rattle.image.specs.Reader.{rest_check, rests_check, label_fits, transition_record_check, initial_check}
+use Rattle.image.specs.Reader.{records_check}
 use Rattle.image.specs.Reader.{numbers_from, automaton_from, read_tables, read_image}
 use Rattle.field.specs.Sets.{set_bytes, bits_from, bytes_up_to, begun, moves_to, moved, is_empty}
 use Rattle.field.specs.Calls.{Watch, watch, watchable, started, stepped, after_steps}
@@ -49,15 +51,18 @@ word = letter (0 ∷ 3 ∷ 129 ∷ 1 ∷ []) (2 ∷ [])
 pub slot_by_slot : map (λ n. after_steps if_open_padded any_set word n) (0 ∷ 1 ∷ 2 ∷ 3 ∷ 4 ∷ 5 ∷ [])
     ≡ quiet ∷ quiet ∷ quiet ∷ quiet ∷ raised ∷ raised ∷ []
 unfolding letter any any_below lowest at_rest counts_fit contents_check state_check
-    state_pass states_check transitions_from states_from rest_check rests_check label_fits transition_record_check initial_check
-    records_check numbers_from automaton_from read_tables read_image bits_from bytes_up_to begun moved moves_to is_empty watchable
+    state_pass states_check transitions_from states_from rest_check rests_check label_fits transition_record_check
+    initial_check
+    records_check numbers_from automaton_from read_tables read_image bits_from bytes_up_to begun moved moves_to is_empty
+    watchable
     started stepped after_steps
 slot_by_slot = refl
 
 -- with no state start raises the alarm
 pub at_once : started never any_set ≡ raised
 unfolding any any_below lowest counts_fit contents_check state_check state_pass states_check
-    transitions_from states_from rests_check records_check numbers_from automaton_from read_tables read_image bits_from bytes_up_to
+    transitions_from states_from rests_check records_check numbers_from automaton_from read_tables read_image bits_from
+    bytes_up_to
     begun is_empty watchable started
 at_once = refl
 
@@ -66,7 +71,9 @@ pub untils_refused : map profile_checked
     ((2 ∷ 0 ∷ 0 ∷ 12 ∷ 0 ∷ 0 ∷ []) ∷ (2 ∷ 0 ∷ 0 ∷ 11 ∷ 0 ∷ 0 ∷ 9 ∷ 1 ∷ 0 ∷ [])
     ∷ (2 ∷ 0 ∷ 0 ∷ 2 ∷ 1 ∷ 0 ∷ 2 ∷ 2 ∷ 0 ∷ 7 ∷ 1 ∷ 2 ∷ 7 ∷ 0 ∷ 3 ∷ []) ∷ (2 ∷ 0 ∷ 0 ∷ 11 ∷ 0 ∷ 0 ∷ []) ∷ [])
     ≡ refused 29 2 ∷ refused 29 2 ∷ refused 29 3 ∷ fine ∷ []
-unfolding lowest left_operand one_child right_operand length_check node_check places place_check syntax_check untils until_check
-    trees written_check written_tree code below NormalForm.entry member rank emit size normal_bytes normal_form no_untils
+unfolding lowest left_operand one_child right_operand length_check node_check places place_check syntax_check untils
+    until_check
+    trees written_check written_tree code below NormalForm.entry member rank emit size normal_bytes normal_form
+    no_untils
     profile_checked
 untils_refused = refl

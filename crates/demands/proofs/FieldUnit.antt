@@ -81,7 +81,8 @@ module _ (rule s t i s' t' i' image image' : List ℕ) (c : Counts) (n : ℕ)
 
   -- broken: raised as soon as so many letters that remain have gone by
   pub raised_in_time : (Kept → ⊥) → (k : ℕ)
-      → length (remaining stem) + length (remaining cycle) * c.states ≤ remaining_before (letter stem cycle) k → Raised k
+      → length (remaining stem) + length (remaining cycle) * c.states ≤ remaining_before (letter stem cycle) k
+      → Raised k
   raised_in_time broken k enough =
       (raised_iff k).1
       (alarm_by_then rule a takes stem cycle some broken (remaining_before (letter stem cycle) k)
@@ -90,7 +91,8 @@ module _ (rule s t i s' t' i' image image' : List ℕ) (c : Counts) (n : ℕ)
   -- raised at some step if and only if broken
   pub raised_iff_broken : ((k : ℕ) × Raised k) ↔ (Kept → ⊥)
   raised_iff_broken = (
-    λ (k, raised). (alarm_iff_broken rule a takes stem cycle some).0 (remaining_before (letter stem cycle) k, (raised_iff k).0 raised),
+    λ (k, raised). (alarm_iff_broken rule a takes stem cycle some).0
+        (remaining_before (letter stem cycle) k, (raised_iff k).0 raised),
     λ broken.
         let last = remaining_letters stem cycle some (length (remaining stem) + length (remaining cycle) * c.states) in
         (last.place, raised_in_time broken last.place (omega (arith, last.before))),

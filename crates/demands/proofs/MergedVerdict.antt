@@ -30,35 +30,37 @@ answers_same : (r : Result Finding) (check : Check) (P Q : Type 0) → P ↔ Q �
 answers_same r (accepted u) P Q same e = exactly_same r P Q same e
 answers_same r (refused number place) P Q same e = e
 
-module _ (first second lent merged : List ℕ) (m : ℕ) (merging : buffer (accepted m) merged ≡ merges first second lent) where
-  -- a lasso satisfies the bytes that merge left, as a written rule, exactly when it satisfies both rules
-  both : (stem cycle : List ℕ)
-      → SatisfiesWritten (take m merged) stem cycle ↔ (Satisfies first stem cycle × Satisfies second stem cycle)
-  both stem cycle =
-      let made = merged_at first second lent m merged (sym merging) in
-      rw made.is (written_both first second made.may stem cycle)
+module _ (first second lent merged : List ℕ) (m : ℕ) (merging : buffer (accepted m) merged ≡ merges first second lent)
+  where
+    -- a lasso satisfies the bytes that merge left, as a written rule, exactly when it satisfies both rules
+    both : (stem cycle : List ℕ)
+        → SatisfiesWritten (take m merged) stem cycle ↔ (Satisfies first stem cycle × Satisfies second stem cycle)
+    both stem cycle =
+        let made = merged_at first second lent m merged (sym merging) in
+        rw made.is (written_both first second made.may stem cycle)
 
-  -- merge has accepted two first-edition rules, translate what merge left, and write what translate left. Then judging
-  -- the image that write left says kept exactly when the letters of the lasso that remain satisfy both rules, and
-  -- broken exactly when they do not.
-  pub merged_verdict : (s t i s' t' i' image image' : List ℕ) (c : Counts) (n : ℕ)
-      → outcome (accepted c) s' t' i' ≡ translated (take m merged) s t i
-      → buffer (accepted n) image' ≡ writes c s' t' i' image
-      → (stem cycle work : List ℕ) → 0 < length (remaining cycle) → length stem + length cycle ≤ max_letters
-      → work_bytes ≤ length work
-      → Exactly (judged (take n image') stem cycle work).answer
-      (Satisfies first (remaining stem) (remaining cycle) × Satisfies second (remaining stem) (remaining cycle))
-  merged_verdict s t i s' t' i' image image' c n translating writing stem cycle work some few enough =
-      exactly_same (judged (take n image') stem cycle work).answer _ _ (both (remaining stem) (remaining cycle))
-      (three_calls_exactly (take m merged) s t i s' t' i' image image' c n translating writing stem cycle work some few enough)
+    -- merge has accepted two first-edition rules, translate what merge left, and write what translate left. Then judging
+    -- the image that write left says kept exactly when the letters of the lasso that remain satisfy both rules, and
+    -- broken exactly when they do not.
+    pub merged_verdict : (s t i s' t' i' image image' : List ℕ) (c : Counts) (n : ℕ)
+        → outcome (accepted c) s' t' i' ≡ translated (take m merged) s t i
+        → buffer (accepted n) image' ≡ writes c s' t' i' image
+        → (stem cycle work : List ℕ) → 0 < length (remaining cycle) → length stem + length cycle ≤ max_letters
+        → work_bytes ≤ length work
+        → Exactly (judged (take n image') stem cycle work).answer
+        (Satisfies first (remaining stem) (remaining cycle) × Satisfies second (remaining stem) (remaining cycle))
+    merged_verdict s t i s' t' i' image image' c n translating writing stem cycle work some few enough =
+        exactly_same (judged (take n image') stem cycle work).answer _ _ (both (remaining stem) (remaining cycle))
+        (three_calls_exactly (take m merged) s t i s' t' i' image image' c n translating writing stem cycle work some few
+        enough)
 
-  -- the same of merge and decide: the first refusal in decide's order, else kept exactly when the letters of the lasso
-  -- that remain satisfy both rules, and broken exactly when they do not
-  pub merged_decided : (stem cycle s t i image work : List ℕ)
-      → Answers (decided (take m merged) stem cycle s t i image work).answer
-      (decidable (take m merged) stem cycle s t i image work)
-      (Satisfies first (remaining stem) (remaining cycle) × Satisfies second (remaining stem) (remaining cycle))
-  merged_decided stem cycle s t i image work =
-      answers_same (decided (take m merged) stem cycle s t i image work).answer
-      (decidable (take m merged) stem cycle s t i image work) _ _ (both (remaining stem) (remaining cycle))
-      (decided_exactly (take m merged) stem cycle s t i image work)
+    -- the same of merge and decide: the first refusal in decide's order, else kept exactly when the letters of the lasso
+    -- that remain satisfy both rules, and broken exactly when they do not
+    pub merged_decided : (stem cycle s t i image work : List ℕ)
+        → Answers (decided (take m merged) stem cycle s t i image work).answer
+        (decidable (take m merged) stem cycle s t i image work)
+        (Satisfies first (remaining stem) (remaining cycle) × Satisfies second (remaining stem) (remaining cycle))
+    merged_decided stem cycle s t i image work =
+        answers_same (decided (take m merged) stem cycle s t i image work).answer
+        (decidable (take m merged) stem cycle s t i image work) _ _ (both (remaining stem) (remaining cycle))
+        (decided_exactly (take m merged) stem cycle s t i image work)

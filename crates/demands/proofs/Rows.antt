@@ -8,7 +8,8 @@ use mathlib.Core.List.{List, [], ◌∷◌, map}
 use mathlib.Core.Bool.{Bool, true, false}
 use lib.ListN.{length}
 use lib.Bits.{bit_or}
-use Rattle.sets.specs.Sets.{insert, union, insert_join, insert_joins, insert_product, join_conflicts, product_conflicts, any, In}
+use Rattle.sets.specs.Sets.{insert, union, insert_join, insert_joins, insert_product, join_conflicts, product_conflicts}
+use Rattle.sets.specs.Sets.{any, In}
 use Rattle.answer.specs.Result.{Result, accepted, and_then, fine, lowest}
 use Rattle.formula.specs.Rule.{left_operand, one_child, right_operand, length_check, node_check, places, place_check}
 use Rattle.formula.specs.Rule.{syntax_check, untils, until_check}
@@ -31,7 +32,8 @@ use Rattle.translation.specs.Degeneralized.{climb, next_level, numbers, initial_
 use Rattle.translation.specs.Degeneralized.{degeneralized, state_of, translation}
 use Rattle.translation.specs.Translate.{written_translation}
 use Rattle.translation.specs.Conflicts.{rule_conflicts, written_conflicts}
-use Rattle.automaton.specs.Records.{records, numbered, state_record, transition_record, state_records, transition_records}
+use Rattle.automaton.specs.Records.{records, numbered, state_record, transition_record, state_records}
+use Rattle.automaton.specs.Records.{transition_records}
 use Rattle.automaton.specs.Records.{initial_records}
 use Rattle.answer.specs.Bytes.{two_bytes}
 use Rattle.automaton.specs.Tables.{transition_count}
@@ -130,7 +132,11 @@ p3 = record {
   sets = 1 ∷ 0 ∷ [];
   count = 2;
   conflicts = 0;
-  automaton = record { states = state true (transition 1 0 1 ∷ []) ∷ state true (transition 0 0 1 ∷ []) ∷ []; initial = 0 ∷ [] };
+  automaton = record {
+    states = state true (transition 1 0 1 ∷ []) ∷ state true (transition 0 0 1 ∷ []) ∷ [];
+    initial =
+        0 ∷ [];
+  };
   images = (1 ∷ 0 ∷ 2 ∷ 0 ∷ 18 ∷ 0 ∷ 2 ∷ 0 ∷ 2 ∷ 0 ∷ 26 ∷ 0 ∷ 3 ∷ 0 ∷ 1 ∷ 0 ∷ 34 ∷ 0
       ∷ 1 ∷ 0 ∷ 1 ∷ 0 ∷ 1 ∷ 0 ∷ 1 ∷ 1 ∷ 1 ∷ 0 ∷ 1 ∷ 0 ∷ 0 ∷ 0 ∷ 1 ∷ 0 ∷ 0 ∷ 0 ∷ []) ∷ [];
   cases = [];
@@ -143,7 +149,11 @@ p4 = record {
   sets = 4 ∷ 0 ∷ [];
   count = 3;
   conflicts = 0;
-  automaton = record { states = state false (transition 1 0 1 ∷ transition 0 0 0 ∷ []) ∷ state true (transition 0 0 1 ∷ []) ∷ []; initial = 0 ∷ [] };
+  automaton = record {
+    states = state false (transition 1 0 1 ∷ transition 0 0 0 ∷ []) ∷ state true
+        (transition 0 0 1 ∷ []) ∷ [];
+    initial = 0 ∷ [];
+  };
   images = [];
   -- then the same two with skipped letters, whatever their other bits (R-9)
   cases =
@@ -170,7 +180,11 @@ p6 = record {
   sets = 2 ∷ 1 ∷ 0 ∷ [];
   count = 3;
   conflicts = 0;
-  automaton = record { states = state true (transition 0 0 1 ∷ []) ∷ state true (transition 1 0 2 ∷ []) ∷ state true (transition 0 0 2 ∷ []) ∷ []; initial = 0 ∷ [] };
+  automaton = record {
+    states = state true (transition 0 0 1 ∷ []) ∷ state true (transition 1 0 2 ∷ []) ∷ state true
+        (transition 0 0 2 ∷ []) ∷ [];
+    initial = 0 ∷ [];
+  };
   images = [];
   -- then the same two with skipped letters, which take no place (R-9)
   cases =
@@ -185,7 +199,11 @@ p7 = record {
   sets = 4 ∷ 0 ∷ [];
   count = 3;
   conflicts = 0;
-  automaton = record { states = state false (transition 2 0 1 ∷ transition 1 0 0 ∷ []) ∷ state true (transition 0 0 1 ∷ []) ∷ []; initial = 0 ∷ [] };
+  automaton = record {
+    states = state false (transition 2 0 1 ∷ transition 1 0 0 ∷ []) ∷ state true
+        (transition 0 0 1 ∷ []) ∷ [];
+    initial = 0 ∷ [];
+  };
   images = [];
   cases = on (1 ∷ 1 ∷ []) (2 ∷ []) kept 4 ∷ on [] (1 ∷ []) broken 1 ∷ [];
 }
@@ -197,7 +215,11 @@ p8 = record {
   sets = 4 ∷ 0 ∷ [];
   count = 3;
   conflicts = 0;
-  automaton = record { states = state true (transition 3 0 1 ∷ transition 2 0 0 ∷ []) ∷ state true (transition 0 0 1 ∷ []) ∷ []; initial = 0 ∷ [] };
+  automaton = record {
+    states = state true (transition 3 0 1 ∷ transition 2 0 0 ∷ []) ∷ state true
+        (transition 0 0 1 ∷ []) ∷ [];
+    initial = 0 ∷ [];
+  };
   images = [];
   cases = on [] (2 ∷ []) kept 1 ∷ on (3 ∷ []) (0 ∷ []) kept 2 ∷ on (2 ∷ []) (1 ∷ []) broken 2 ∷ [];
 }
@@ -210,7 +232,8 @@ p9 = record {
   count = 4;
   conflicts = 0;
   automaton = record {
-    states = state false (transition 1 0 1 ∷ transition 0 0 2 ∷ []) ∷ state true (transition 1 0 1 ∷ transition 0 0 2 ∷ [])
+    states =
+        state false (transition 1 0 1 ∷ transition 0 0 2 ∷ []) ∷ state true (transition 1 0 1 ∷ transition 0 0 2 ∷ [])
         ∷ state false (transition 1 0 1 ∷ transition 0 0 2 ∷ []) ∷ [];
     initial = 0 ∷ [];
   };
@@ -281,14 +304,17 @@ table = p1 ∷ p2 ∷ p3 ∷ p4 ∷ p5 ∷ p6 ∷ p7 ∷ p8 ∷ p9 ∷ p4_writte
 -- ---- the whole table, computed
 
 forms : map (λ row. normal_form row.rule) table ≡ map (λ row. accepted row.form) table
-unfolding on state transition written_as table p1 p2 p3 p4 p5 p6 p7 p8 p9 p4_written p5_written p9_written if_open_padded
+unfolding on state transition written_as table p1 p2 p3 p4 p5 p6 p7 p8 p9 p4_written p5_written p9_written
+    if_open_padded
     both_ways both_ways_next
-    lowest left_operand one_child right_operand length_check node_check places place_check syntax_check trees written_check
+    lowest left_operand one_child right_operand length_check node_check places place_check syntax_check trees
+    written_check
     written_tree code below NormalForm.entry member rank emit size normal_bytes normal_form
 forms = refl
 
 walks : map (λ row. generalized row.form) table ≡ map (λ row. accepted row.sets) table
-unfolding on state transition written_as table p1 p2 p3 p4 p5 p6 p7 p8 p9 p4_written p5_written p9_written if_open_padded
+unfolding on state transition written_as table p1 p2 p3 p4 p5 p6 p7 p8 p9 p4_written p5_written p9_written
+    if_open_padded
     both_ways both_ways_next
     insert union insert_join insert_joins insert_product any lowest untils trees tree formula cover terms shows fulfils
     bits_of fulfilment dominates sift find meet meet_all explore partial_product transitions product_check targets
@@ -296,7 +322,8 @@ unfolding on state transition written_as table p1 p2 p3 p4 p5 p6 p7 p8 p9 p4_wri
 walks = refl
 
 counts : map (λ row. length (all_transitions row.form row.sets)) table ≡ map (λ row. row.count) table
-unfolding on state transition written_as table p1 p2 p3 p4 p5 p6 p7 p8 p9 p4_written p5_written p9_written if_open_padded
+unfolding on state transition written_as table p1 p2 p3 p4 p5 p6 p7 p8 p9 p4_written p5_written p9_written
+    if_open_padded
     both_ways both_ways_next
     insert union insert_join insert_joins insert_product any lowest untils trees tree formula cover terms shows fulfils
     bits_of fulfilment dominates sift find meet meet_all explore partial_product transitions product_check targets
@@ -305,32 +332,39 @@ counts = refl
 
 sets_clash : map (λ row. bit_or (conflicts (formula row.form)) (walk_conflicts row.form row.sets)) table
     ≡ map (λ row. row.conflicts) table
-unfolding on state transition written_as table p1 p2 p3 p4 p5 p6 p7 p8 p9 p4_written p5_written p9_written if_open_padded
+unfolding on state transition written_as table p1 p2 p3 p4 p5 p6 p7 p8 p9 p4_written p5_written p9_written
+    if_open_padded
     both_ways both_ways_next
     insert union insert_join insert_joins insert_product join_conflicts product_conflicts trees tree formula cover terms
     conflicts partial_product partial_conflicts walk_conflicts
 sets_clash = refl
 
 translations : map (λ row. translation row.form) table ≡ map (λ row. accepted row.automaton) table
-unfolding on state transition written_as table p1 p2 p3 p4 p5 p6 p7 p8 p9 p4_written p5_written p9_written if_open_padded
+unfolding on state transition written_as table p1 p2 p3 p4 p5 p6 p7 p8 p9 p4_written p5_written p9_written
+    if_open_padded
     both_ways both_ways_next
-    insert union insert_join insert_joins insert_product any lowest left_operand one_child right_operand length_check node_check
-    places place_check syntax_check untils until_check Rule.checked trees tree formula cover terms size_check sizes_checked
+    insert union insert_join insert_joins insert_product any lowest left_operand one_child right_operand length_check
+    node_check
+    places place_check syntax_check untils until_check Rule.checked trees tree formula cover terms size_check
+    sizes_checked
     find meet meet_all explore partial_product transitions product_check targets generalized shows fulfils bits_of
     fulfilment dominates sift climb next_level numbers initial_numbers pair_transitions target degeneralized state_of
     translation
 translations = refl
 
 images : map (λ row. map (λ image. image_bytes row.automaton) row.images) table ≡ map (λ row. map (λ image. image) row.images) table
-unfolding on state transition written_as table p1 p2 p3 p4 p5 p6 p7 p8 p9 p4_written p5_written p9_written if_open_padded
+unfolding on state transition written_as table p1 p2 p3 p4 p5 p6 p7 p8 p9 p4_written p5_written p9_written
+    if_open_padded
     both_ways both_ways_next
-    any at_rest transition_count records numbered two_bytes state_record transition_record state_records transition_records
+    any at_rest transition_count records numbered two_bytes state_record transition_record state_records
+    transition_records
     initial_records
     entry contents image_bytes
 images = refl
 
 fits : map (λ row. map (λ c. lasso_check c.stem c.cycle) row.cases) table ≡ map (λ row. map (λ c. fine) row.cases) table
-unfolding on state transition written_as table p1 p2 p3 p4 p5 p6 p7 p8 p9 p4_written p5_written p9_written if_open_padded
+unfolding on state transition written_as table p1 p2 p3 p4 p5 p6 p7 p8 p9 p4_written p5_written p9_written
+    if_open_padded
     both_ways both_ways_next
     remaining lasso_check
 fits = refl
@@ -338,7 +372,8 @@ fits = refl
 findings :
     map (λ row. map (λ c. found row.automaton (remaining c.stem) (remaining c.cycle)) row.cases) table
     ≡ map (λ row. map (λ c. c.finds) row.cases) table
-unfolding on state transition written_as table p1 p2 p3 p4 p5 p6 p7 p8 p9 p4_written p5_written p9_written if_open_padded
+unfolding on state transition written_as table p1 p2 p3 p4 p5 p6 p7 p8 p9 p4_written p5_written p9_written
+    if_open_padded
     both_ways both_ways_next
     remaining letter any at_rest Search.visit Search.visit_all Search.read_targets after Search.onward Search.reach
     Search.reached_from Search.starts up_to taken rest_taken pairs_taken has_accepting_pass verdict
@@ -365,7 +400,9 @@ rows row m = record {
   imaged = same_each _ _ row.images (same_each _ _ table images row m);
   judges = λ c n work enough.
       let fit = same_each _ _ row.cases (same_each _ _ table fits row m) c n in
-      ap (λ (j : Judgement). j.answer) (image_judged row.automaton (written_well_formed row.rule row.automaton translated) c.stem c.cycle work fit enough)
+      ap (λ (j : Judgement). j.answer)
+      (image_judged row.automaton (written_well_formed row.rule row.automaton translated) c.stem c.cycle work fit
+      enough)
       ∙ ap accepted (same_each _ _ row.cases (same_each _ _ table findings row m) c n);
 }
   where

@@ -59,7 +59,8 @@ module _ (rule s t i image : List ℕ) (fits : TablesRoom s t i) (room : largest
           go : (r : Result Automaton) → written_translation rule ≡ r → outcome told s' t' i' ≡ stored r s t i → Stored
           go (accepted a) known tables =
               let same : c ≡ counts a = cc (ap (λ (o : Outcome). o.answer) tables) in
-              let handed : writes c s' t' i' image ≡ writes (counts a) (filled s (state_records a)) (filled t (transition_records a)) (filled i (initial_records a)) image =
+              let handed : writes c s' t' i' image ≡ writes (counts a) (filled s (state_records a))
+              (filled t (transition_records a)) (filled i (initial_records a)) image =
               λ k. writes (same k) (tables k).states (tables k).transitions (tables k).initial image in
               let done = writing ∙ handed ∙ image_written a known in
               record {
@@ -83,7 +84,14 @@ module _ (rule s t i image : List ℕ) (fits : TablesRoom s t i) (room : largest
         image_size = cc has_stored.answered
 
         pub image_inside : n ≤ length image'
-        image_inside = omega (arith, image_size, ap length has_stored.stored_in, length-append (image_bytes a) (drop (length (image_bytes a)) image))
+        image_inside =
+            omega (
+              arith,
+              image_size,
+              ap length has_stored.stored_in,
+              length-append (image_bytes a)
+                  (drop (length (image_bytes a)) image),
+            )
 
         pub image_is : take n image' ≡ image_bytes a
         image_is =
@@ -101,8 +109,11 @@ translate_fine rule s t i s' t' i' c e = go (and_then (table_check s t i) (λ _.
     go : (check : Check) → and_then (table_check s t i) (λ _. written_checked rule) ≡ check
         → outcome (accepted c) s' t' i' ≡ unless check (stored (written_translation rule) s t i) s t i
         → (table_check s t i ≡ fine) × (written_checked rule ≡ fine)
-    go (accepted u) known is =
-        (fine_first (table_check s t i) (written_checked rule) known, fine_second (table_check s t i) (written_checked rule) known)
+    go (accepted u) known is = (
+      fine_first (table_check s t i) (written_checked rule) known,
+      fine_second (table_check s t i)
+          (written_checked rule) known,
+    )
     go (refused number place) known is = never_both (sym (ap (λ (o : Outcome). o.answer) is))
 
 write_fine : (c : Counts) (s t i image image' : List ℕ) (n : ℕ) → buffer (accepted n) image' ≡ writes c s t i image

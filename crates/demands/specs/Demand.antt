@@ -63,7 +63,8 @@ decided rule stem cycle s t i image work =
 -- every refusal in its order: 25, 1 to 6, 26 and 7, 8, 9 and 28, then the rule's 20 to 24
 unfoldable pub decidable : (rule stem cycle states transitions initial image work : List ℕ) → Check
 decidable rule stem cycle s t i image work =
-    and_then (input_check rule stem cycle s t i image work) (λ _. and_then (written_translation rule) (λ _. accepted tt))
+    and_then (input_check rule stem cycle s t i image work)
+    (λ _. and_then (written_translation rule) (λ _. accepted tt))
 
 -- the first refusal where there is one, else kept exactly where P holds and broken exactly where it does not
 abbrev pub Answers : Result Finding → Check → Type 0 → Type 0

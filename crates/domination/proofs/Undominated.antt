@@ -110,42 +110,43 @@ module _ {A : Type 0} (dominates : A → A → Bool) (rank : A → ℕ)
       let (y, m, d) = (any_iff (λ y. dominates y x) xs).0 e in above_from (suc (rank y)) x y (omega arith) m d
 
   -- where ranks rise along xs, the undominated before place i tell whether the one at i is dominated
-  module _ (none : A) (rises : (i j : ℕ) → i < j → j < length xs → rank (get_or xs i none) < rank (get_or xs j none)) where
-    pub dominated_before : (i : ℕ) → i < length xs
-        → any (λ y. dominates y (get_or xs i none)) (sift (stays dominates xs) (take i xs))
-        ≡ any (λ y. dominates y (get_or xs i none)) xs
-    dominated_before i lt = same_answer _ _ there back
-      where
-        here : A
-        here = get_or xs i none
+  module _ (none : A) (rises : (i j : ℕ) → i < j → j < length xs → rank (get_or xs i none) < rank (get_or xs j none))
+    where
+      pub dominated_before : (i : ℕ) → i < length xs
+          → any (λ y. dominates y (get_or xs i none)) (sift (stays dominates xs) (take i xs))
+          ≡ any (λ y. dominates y (get_or xs i none)) xs
+      dominated_before i lt = same_answer _ _ there back
+        where
+          here : A
+          here = get_or xs i none
 
-        before : List A
-        before = sift (stays dominates xs) (take i xs)
+          before : List A
+          before = sift (stays dominates xs) (take i xs)
 
-        there : any (λ y. dominates y here) before ≡ true → any (λ y. dominates y here) xs ≡ true
-        there e =
-            let (y, m, d) = (any_iff (λ y. dominates y here) before).0 e in
-            let n = in_append y (take i xs) (drop i xs) (inl (sift_in (stays dominates xs) y (take i xs) m).0) in
-            (any_iff (λ y. dominates y here) xs).1 (y, subst (In y) (take-append-drop i xs) n, d)
+          there : any (λ y. dominates y here) before ≡ true → any (λ y. dominates y here) xs ≡ true
+          there e =
+              let (y, m, d) = (any_iff (λ y. dominates y here) before).0 e in
+              let n = in_append y (take i xs) (drop i xs) (inl (sift_in (stays dominates xs) y (take i xs) m).0) in
+              (any_iff (λ y. dominates y here) xs).1 (y, subst (In y) (take-append-drop i xs) n, d)
 
-        earlier : (j : ℕ) → j < length xs → rank (get_or xs j none) < rank here → j < i
-        earlier j l fall = go (dec_lt j i) (dec_lt i j)
-          where
-            go : Dec (j < i) → Dec (i < j) → j < i
-            go (yes k) d = k
-            go (no k) (yes g) = absurd (omega (arith, rises i j g l))
-            go (no k) (no g) =
-                let e : j ≡ i = omega arith in
-                absurd (omega (arith, ap (λ (n : ℕ). rank (get_or xs n none)) e))
+          earlier : (j : ℕ) → j < length xs → rank (get_or xs j none) < rank here → j < i
+          earlier j l fall = go (dec_lt j i) (dec_lt i j)
+            where
+              go : Dec (j < i) → Dec (i < j) → j < i
+              go (yes k) d = k
+              go (no k) (yes g) = absurd (omega (arith, rises i j g l))
+              go (no k) (no g) =
+                  let e : j ≡ i = omega arith in
+                  absurd (omega (arith, ap (λ (n : ℕ). rank (get_or xs n none)) e))
 
-        back : any (λ y. dominates y here) xs ≡ true → any (λ y. dominates y here) before ≡ true
-        back e =
-            let up = dominated_above here e in
-            let (m, f) = sift_in (stays dominates xs) up.above xs up.listed in
-            let (j, l, q) = in_at none up.above xs m in
-            let k = earlier j l (subst (λ (y : A). rank y < rank here) (sym q) (falls up.above here up.holds)) in
-            let n = at_in none (take i xs) j (omega (arith, length-take i xs)) in
-            let is : get_or (take i xs) j none ≡ up.above = get_or-take i xs j none k ∙ q in
-            let before-i = subst (λ (y : A). In y (take i xs)) is n in
-            (any_iff (λ y. dominates y here) before).1
-            (up.above, in_sift (stays dominates xs) up.above (take i xs) before-i f, up.holds)
+          back : any (λ y. dominates y here) xs ≡ true → any (λ y. dominates y here) before ≡ true
+          back e =
+              let up = dominated_above here e in
+              let (m, f) = sift_in (stays dominates xs) up.above xs up.listed in
+              let (j, l, q) = in_at none up.above xs m in
+              let k = earlier j l (subst (λ (y : A). rank y < rank here) (sym q) (falls up.above here up.holds)) in
+              let n = at_in none (take i xs) j (omega (arith, length-take i xs)) in
+              let is : get_or (take i xs) j none ≡ up.above = get_or-take i xs j none k ∙ q in
+              let before-i = subst (λ (y : A). In y (take i xs)) is n in
+              (any_iff (λ y. dominates y here) before).1
+              (up.above, in_sift (stays dominates xs) up.above (take i xs) before-i f, up.holds)

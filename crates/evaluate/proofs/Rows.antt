@@ -117,7 +117,8 @@ module _ (stem cycle : List ℕ) (pos : 0 < length cycle) where
     until_step : ℕ → Bool → Bool
     until_step i r = at b i || (at a i && r)
 
-    until_step_lem : (p : ℕ) → p < s + n → (r : Bool) → until_step p r ≡ true ↔ (Holds w g p ⊎ (Holds w f p × (r ≡ true)))
+    until_step_lem : (p : ℕ) → p < s + n → (r : Bool)
+        → until_step p r ≡ true ↔ (Holds w g p ⊎ (Holds w f p × (r ≡ true)))
     unfolding until_step
     until_step_lem p l r = (
       λ e. elim ((or_iff (at b p) (at a p && r)).0 e) [

@@ -67,7 +67,8 @@ module _ (f : ℕ → Bool → Bool) (at end : ℕ) (v : Bool) (xs : List Bool) 
       made = q ∙ ap (λ (k : ℕ). f j (get_or (sweep f k (end - k) v) 0 v)) e
 
   -- places before the row are as they were
-  pub before_row : (ys : List Bool) (i k : ℕ) → k < at → Swept f at end v xs ys i → get_or ys k false ≡ get_or xs k false
+  pub before_row : (ys : List Bool) (i k : ℕ) → k < at → Swept f at end v xs ys i
+      → get_or ys k false ≡ get_or xs k false
   before_row ys i k l inv =
       sym (get_or-take (at + i) ys k false (omega arith)) ∙ ap (λ (zs : List Bool). get_or zs k false) inv.kept
       ∙ get_or-take (at + i) xs k false (omega arith)
@@ -100,7 +101,8 @@ module _ (kind a b at total : ℕ) (v : Bool) (f : ℕ → Bool → Bool) (xs ys
       let m : next < total = omega (arith, after_small stem cycle pos j) in
       let p = before_row f at total v xs ys i (a + j) (omega arith) inv in
       let o = before_row f at total v xs ys i (b + j) (omega arith) inv in
-      let t = before_row f at total v xs ys i (a + next) (omega arith) inv ∙ ap (λ (k : ℕ). get_or xs (a + k) false) n in
+      let t =
+      before_row f at total v xs ys i (a + next) (omega arith) inv ∙ ap (λ (k : ℕ). get_or xs (a + k) false) n in
       q ∙ ap (λ (z : Bool). pair_here kind z (get_or ys (b + j) false) (get_or ys (a + next) false)) p
       ∙ ap (λ (z : Bool). pair_here kind (get_or xs (a + j) false) z (get_or ys (a + next) false)) o
       ∙ ap (λ (z : Bool). pair_here kind (get_or xs (a + j) false) (get_or xs (b + j) false) z) t

@@ -1,5 +1,6 @@
 -- How the table of flags lies in memory: row k begins at place k * max_letters and has a place for each position.
-use Rattle.std.specs.Prelude.{ℕ, ◌+◌, ◌-◌, ◌*◌, ◌/◌, ◌%◌, ◌^◌, ◌<◌, ◌≤◌, ◌≡◌, List, [], Bool, true, false, cond, not, ◌&&◌, ◌||◌, get_or, length, take, drop, eqb}
+use Rattle.std.specs.Prelude.{ℕ, ◌+◌, ◌-◌, ◌*◌, ◌/◌, ◌%◌, ◌^◌, ◌<◌, ◌≤◌, ◌≡◌, List, [], Bool, true, false, cond, not}
+use Rattle.std.specs.Prelude.{◌&&◌, ◌||◌, get_or, length, take, drop, eqb}
 use Rattle.lasso.specs.Lasso.{letter, after, max_letters}
 use Rattle.formula.specs.Rule.{node_count}
 use Rattle.evaluate.specs.Truth.{sweep, truth}
@@ -26,7 +27,8 @@ leaf_step kind p stem cycle i next = leaf_here kind p (letter stem cycle i)
 
 abbrev pub pair_step : (kind : ℕ) (table : List Bool) (a b : ℕ) (stem cycle : List ℕ) → ℕ → Bool → Bool
 pair_step kind table a b stem cycle i next =
-    pair_here kind (get_or table (a + i) false) (get_or table (b + i) false) (get_or table (a + after stem cycle i) false)
+    pair_here kind (get_or table (a + i) false) (get_or table (b + i) false)
+    (get_or table (a + after stem cycle i) false)
 
 abbrev pub round_step : (kind : ℕ) (table : List Bool) (a b : ℕ) → ℕ → Bool → Bool
 round_step kind table a b i next = round_here kind (get_or table (a + i) false) (get_or table (b + i) false) next

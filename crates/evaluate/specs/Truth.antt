@@ -1,6 +1,7 @@
 -- Where each node of a rule holds on a lasso: a row of flags for each node, one for each position of stem and cycle.
 -- `true_iff_holds` (proofs/Rows.antt) says that flag i of row k is whether the tree of node k holds at letter i.
-use Rattle.std.specs.Prelude.{ℕ, zero, suc, ◌+◌, ◌/◌, ◌%◌, ◌^◌, List, [], ◌∷◌, Bool, true, false, ◌&&◌, ◌||◌, get_or, length, eqb}
+use Rattle.std.specs.Prelude.{ℕ, zero, suc, ◌+◌, ◌/◌, ◌%◌, ◌^◌, List, [], ◌∷◌, Bool, true, false, ◌&&◌, ◌||◌, get_or}
+use Rattle.std.specs.Prelude.{length, eqb}
 use Rattle.lasso.specs.Lasso.{letter, after}
 use Rattle.formula.specs.Formula.{trees}
 

@@ -98,7 +98,8 @@ module _ (rule stem cycle : List ℕ) (pos : 0 < length cycle) where
           (and-eq-true_iff (not (right rule stem cycle c i)) _).1 (
             (not_iff (right_at rule c) i l).1 x,
             ap not
-                (false_below (left rule stem cycle c) i (λ j m. (false_iff (left_at rule c) j (omega arith)).1 (y j m))),
+                (false_below (left rule stem cycle c) i
+                (λ j m. (false_iff (left_at rule c) j (omega arith)).1 (y j m))),
           ),
     )
 

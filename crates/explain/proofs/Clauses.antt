@@ -28,7 +28,8 @@ module _ (rule : List ℕ) (accepted-rule : checked rule ≡ fine) where
   -- the tree of a node above kind 3, by those of its children
   tree_pair : (n : ℕ) → n < node_count rule → 3 < kind_at rule n → tree rule n ≡ of (kind_at rule n) n
   tree_pair n l inner =
-      pair_in rule n l (node n l) (λ f. f ≡ of (kind_at rule n) n) (kind_at rule n) refl (left_at rule n) (right_at rule n)
+      pair_in rule n l (node n l) (λ f. f ≡ of (kind_at rule n) n) (kind_at rule n) refl (left_at rule n)
+      (right_at rule n)
       refl refl inner refl
 
   tree_and : (n : ℕ) → n < node_count rule → kind_at rule n ≡ 4

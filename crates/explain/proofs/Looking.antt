@@ -44,7 +44,8 @@ module _ (test : ℕ → Bool) (total : ℕ) where
       go j m (yes q) = ap test q ∙ e
       go j m (no q) = inv.passed j (omega arith)
 
-  pub look_finds : (i : ℕ) → i < total → test i ≡ true → Looking test total i → or_none total i ≡ first_from test 0 total
+  pub look_finds : (i : ℕ) → i < total → test i ≡ true → Looking test total i
+      → or_none total i ≡ first_from test 0 total
   look_finds i l e inv =
       or_some total i l ∙ sym (found_at test 0 total i (omega arith) (omega arith) (λ j a b. inv.passed j b) e)
 

@@ -28,7 +28,8 @@ use Rattle.explain.proofs.Naming.{or_some, or_none_lem}
 
 -- ---- tests that agree
 
-failing_agree : (f g : ℕ → Bool) (cs : List ℕ) → ((c : ℕ) → In c cs → f c ≡ g c) → first_failing f cs ≡ first_failing g cs
+failing_agree : (f g : ℕ → Bool) (cs : List ℕ) → ((c : ℕ) → In c cs → f c ≡ g c)
+    → first_failing f cs ≡ first_failing g cs
 unfolding first_failing
 failing_agree f g [] h = refl
 failing_agree f g (c ∷ cs) h =
@@ -113,7 +114,8 @@ module _ {rule stem cycle : List ℕ} {table : List Bool} (known : Known rule st
           let places = known.room.places in
           (omega arith, omega arith)
 
-      left_flag : (i : ℕ) → i < total → get_or table (l * max_letters + i) false ≡ true_at rule stem cycle (left_at rule c) i
+      left_flag : (i : ℕ) → i < total
+          → get_or table (l * max_letters + i) false ≡ true_at rule stem cycle (left_at rule c) i
       left_flag i m =
           let x = left_inside el high in flag_is l i (omega arith) m ∙ ap (λ (k : ℕ). true_at rule stem cycle k i) el
 

@@ -64,14 +64,17 @@ cases =
     ∷ []
 
 pub told_of_cases : map (λ c. explained c.rule c.stem c.cycle) cases ≡ map (λ c. c.tells) cases
-unfolding lowest any_below remaining letter after lasso_check place_in place_of left_operand one_child right_operand length_check
+unfolding lowest any_below remaining letter after lasso_check place_in place_of left_operand one_child right_operand
+    length_check
     node_check places place_check syntax_check untils until_check checked trees sweep truth true_at clauses_of clauses
     first_failing first_broken first_from release_break until_break break_at explanation explain_check explained
 told_of_cases = refl
 
 pub parts_of_cases : map (λ c. broken_part c.rule c.stem c.cycle) cases ≡ map (λ c. c.part) cases
-unfolding lowest any_below remaining letter after lasso_check place_in place_of left_operand one_child right_operand length_check
+unfolding lowest any_below remaining letter after lasso_check place_in place_of left_operand one_child right_operand
+    length_check
     node_check places place_check syntax_check untils until_check checked trees sweep truth true_at clauses_of clauses
-    first_failing first_broken first_from release_break until_break break_at explanation part_from explain_check explained
+    first_failing first_broken first_from release_break until_break break_at explanation part_from explain_check
+    explained
     broken_part
 parts_of_cases = refl

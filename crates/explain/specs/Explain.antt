@@ -1,6 +1,7 @@
 -- What is named when a lasso breaks a rule (02, R-11): a clause, and where it is broken. Here every letter of the lasso
 -- is one that remains. proofs/Named.antt says what is named by the meaning of rules.
-use Rattle.std.specs.Prelude.{ℕ, zero, suc, ◌+◌, ◌-◌, List, [], ◌∷◌, ◌++◌, Bool, cond, not, ◌&&◌, get_or, length, drop, eqb, ltb}
+use Rattle.std.specs.Prelude.{ℕ, zero, suc, ◌+◌, ◌-◌, List, [], ◌∷◌, ◌++◌, Bool, cond, not, ◌&&◌, get_or, length, drop}
+use Rattle.std.specs.Prelude.{eqb, ltb}
 use Rattle.std.proofs.Math.Option.{Option, none, some}
 use Rattle.sets.specs.Sets.{any_below}
 use Rattle.formula.specs.Rule.{root, kind_at, left_at, right_at}

@@ -119,13 +119,15 @@ module _ (image : List ℕ) (letter at : ℕ) where
   unfolding followed transitions_from any
   followed_none q = refl
 
-  pub followed_more : (i q : ℕ) → followed (suc i) q ≡ (followed i q || leads_to letter q (record_at image (at + 4 * i)))
+  pub followed_more : (i q : ℕ)
+      → followed (suc i) q ≡ (followed i q || leads_to letter q (record_at image (at + 4 * i)))
   unfolding followed
   followed_more i q = any_more (leads_to letter q) _ _ _ (records_more i at image)
 
   pub followed_all : (p count : ℕ) → p < (counts_at image).states → at ≡ records_at image p
       → count ≡ transition_count_of image p
-      → (q : ℕ) → followed count q ≡ any (leads_to letter q) (get_or (image_automaton image).states p no_state).transitions
+      → (q : ℕ)
+      → followed count q ≡ any (leads_to letter q) (get_or (image_automaton image).states p no_state).transitions
   unfolding followed
   followed_all p count lp ea ec q =
       ap (any (leads_to letter q)) (rw (ea, ec) refl ∙ sym (automaton_transitions image p lp))

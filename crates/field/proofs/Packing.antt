@@ -66,7 +66,8 @@ bits_one t i (suc n) l h = go (ℕ_discrete i t) (bits_one t (suc i) n)
 pub bits_or : (f g : ℕ → Bool) (i n : ℕ) → bit_or (bits_from f i n) (bits_from g i n) ≡ bits_from (λ q. f q || g q) i n
 unfolding bits_from
 bits_or f g i zero = refl
-bits_or f g i (suc n) = one (f i) (g i) (bits_from f (suc i) n) (bits_from g (suc i) n) ∙ rw (bits_or f g (suc i) n) refl
+bits_or f g i (suc n) =
+    one (f i) (g i) (bits_from f (suc i) n) (bits_from g (suc i) n) ∙ rw (bits_or f g (suc i) n) refl
   where
     one : (b c : Bool) (x y : ℕ) → bit_or (cond b 1 0 + 2 * x) (cond c 1 0 + 2 * y) ≡ cond (b || c) 1 0 + 2 * bit_or x y
     one b c x y =

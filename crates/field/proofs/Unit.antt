@@ -83,13 +83,21 @@ module _ (a : Automaton) (range : InRange a) (few : length a.states ≤ max_stat
       pub room : set_bytes ≤ length bytes
       pub states : (q : ℕ) → q < length a.states → in_set bytes q ≡ true ↔ Current a w i q
 
-    room_filled : (set : List ℕ) (test : ℕ → Bool) → set_bytes ≤ length set → set_bytes ≤ length (filled set (packed test))
-    room_filled set test l = omega (arith, length-append (packed test) (replicate (length set - length (packed test)) 0), bytes_length test set_bytes)
+    room_filled : (set : List ℕ) (test : ℕ → Bool) → set_bytes ≤ length set
+        → set_bytes ≤ length (filled set (packed test))
+    room_filled set test l =
+        omega (
+          arith,
+          length-append (packed test) (replicate (length set - length (packed test)) 0),
+          bytes_length test
+              set_bytes,
+        )
 
     holds_begin : (set : List ℕ) → set_bytes ≤ length set → Holds (filled set (packed (begun a))) 0
     holds_begin set l = record {
       room = room_filled set (begun a) l;
-      states = λ q m. subst (λ (b : Bool). b ≡ true ↔ In q a.initial) (sym (packed_has set (begun a) q (omega arith))) (begun_iff q);
+      states = λ q m. subst (λ (b : Bool). b ≡ true ↔ In q a.initial) (sym (packed_has set (begun a) q (omega arith)))
+          (begun_iff q);
     }
 
     holds_step : (set : List ℕ) (i : ℕ) → Holds set i → Holds (filled set (packed (moved a (in_set set) (w i)))) (suc i)
@@ -97,7 +105,8 @@ module _ (a : Automaton) (range : InRange a) (few : length a.states ≤ max_stat
     holds_step set i h = record {
       room = room_filled set (moved a (in_set set) (w i)) h.room;
       states = λ q m.
-          subst (λ (b : Bool). b ≡ true ↔ Current a w (suc i) q) (sym (packed_has set (moved a (in_set set) (w i)) q (omega arith)))
+          subst (λ (b : Bool). b ≡ true ↔ Current a w (suc i) q)
+          (sym (packed_has set (moved a (in_set set) (w i)) q (omega arith)))
           (there q, back q);
     }
       where
@@ -119,7 +128,8 @@ module _ (a : Automaton) (range : InRange a) (few : length a.states ≤ max_stat
     empty_iff set i h = (
       λ e q c.
           let l = current_inside i q c in
-          true≢false (sym ((below_iff (in_set set) (length a.states)).1 (q, l, (h.states q l).1 c)) ∙ not-true (any_below (in_set set) (length a.states)) e),
+          true≢false (sym ((below_iff (in_set set) (length a.states)).1 (q, l, (h.states q l).1 c)) ∙ not-true
+          (any_below (in_set set) (length a.states)) e),
       λ none. go (any_below (in_set set) (length a.states)) refl none,
     )
       where
@@ -138,7 +148,13 @@ module _ (image : List ℕ) (a : Automaton) (read : read_image image ≡ accepte
   range = subst InRange (sym same) (readable_in_range image (readable (read_of image a read)))
 
   pub few : length a.states ≤ max_states
-  few = omega (arith, ap (λ (b : Automaton). length b.states) same, automaton_states image, (readable (read_of image a read)).few)
+  few =
+      omega (
+        arith,
+        ap (λ (b : Automaton). length b.states) same,
+        automaton_states image,
+        (readable (read_of image a read)).few,
+      )
 
   starts : (set : List ℕ) → set_bytes ≤ length set → started image set ≡ begins a set
   unfolding started watchable
@@ -167,7 +183,8 @@ module _ (image : List ℕ) (a : Automaton) (read : read_image image ≡ accepte
       pub holds : Holds a range few w v.set i
 
     watches_left : (set : List ℕ) (i : ℕ) → Holds a range few w set i → Watches (left a set) i
-    watches_left set i h = record { alarm = is_empty a (in_set set); answer = refl; raised = empty_iff a range few w set i h; holds = h }
+    watches_left set i h =
+        record { alarm = is_empty a (in_set set); answer = refl; raised = empty_iff a range few w set i h; holds = h }
 
     -- a word as it is lent, of which w has the letters that remain
     module _ (lent : ℕ → ℕ) (remain : (p : ℕ) → remains (lent p) ≡ true → lent p ≡ w (remaining_before lent p)) where

@@ -1,5 +1,6 @@
 -- Sets of states: in lent bytes, and as tests that tell of each state whether it is in.
-use Rattle.std.specs.Prelude.{ℕ, zero, suc, ◌+◌, ◌*◌, ◌/◌, ◌%◌, List, [], ◌∷◌, ◌++◌, Bool, cond, not, ◌&&◌, get_or, length, eqb}
+use Rattle.std.specs.Prelude.{ℕ, zero, suc, ◌+◌, ◌*◌, ◌/◌, ◌%◌, List, [], ◌∷◌, ◌++◌, Bool, cond, not, ◌&&◌, get_or}
+use Rattle.std.specs.Prelude.{length, eqb}
 use Rattle.sets.specs.Bits.{has}
 use Rattle.sets.specs.Sets.{any, any_below}
 use Rattle.automaton.specs.Automaton.{Transition, Automaton, no_state, reads}

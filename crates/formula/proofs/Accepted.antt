@@ -121,14 +121,17 @@ accepted_fine rule e =
       whole = formed.whole;
       nodes = λ n lt. node_fine release_kind rule n (formed.each n lt);
       places = formed.places;
-      untils = leb-true (length (untilsOf rule (node_count rule))) max_untils (require_fine _ 7 0 (fine_second (syntax_check release_kind rule) _ e));
+      untils = leb-true (length (untilsOf rule (node_count rule))) max_untils
+          (require_fine _ 7 0 (fine_second (syntax_check release_kind rule) _ e));
     }
 
 -- and its kinds are those of the first edition
-pub accepted_kind : (rule : List ℕ) → checked rule ≡ fine → (n : ℕ) → n < node_count rule → kind_at rule n ≤ release_kind
+pub accepted_kind : (rule : List ℕ) → checked rule ≡ fine → (n : ℕ) → n < node_count rule
+    → kind_at rule n ≤ release_kind
 unfolding checked
 accepted_kind rule e n lt =
-    kind_known release_kind rule n ((formed_fine release_kind rule (fine_first (syntax_check release_kind rule) _ e)).each n lt)
+    kind_known release_kind rule n
+    ((formed_fine release_kind rule (fine_first (syntax_check release_kind rule) _ e)).each n lt)
 
 -- and its nodes' numbers are below the limit
 pub accepted_few : (rule : List ℕ) → checked rule ≡ fine → (n : ℕ) → n < node_count rule → n < max_nodes

@@ -10,14 +10,16 @@ use borrow.Author.Tests.{lt-ltb, le-ltb, le-leb, lt-leb, eq-eqb, ne_eqb, not-tru
 use Rattle.formula.specs.declared.Operand.{Operand}
 use Rattle.answer.specs.Result.{fine, refused, lowest}
 use Rattle.formula.specs.Limits.{rule_bytes}
-use Rattle.formula.specs.Rule.{kind_at, left_byte_fits, right_byte_fits, left_child_fits, right_child_fits, release_kind}
+use Rattle.formula.specs.Rule.{kind_at, left_byte_fits, right_byte_fits, left_child_fits, right_child_fits}
+use Rattle.formula.specs.Rule.{release_kind}
 use Rattle.formula.specs.Rule.{node_count, root, node_check, ChildrenBelow, places, place_check, length_check}
 use Rattle.formula.specs.Rule.{syntax_check, until_check, checked}
 use Rattle.answer.proofs.Lowest.{lowest_each}
 use Rattle.answer.proofs.Results.{require_fine, required}
 
 -- a test of the code, by what it reads of the rule
-pub read_test : (operandOf : ℕ → Operand) (test : Operand → ℕ → Bool) {kind k byte b : ℕ} {operand : Operand} {passes t : Bool} → kind ≡ k → byte ≡ b
+pub read_test : (operandOf : ℕ → Operand) (test : Operand → ℕ
+    → Bool) {kind k byte b : ℕ} {operand : Operand} {passes t : Bool} → kind ≡ k → byte ≡ b
     → operand ≡ operandOf kind → passes ≡ test operand byte → not passes ≡ t → not (test (operandOf k) b) ≡ t
 read_test operandOf test ek eb eo ep et = cc
 
@@ -35,21 +37,52 @@ module _ (highest : ℕ) (rule : List ℕ) (n : ℕ) where
     module _ (left_fits : not (left_byte_fits rule n) ≡ false) where
       pub right_unfit : not (right_byte_fits rule n) ≡ true → refused 4 n ≡ node_check highest rule n
       unfolding node_check
-      right_unfit e = rw (le-leb (kind_at rule n) highest known, not-false (left_byte_fits rule n) left_fits, not-true (right_byte_fits rule n) e)
+      right_unfit e =
+          rw (
+            le-leb (kind_at rule n) highest known,
+            not-false (left_byte_fits rule n) left_fits,
+            not-true
+                (right_byte_fits rule n) e,
+          )
 
       module _ (right_fits : not (right_byte_fits rule n) ≡ false) where
         pub left_above : not (left_child_fits rule n) ≡ true → refused 5 n ≡ node_check highest rule n
         unfolding node_check
-        left_above e = rw (le-leb (kind_at rule n) highest known, not-false (left_byte_fits rule n) left_fits, not-false (right_byte_fits rule n) right_fits, not-true (left_child_fits rule n) e)
+        left_above e =
+            rw (
+              le-leb (kind_at rule n) highest known,
+              not-false (left_byte_fits rule n) left_fits,
+              not-false
+                  (right_byte_fits rule n) right_fits,
+              not-true (left_child_fits rule n) e,
+            )
 
         module _ (left_below : not (left_child_fits rule n) ≡ false) where
           pub right_above : not (right_child_fits rule n) ≡ true → refused 5 n ≡ node_check highest rule n
           unfolding node_check
-          right_above e = rw (le-leb (kind_at rule n) highest known, not-false (left_byte_fits rule n) left_fits, not-false (right_byte_fits rule n) right_fits, not-false (left_child_fits rule n) left_below, not-true (right_child_fits rule n) e)
+          right_above e =
+              rw (
+                le-leb (kind_at rule n) highest known,
+                not-false (left_byte_fits rule n) left_fits,
+                not-false
+                    (right_byte_fits rule n) right_fits,
+                not-false (left_child_fits rule n) left_below,
+                not-true
+                    (right_child_fits rule n) e,
+              )
 
           pub all_fits : not (right_child_fits rule n) ≡ false → fine ≡ node_check highest rule n
           unfolding node_check
-          all_fits e = rw (le-leb (kind_at rule n) highest known, not-false (left_byte_fits rule n) left_fits, not-false (right_byte_fits rule n) right_fits, not-false (left_child_fits rule n) left_below, not-false (right_child_fits rule n) e)
+          all_fits e =
+              rw (
+                le-leb (kind_at rule n) highest known,
+                not-false (left_byte_fits rule n) left_fits,
+                not-false
+                    (right_byte_fits rule n) right_fits,
+                not-false (left_child_fits rule n) left_below,
+                not-false
+                    (right_child_fits rule n) e,
+              )
 
 -- node k by the count of its places and its kind
 module _ (rule : List ℕ) (k : ℕ) where
@@ -58,7 +91,8 @@ module _ (rule : List ℕ) (k : ℕ) where
 
   pub place_root : count ≡ 0 → k ≡ root rule → fine ≡ place_check rule k
   unfolding place_check
-  place_root none last = rw (eq-eqb k (root rule) last, lt-leb 2 count (omega arith), and-false (ltb 3 (kind_at rule k)))
+  place_root none last =
+      rw (eq-eqb k (root rule) last, lt-leb 2 count (omega arith), and-false (ltb 3 (kind_at rule k)))
 
   pub place_none : count ≡ 0 → (k ≡ root rule → ⊥) → refused 6 k ≡ place_check rule k
   unfolding place_check
@@ -67,7 +101,14 @@ module _ (rule : List ℕ) (k : ℕ) where
   module _ (some : count ≡ 0 → ⊥) where
     pub place_once : count ≡ 1 → fine ≡ place_check rule k
     unfolding place_check
-    place_once once = rw (ne_eqb count 0 some, and-false (not (eqb k (root rule))), lt-leb 2 count (omega arith), and-false (ltb 3 (kind_at rule k)))
+    place_once once =
+        rw (
+          ne_eqb count 0 some,
+          and-false (not (eqb k (root rule))),
+          lt-leb 2 count (omega arith),
+          and-false
+              (ltb 3 (kind_at rule k)),
+        )
 
     pub place_leaf : kind_at rule k < 4 → fine ≡ place_check rule k
     unfolding place_check
@@ -76,7 +117,14 @@ module _ (rule : List ℕ) (k : ℕ) where
 
     pub place_twice : (count ≡ 1 → ⊥) → 4 ≤ kind_at rule k → refused 6 k ≡ place_check rule k
     unfolding place_check
-    place_twice more inner = rw (ne_eqb count 0 some, and-false (not (eqb k (root rule))), lt-ltb 3 (kind_at rule k) (omega arith), le-leb 2 count (omega arith))
+    place_twice more inner =
+        rw (
+          ne_eqb count 0 some,
+          and-false (not (eqb k (root rule))),
+          lt-ltb 3 (kind_at rule k) (omega arith),
+          le-leb 2
+              count (omega arith),
+        )
 
 -- 1 to 6 by the tests of the length and the answers of the other checks
 module _ (highest : ℕ) (rule : List ℕ) where

@@ -36,7 +36,8 @@ module _ (rule : List ℕ) (n k : ℕ) where
   left_parent counted = pick (dec_lt 3 (kind_at rule n)) (dec_lt 1 (kind_at rule n))
     where
       pick : Dec (3 < kind_at rule n) → Dec (1 < kind_at rule n) → Parent rule n k
-      pick (yes inner) d = by_left inner (child_is (left_at rule n) k (left_child (kind_at rule n) (omega arith)) counted)
+      pick (yes inner) d =
+          by_left inner (child_is (left_at rule n) k (left_child (kind_at rule n) (omega arith)) counted)
       pick (no leaf) (yes proposition) =
           absurd (counted (rw (← left_proposition (kind_at rule n) (omega arith) (omega arith)) refl))
       pick (no leaf) (no constant) = absurd (counted (rw (← left_unused (kind_at rule n) (omega arith)) refl))
@@ -78,5 +79,6 @@ module _ (rule : List ℕ) (passed : checked rule ≡ fine) where
       → (p : ℕ) × (p < node_count rule) × (k < p) × Parent rule p k
   parent_of k lt other =
       let (p, inside, is) =
-      parent_among rule (node_count rule) k (λ none. not_fine (place_none rule k none other ∙ (accepted_fine rule passed).places k lt)) in
+      parent_among rule (node_count rule) k
+      (λ none. not_fine (place_none rule k none other ∙ (accepted_fine rule passed).places k lt)) in
       (p, inside, parent_above p k inside is, is)

@@ -6,7 +6,8 @@ use mathlib.Core.Logic.Dec
 use mathlib.Core.Logic.{◌⊎◌, inl, inr}
 use native.Mathlib.Omega.{arith}
 use native.Mathlib.Decide.{ℕ_discrete, dec_le}
-use Rattle.formula.specs.Formula.{Formula, bottom, top, proposition, negatedProposition, conjunction, disjunction, next, until, release}
+use Rattle.formula.specs.Formula.{Formula, bottom, top, proposition, negatedProposition, conjunction, disjunction, next}
+use Rattle.formula.specs.Formula.{until, release}
 use Rattle.formula.specs.Satisfaction.{Holds}
 use Rattle.lasso.proofs.Positions.{Decided, some_dec}
 
@@ -65,9 +66,12 @@ module _ (s n : ℕ) (pos : 0 < n) where
       go zero k m l h f = (k, l, omega arith, h, f)
       go (suc fuel) k m l h f = step (λ k m l h f. go fuel k m l h f) (dec_le k (i + (s + n)))
         where
-          step : ((k : ℕ) → k ≤ fuel → i ≤ k → Q k → ((j : ℕ) → i ≤ j → j < k → P j) → Near P Q (s + n) i) → Dec (k ≤ i + (s + n)) → Near P Q (s + n) i
+          step : ((k : ℕ) → k ≤ fuel → i ≤ k → Q k → ((j : ℕ) → i ≤ j → j < k → P j) → Near P Q (s + n) i)
+              → Dec (k ≤ i + (s + n)) → Near P Q (s + n) i
           step ih (yes a) = (k, l, a, h, f)
-          step ih (no a) = ih (k - n) (omega arith) (omega arith) (off Q rq (k - n) k (omega arith) (omega arith) h) (λ j b c. f j b (omega arith))
+          step ih (no a) =
+              ih (k - n) (omega arith) (omega arith) (off Q rq (k - n) k (omega arith) (omega arith) h)
+              (λ j b c. f j b (omega arith))
 
   unfoldable pub until_dec : (P Q : ℕ → Type 0) → Repeats Q → Decided P → Decided Q → Decided (Until P Q)
   until_dec P Q rq dp dq i = go (near_dec P Q dp dq (s + n) i)
@@ -111,13 +115,15 @@ module _ (s n : ℕ) (pos : 0 < n) where
       ]
 
   unfoldable pub release_dec : (P Q : ℕ → Type 0) → Repeats Q → Decided P → Decided Q → Decided (Release P Q)
-  release_dec P Q rq dp dq i = go (until_dec (λ j. P j → ⊥) (λ j. Q j → ⊥) (not_repeats Q rq) (λ j. Dec.not (dp j)) (λ j. Dec.not (dq j)) i)
+  release_dec P Q rq dp dq i =
+      go (until_dec (λ j. P j → ⊥) (λ j. Q j → ⊥) (not_repeats Q rq) (λ j. Dec.not (dp j)) (λ j. Dec.not (dq j)) i)
     where
       go : Dec (Until (λ j. P j → ⊥) (λ j. Q j → ⊥) i) → Dec (Release P Q i)
       go (yes (k, l, h, f)) = no (λ r. elim (r k l) [ inl q ↦ h q | inr x ↦ f x.0 x.1 x.2 x.3 ])
       go (no u) = yes (λ k l. pick k l (dq k) (some_dec P dp (k - i) i))
         where
-          pick : (k : ℕ) → i ≤ k → Dec (Q k) → Dec ((j : ℕ) × (i ≤ j) × (j < i + (k - i)) × P j) → Q k ⊎ ((j : ℕ) × (i ≤ j) × (j < k) × P j)
+          pick : (k : ℕ) → i ≤ k → Dec (Q k) → Dec ((j : ℕ) × (i ≤ j) × (j < i + (k - i)) × P j)
+              → Q k ⊎ ((j : ℕ) × (i ≤ j) × (j < k) × P j)
           pick k l (yes q) r = inl q
           pick k l (no q) (yes (j, a, b, p)) = inr (j, a, omega arith, p)
           pick k l (no q) (no r) = absurd (u (k, l, q, λ j a b p. r (j, a, omega arith, p)))
@@ -126,12 +132,21 @@ module _ (s n : ℕ) (pos : 0 < n) where
     pub holds_repeats : (g : Formula) → Repeats (Holds w g)
     holds_repeats bottom i l = (λ h. h, λ h. h)
     holds_repeats top i l = (λ h. h, λ h. h)
-    holds_repeats (proposition c m) i l =
-        (λ h. subst (λ (x : ℕ). x / 2 ^ m % 2 ≡ 1) (sym (round i l)) h, λ h. subst (λ (x : ℕ). x / 2 ^ m % 2 ≡ 1) (round i l) h)
-    holds_repeats (negatedProposition c m) i l =
-        (λ h. subst (λ (x : ℕ). x / 2 ^ m % 2 ≡ 0) (sym (round i l)) h, λ h. subst (λ (x : ℕ). x / 2 ^ m % 2 ≡ 0) (round i l) h)
-    holds_repeats (conjunction a b) i l =
-        (λ h. ((holds_repeats a i l).0 h.0, (holds_repeats b i l).0 h.1), λ h. ((holds_repeats a i l).1 h.0, (holds_repeats b i l).1 h.1))
+    holds_repeats (proposition c m) i l = (
+      λ h. subst (λ (x : ℕ). x / 2 ^ m % 2 ≡ 1) (sym (round i l)) h,
+      λ h. subst (λ (x : ℕ). x / 2 ^ m % 2 ≡ 1)
+          (round i l) h,
+    )
+    holds_repeats (negatedProposition c m) i l = (
+      λ h. subst (λ (x : ℕ). x / 2 ^ m % 2 ≡ 0) (sym (round i l)) h,
+      λ h. subst (λ (x : ℕ). x / 2 ^ m % 2 ≡ 0)
+          (round i l) h,
+    )
+    holds_repeats (conjunction a b) i l = (
+      λ h. ((holds_repeats a i l).0 h.0, (holds_repeats b i l).0 h.1),
+      λ h.
+          ((holds_repeats a i l).1 h.0, (holds_repeats b i l).1 h.1),
+    )
     holds_repeats (disjunction a b) i l = (
       λ h. elim h [ inl x ↦ inl ((holds_repeats a i l).0 x) | inr x ↦ inr ((holds_repeats b i l).0 x) ],
       λ h. elim h [ inl x ↦ inl ((holds_repeats a i l).1 x) | inr x ↦ inr ((holds_repeats b i l).1 x) ],

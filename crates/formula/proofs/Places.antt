@@ -32,7 +32,13 @@ places_most : (rule : List ℕ) (n k : ℕ) → places rule n k ≤ n * 2
 unfolding places
 places_most rule zero k = omega arith
 places_most rule (suc n) k =
-    omega (arith, places_most rule n k, is_child_most (left_operand (kind_at rule n)) (left_at rule n) k, is_child_most (right_operand (kind_at rule n)) (right_at rule n) k)
+    omega (
+      arith,
+      places_most rule n k,
+      is_child_most (left_operand (kind_at rule n)) (left_at rule n) k,
+      is_child_most
+          (right_operand (kind_at rule n)) (right_at rule n) k,
+    )
 
 -- a child below a node is below all that is above the node
 child_widens : (operand : Operand) (byte parent most : ℕ) → parent ≤ most → child_fits operand byte parent ≡ true
@@ -80,16 +86,23 @@ module _ (rule : List ℕ) (n : ℕ) (few : n ≤ max_nodes) (below : ChildrenBe
   -- what `count_child` requires of the left byte: it fits the counts, and no count overflows
   module _ {left : Operand} (eo : left ≡ left_operand kind) {l : ℕ} (el : l ≡ left_at rule i) where
     pub left_fits : (child_fits left l (length counts) ≡ true) × ((k : ℕ) → get_or counts k 0 < 255)
-    left_fits =
-        (rw (inv.size, eo, el, ek) (child_widens (left_operand (kind_at rule i)) (left_at rule i) i max_nodes (omega arith) (below.lefts i lt)), λ k. omega (arith, inv.counted k, places_most rule i k))
+    left_fits = (
+      rw (inv.size, eo, el, ek) (child_widens (left_operand (kind_at rule i)) (left_at rule i) i max_nodes
+          (omega arith) (below.lefts i lt)),
+      λ k. omega (arith, inv.counted k, places_most rule i k),
+    )
 
     -- and then of the right byte
     module _ (more : List ℕ) (same : length more ≡ length counts)
         (step : (k : ℕ) → get_or more k 0 ≡ get_or counts k 0 + is_child left l k) {right : Operand}
         (eq : right ≡ right_operand kind) {r : ℕ} (er : r ≡ right_at rule i) where
       pub right_fits : (child_fits right r (length more) ≡ true) × ((k : ℕ) → get_or more k 0 < 255)
-      right_fits =
-          (rw (same, inv.size, eq, er, ek) (child_widens (right_operand (kind_at rule i)) (right_at rule i) i max_nodes (omega arith) (below.rights i lt)), λ k. omega (arith, step k, inv.counted k, places_most rule i k, is_child_most left l k))
+      right_fits = (
+        rw (same, inv.size, eq, er, ek)
+            (child_widens (right_operand (kind_at rule i)) (right_at rule i) i max_nodes (omega arith)
+            (below.rights i lt)),
+        λ k. omega (arith, step k, inv.counted k, places_most rule i k, is_child_most left l k),
+      )
 
       pub count_steps : (last : List ℕ) → length last ≡ length more
           → ((k : ℕ) → get_or last k 0 ≡ get_or more k 0 + is_child right r k) → Counting rule n last (i + 1)

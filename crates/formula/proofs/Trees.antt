@@ -29,7 +29,8 @@ module _ {A : Type 0} (none : A) (builds : (kind n left : ℕ) (a b : A) → A) 
   kept (kind ∷ (left ∷ [])) below = take_all (length below) below (omega arith)
   kept (kind ∷ (left ∷ (right ∷ rest))) below =
       let f = next below kind left right in
-      sym (take-take (length below) (length (below ++ (f ∷ []))) (all (below ++ (f ∷ [])) rest) (omega (arith, length-append below (f ∷ []))))
+      sym (take-take (length below) (length (below ++ (f ∷ []))) (all (below ++ (f ∷ [])) rest)
+      (omega (arith, length-append below (f ∷ []))))
       ∙ ap (take (length below)) (kept rest (below ++ (f ∷ [])))
       ∙ take-append-le (length below) below (f ∷ []) (omega arith)
       ∙ take_all (length below) below (omega arith)
@@ -37,7 +38,8 @@ module _ {A : Type 0} (none : A) (builds : (kind n left : ℕ) (a b : A) → A) 
   -- node m of all, if it is number n of the rest
   abbrev Built : List A → List ℕ → (m n : ℕ) → Type 0
   Built ts rest m n =
-      get_or ts m none ≡ builds (kind_at rest n) m (left_at rest n) (get_or (take m ts) (left_at rest n) none) (get_or (take m ts) (right_at rest n) none)
+      get_or ts m none ≡ builds (kind_at rest n) m (left_at rest n) (get_or (take m ts) (left_at rest n) none)
+      (get_or (take m ts) (right_at rest n) none)
 
   built : (n m : ℕ) (rest : List ℕ) (below : List A) → m ≡ length below + n → n * 3 + 2 < length rest
       → Built (all below rest) rest m n
@@ -51,7 +53,8 @@ module _ {A : Type 0} (none : A) (builds : (kind n left : ℕ) (a b : A) → A) 
       let q : m ≡ length below = omega arith in
       let s : take (length below) ts ≡ below = kept (kind ∷ (left ∷ (right ∷ rest))) below in
       rw (q, s)
-      (sym (get_or-take (length (below ++ (f ∷ []))) ts (length below) none (omega (arith, length-append below (f ∷ []))))
+      (sym (get_or-take (length (below ++ (f ∷ []))) ts (length below) none
+      (omega (arith, length-append below (f ∷ []))))
       ∙ ap (λ (xs : List A). get_or xs (length below) none) (kept rest (below ++ (f ∷ [])))
       ∙ get_or-append_seam below f [] none)
   built (suc n) m (kind ∷ (left ∷ (right ∷ rest))) below e lt =
@@ -94,7 +97,13 @@ module _ (rule : List ℕ) (n : ℕ) (inside : n < node_count rule) (node : Node
         → P (build k n l (tree rule l) (tree rule r)) → P (tree rule n)
     unfolding tree
     pair_in l r el er inner h =
-        rw (of_children bottom build rule n inside (node.left (omega arith)) (node.right (omega arith)), ← el, ← er, ← ek) h
+        rw (
+          of_children bottom build rule n inside (node.left (omega arith)) (node.right (omega arith)),
+          ← el,
+          ← er,
+          ←
+              ek,
+        ) h
 
 in_range_build : (k n l : ℕ) (f g : Formula) → (1 < k → k < 4 → l < propositions) → (3 < k → InRange f)
     → (3 < k → InRange g) → InRange (build k n l f g)
@@ -117,10 +126,12 @@ in_range_step rule n inside node below = pick (dec_lt 3 (kind_at rule n))
     pick : Dec (3 < kind_at rule n) → InRange (tree rule n)
     pick (yes inner) =
         pair_in rule n inside node InRange (kind_at rule n) refl (left_at rule n) (right_at rule n) refl refl inner
-        (in_range_build (kind_at rule n) n (left_at rule n) _ _ node.proposition (λ _. below (left_at rule n) (node.left inner)) (λ _. below (right_at rule n) (node.right inner)))
+        (in_range_build (kind_at rule n) n (left_at rule n) _ _ node.proposition
+        (λ _. below (left_at rule n) (node.left inner)) (λ _. below (right_at rule n) (node.right inner)))
     pick (no leaf) =
         leaf_in rule n inside node InRange (kind_at rule n) refl (left_at rule n) refl
-        (λ f g. in_range_build (kind_at rule n) n (left_at rule n) f g node.proposition (λ inner. absurd (leaf inner)) (λ inner. absurd (leaf inner)))
+        (λ f g. in_range_build (kind_at rule n) n (left_at rule n) f g node.proposition (λ inner. absurd (leaf inner))
+        (λ inner. absurd (leaf inner)))
 
 in_range_to : (rule : List ℕ) (bound n : ℕ) → n < bound → n < node_count rule → ((k : ℕ) → k ≤ n → Node rule k)
     → InRange (tree rule n)

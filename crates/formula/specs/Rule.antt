@@ -1,5 +1,6 @@
 -- The bytes of a rule, and refusals 1 to 7. A rule is here the byte string, and a formula is what it encodes.
-use Rattle.std.specs.Prelude.{ℕ, zero, suc, ◌+◌, ◌-◌, ◌*◌, ◌/◌, ◌%◌, ◌<◌, ◌≡◌, Bool, true, cond, not, ◌&&◌, ◌||◌, List, [], ◌∷◌, ◌++◌, get_or, length, eqb, leb, ltb}
+use Rattle.std.specs.Prelude.{ℕ, zero, suc, ◌+◌, ◌-◌, ◌*◌, ◌/◌, ◌%◌, ◌<◌, ◌≡◌, Bool, true, cond, not, ◌&&◌, ◌||◌, List}
+use Rattle.std.specs.Prelude.{[], ◌∷◌, ◌++◌, get_or, length, eqb, leb, ltb}
 use Rattle.formula.specs.declared.Operand.{Operand}
 use Rattle.formula.specs.declared.Operand.TheVariants.{Unused, Proposition, Child}
 use Rattle.answer.specs.Result.{and_then, Check, require, lowest}
@@ -122,7 +123,8 @@ place_check rule k =
 unfoldable pub syntax_check : (highest : ℕ) → List ℕ → Check
 syntax_check highest rule =
     and_then (length_check rule)
-    (λ _. and_then (lowest (node_check highest rule) (node_count rule)) (λ _. lowest (place_check rule) (node_count rule)))
+    (λ _. and_then (lowest (node_check highest rule) (node_count rule))
+    (λ _. lowest (place_check rule) (node_count rule)))
 
 -- those of the first n nodes that are untils, from the lowest up
 unfoldable pub untils : List ℕ → ℕ → List ℕ

@@ -200,7 +200,8 @@ module _ {A : Type 0} (w : Walk A) where
         })
 
     goes_on : (place : ℕ) {xs more ys : List A} → place < length xs → w.before place (get_or xs place none) ≡ fine
-        → Grows w.numbering (targets (get_or xs place none)) xs more → Explored (suc place) more ys → Explored place xs ys
+        → Grows w.numbering (targets (get_or xs place none)) xs more → Explored (suc place) more ys
+        → Explored place xs ys
     goes_on place {xs} {more} {ys} lt f g r = record {
       extends = all;
       small = r.small;

@@ -41,28 +41,29 @@ module _ (rule : List ℕ) (passed : sizes_checked rule ≡ fine) (state : ℕ) 
   pub transitions_bytes_lem : All Bytes (transitions rule state)
   transitions_bytes_lem t m = terms_bytes t (transitions_terms rule state t m)
 
-  module _ {items bytes : List ℕ} {count : ℕ} (product : Product rule state items count) (le : count ≤ max_product) where
-    pub terms_sorted : count ≤ length items → count ≤ length bytes → Sorted items bytes count
-    terms_sorted inside bytes_inside = record {
-      inside = inside;
-      bytes_inside = bytes_inside;
-      rising = λ i j lt l.
-          let rise = rw (← (product.terms le)) at (partial_rises rule state (node_count rule) (in_range rule passed)) in
-          let size = length-take-le count items inside in
-          let above = rising_at Consistent 0 (take count items) rise i j lt (omega arith) in
-          omega (arith, get_or-take count items i 0 (omega arith), get_or-take count items j 0 l);
-    }
+  module _ {items bytes : List ℕ} {count : ℕ} (product : Product rule state items count) (le : count ≤ max_product)
+    where
+      pub terms_sorted : count ≤ length items → count ≤ length bytes → Sorted items bytes count
+      terms_sorted inside bytes_inside = record {
+        inside = inside;
+        bytes_inside = bytes_inside;
+        rising = λ i j lt l.
+            let rise = rw (← (product.terms le)) at (partial_rises rule state (node_count rule) (in_range rule passed)) in
+            let size = length-take-le count items inside in
+            let above = rising_at Consistent 0 (take count items) rise i j lt (omega arith) in
+            omega (arith, get_or-take count items i 0 (omega arith), get_or-take count items j 0 l);
+      }
 
-    module _ (told : Told rule items bytes count) {items' bytes' : List ℕ} {n : ℕ}
-        (drops : Drops items bytes count items' bytes' n) where
-      sifted : Sifted (untils_n rule) (take count items) items' bytes' n
-      sifted = drops.sifted (untils_n rule) (told ∙ map-map (fulfilment rule) unpack (take count items))
+      module _ (told : Told rule items bytes count) {items' bytes' : List ℕ} {n : ℕ}
+          (drops : Drops items bytes count items' bytes' n) where
+        sifted : Sifted (untils_n rule) (take count items) items' bytes' n
+        sifted = drops.sifted (untils_n rule) (told ∙ map-map (fulfilment rule) unpack (take count items))
 
-      pub left_are : map unpack (take n items') ≡ transitions rule state
-      unfolding transitions
-      left_are =
-          rw (sifted.are, product.terms le, undominated_packed rule (state_terms rule state) terms_bytes)
-          (unpack_all (transitions rule state) transitions_bytes_lem)
+        pub left_are : map unpack (take n items') ≡ transitions rule state
+        unfolding transitions
+        left_are =
+            rw (sifted.are, product.terms le, undominated_packed rule (state_terms rule state) terms_bytes)
+            (unpack_all (transitions rule state) transitions_bytes_lem)
 
-      pub left_told : Told rule items' bytes' n
-      left_told = sifted.told ∙ sym (map-map (fulfilment rule) unpack (take n items'))
+        pub left_told : Told rule items' bytes' n
+        left_told = sifted.told ∙ sym (map-map (fulfilment rule) unpack (take n items'))

@@ -6,7 +6,8 @@ use Prim.Native.Nat.{ℕ, suc, ◌+◌, ◌-◌, ◌≤◌, ◌<◌}
 use native.Mathlib.Numerals.{add-one}
 use native.Mathlib.Omega.{arith}
 use lib.ListN.{length, get_or, take, set, length-append, length-map, length-set, length-take}
-use lib.Seq.{get_or-take, length-take-le, take-append-le, take_all, take-add, take-suc, get_or-set_same, get_or-set_other}
+use lib.Seq.{get_or-take, length-take-le, take-append-le, take_all, take-add, take-suc, get_or-set_same}
+use lib.Seq.{get_or-set_other}
 use lib.Bits.{bit_or, or_zero_r}
 use borrow.Author.Count.{below_more}
 use Rattle.answer.specs.Result.{Result, accepted, refused, and_then, fine}
@@ -25,7 +26,8 @@ use Rattle.generalized.specs.declared.Walked.TheVariants.{Accepted}
 use Rattle.generalized.specs.Explore.{explore}
 use Rattle.generalized.specs.Generalized.{transitions, product_check, targets, state_numbering, state_walk, generalized}
 use Rattle.generalized.specs.Generalized.{state_conflicts, walk_conflicts}
-use Rattle.generalized.specs.Memory.{ProductRoom, Product, ListedKept, WalkRoom, meet_targets, Added, AddsTransitions, Told}
+use Rattle.generalized.specs.Memory.{ProductRoom, Product, ListedKept, WalkRoom, meet_targets, Added, AddsTransitions}
+use Rattle.generalized.specs.Memory.{Told}
 use Rattle.generalized.specs.Memory.{MeetsAll, all_transitions, WalkPlaces, Walks}
 use Rattle.generalized.proofs.Exploring.{explore_next, explore_refused, explore_ends}
 use Rattle.generalized.proofs.Explored.{Extends, extends_longer, all_grows}
@@ -39,7 +41,8 @@ transitions_of rule xs place = transitions rule (get_or xs place 0)
 -- the walk of the state at place, when count transitions and the states xs are there
 abbrev walk_state : (rule : List ℕ) (place count : ℕ) (xs : List ℕ) → Result (List ℕ)
 walk_state rule place count xs =
-    and_then (product_check rule place (get_or xs place 0)) (λ _. meet_targets place (transitions_of rule xs place) count xs)
+    and_then (product_check rule place (get_or xs place 0))
+    (λ _. meet_targets place (transitions_of rule xs place) count xs)
 
 -- the state at place, whose terms are the first count of items
 module _ (rule states : List ℕ) (place : ℕ) (before : Extent) (lt : place < before.states) (items : List ℕ) (count : ℕ)
@@ -70,12 +73,14 @@ state_extends rule place total xs ys e =
 
 -- the transitions of a list of states
 module _ (rule : List ℕ) where
-  pub all_append : (xs ys : List ℕ) → all_transitions rule (xs ++ ys) ≡ all_transitions rule xs ++ all_transitions rule ys
+  pub all_append : (xs ys : List ℕ)
+      → all_transitions rule (xs ++ ys) ≡ all_transitions rule xs ++ all_transitions rule ys
   unfolding all_transitions
   all_append [] ys = refl
   all_append (x ∷ xs) ys = rw (all_append xs ys) (sym (append_assoc (transitions rule x) (all_transitions rule xs) _))
 
-  all_last : (xs : List ℕ) (x : ℕ) → all_transitions rule (xs ++ (x ∷ [])) ≡ all_transitions rule xs ++ transitions rule x
+  all_last : (xs : List ℕ) (x : ℕ)
+      → all_transitions rule (xs ++ (x ∷ [])) ≡ all_transitions rule xs ++ transitions rule x
   unfolding all_transitions
   all_last xs x = rw (all_append xs (x ∷ []), append-nil (transitions rule x))
 
@@ -89,7 +94,8 @@ module _ (rule : List ℕ) where
   unfolding walk_conflicts
   conflicts_last [] x = or_zero_r (state_conflicts rule x)
   conflicts_last (y ∷ xs) x =
-      rw (conflicts_last xs x) (sym (or_assoc (state_conflicts rule y) (walk_conflicts rule xs) (state_conflicts rule x)))
+      rw (conflicts_last xs x) (sym (or_assoc (state_conflicts rule y) (walk_conflicts rule xs)
+      (state_conflicts rule x)))
 
 -- the states that are numbered
 abbrev numbered : Extent → List ℕ → List ℕ
@@ -157,7 +163,8 @@ module _ {rule : List ℕ} {initial : ℕ} {states transitions ends : List ℕ} 
   walk_ends ge =
       let all : take place xs ≡ xs = take_all place xs (omega (arith, count)) in
       record {
-        are = inv.left ∙ explore_ends (state_walk rule) (max_generalized_states - place) place total xs (omega (arith, count));
+        are = inv.left ∙ explore_ends (state_walk rule) (max_generalized_states - place) place total xs
+            (omega (arith, count));
         few = inv.room.few;
         begun = inv.begun;
         counted = rw all at inv.counted;
@@ -236,7 +243,8 @@ module _ {rule : List ℕ} {initial : ℕ} {states transitions ends : List ℕ} 
         left_now : generalized rule ≡ rest rule (suc place) end ys
         unfolding targets
         left_now =
-            let next = explore_next (state_walk rule) (max_generalized_states - suc place) place total xs inside added.are in
+            let next =
+            explore_next (state_walk rule) (max_generalized_states - suc place) place total xs inside added.are in
             inv.left ∙ rw (fuel, next, get_or-take size.states states place 0 lt, count_is)
 
         listed_now : ListedKept rule ys (all_transitions rule (take (suc place) ys)) (take end transitions')
@@ -267,5 +275,11 @@ module _ {rule : List ℕ} {initial : ℕ} {states transitions ends : List ℕ} 
               ∙ inv.ending k l
               ∙ ap length (ap (all_transitions rule) (sym (stay (suc k) (omega arith)))))
               (get_or-set_same ends place end 0 (omega (arith, inv.room.few, inv.ends_room)) ∙ end_is));
-          conflicts = rw (add-one, with_state, conflicts_last rule (take place xs) (get_or states place 0), inv.conflicts, is);
+          conflicts = rw (
+            add-one,
+            with_state,
+            conflicts_last rule (take place xs) (get_or states place 0),
+            inv.conflicts,
+            is,
+          );
         }

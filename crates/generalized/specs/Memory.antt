@@ -1,6 +1,7 @@
 -- How the first walk lies in memory: the states' obligation sets by number, the transitions of all states one after
 -- another, each as one number, and where each state's end.
-use Rattle.std.specs.Prelude.{ℕ, suc, ◌+◌, ◌*◌, ◌/◌, ◌%◌, ◌<◌, ◌≤◌, ◌≡◌, List, [], ◌∷◌, ◌++◌, map, length, get_or, take, drop, eqb}
+use Rattle.std.specs.Prelude.{ℕ, suc, ◌+◌, ◌*◌, ◌/◌, ◌%◌, ◌<◌, ◌≤◌, ◌≡◌, List, [], ◌∷◌, ◌++◌, map, length, get_or, take}
+use Rattle.std.specs.Prelude.{drop, eqb}
 use Rattle.sets.specs.declared.Joined.{Joined}
 use Rattle.sets.specs.Sets.{In, Stores, insert_product_n, product_conflicts_n}
 use Rattle.answer.specs.Result.{Result, accepted, refused, fine}

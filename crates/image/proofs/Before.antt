@@ -9,7 +9,8 @@ pub record Follows {A : Type 0} (check : Check) (rest : Result A) (x : A) : Type
   pub passed : check ≡ fine
   pub answer : rest ≡ accepted x
 
-pub follows : {A : Type 0} (check : Check) (rest : Result A) (x : A) → and_then check (λ _. rest) ≡ accepted x → Follows check rest x
+pub follows : {A : Type 0} (check : Check) (rest : Result A) (x : A) → and_then check (λ _. rest) ≡ accepted x
+    → Follows check rest x
 follows (accepted u) rest x e = record { passed = refl; answer = e }
 follows (refused number place) rest x e = never_both e
 
@@ -24,7 +25,8 @@ passes check x y e =
     let answer : accepted y ≡ accepted x = after.answer in
     record { passed = after.passed; same = cc }
 
-pub refuses : {A : Type 0} (check : Check) (y : A) {number place : ℕ} → refused number place ≡ and_then check (λ _. accepted y) → refused number place ≡ check
+pub refuses : {A : Type 0} (check : Check) (y : A) {number place : ℕ}
+    → refused number place ≡ and_then check (λ _. accepted y) → refused number place ≡ check
 refuses (accepted u) y e = never_both e
 refuses (refused n p) y e = cc
 

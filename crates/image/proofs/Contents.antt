@@ -13,7 +13,8 @@ use Rattle.automaton.specs.Tables.{Counts, counts}
 use Rattle.answer.specs.Bytes.{number_at}
 use Rattle.image.specs.Image.{transitions_at, initial_at, image_length, contents_bytes}
 use Rattle.image.specs.Image.{states_body, transitions_body, initial_body}
-use Rattle.image.specs.Reader.{counts_at, contents_check, records_check, automaton_from, read_tables, read_image, bodies_check}
+use Rattle.image.specs.Reader.{counts_at, contents_check, records_check, automaton_from, read_tables, read_image}
+use Rattle.image.specs.Reader.{bodies_check}
 use Rattle.image.specs.Lookup.{image_automaton}
 use Rattle.image.specs.Calls.{checks}
 use Rattle.image.specs.Memory.{Small, Sized}
@@ -56,7 +57,8 @@ contents_fine image e =
     }
 
 -- parts that go to the end are what is left there
-pub parts_whole : (c : Counts) (image : List ℕ) (a b d : ℕ) {r : Check} → r ≡ records_check c (take (length image - a) (drop a image)) (take (length image - b) (drop b image)) (take (length image - d) (drop d image))
+pub parts_whole : (c : Counts) (image : List ℕ) (a b d : ℕ) {r : Check}
+    → r ≡ records_check c (take (length image - a) (drop a image)) (take (length image - b) (drop b image)) (take (length image - d) (drop d image))
     → r ≡ records_check c (drop a image) (drop b image) (drop d image)
 parts_whole c image a b d e = rw (part_whole image a, part_whole image b, part_whole image d) at e
 
@@ -68,12 +70,15 @@ sized {c} {image} contents =
 
 -- what decides on an image, in the order of the checks
 module _ (image : List ℕ) where
-  pub contents_refused : {number place : ℕ} → refused number place ≡ and_then (contents_check image) (λ _. accepted (counts_at image)) → refused number place ≡ checks image
+  pub contents_refused : {number place : ℕ}
+      → refused number place ≡ and_then (contents_check image) (λ _. accepted (counts_at image))
+      → refused number place ≡ checks image
   unfolding checks read_image
   contents_refused e = rw (← refuses (contents_check image) (counts_at image) e)
 
   module _ (c : Counts) (contents : Passes (contents_check image) c (counts_at image)) where
-    pub bodies_refused : {number place : ℕ} → refused number place ≡ bodies_check c image → refused number place ≡ checks image
+    pub bodies_refused : {number place : ℕ} → refused number place ≡ bodies_check c image
+        → refused number place ≡ checks image
     unfolding checks read_image read_tables
     bodies_refused e =
         let f = rw contents.same at e in
@@ -115,7 +120,8 @@ pub checks_of : (image : List ℕ) (c : Counts) → accepted c ≡ checks image 
 unfolding checks
 checks_of image c e = go (read_image image) refl e
   where
-    go : (r : Result Automaton) → read_image image ≡ r → accepted c ≡ and_then r (λ a. accepted (counts a)) → Checks image c
+    go : (r : Result Automaton) → read_image image ≡ r → accepted c ≡ and_then r (λ a. accepted (counts a))
+        → Checks image c
     go (accepted a) p e =
         let parts = read_of image a p in
         let back = counts_back (counts_at image) _ _ _ parts.bodies in
@@ -128,10 +134,12 @@ checks_sized image c e =
     let found = checks_of image c e in
     sized (record { passed = (read_of image found.automaton found.read).contents; same = found.same })
 
-pub checks_refused : (image : List ℕ) {number place : ℕ} → refused number place ≡ checks image → read_image image ≡ refused number place
+pub checks_refused : (image : List ℕ) {number place : ℕ} → refused number place ≡ checks image
+    → read_image image ≡ refused number place
 unfolding checks
 checks_refused image {number} {place} e = go (read_image image) e
   where
-    go : (r : Result Automaton) → refused number place ≡ and_then r (λ a. accepted (counts a)) → r ≡ refused number place
+    go : (r : Result Automaton) → refused number place ≡ and_then r (λ a. accepted (counts a))
+        → r ≡ refused number place
     go (accepted a) e = never_both e
     go (refused n p) e = cc

@@ -84,9 +84,17 @@ module _ (c : Counts) (s t i : List ℕ) (passed : Passed c s t i) where
       (rw append-nil at (front_agrees (2 * c.initial) i [] passed.initial_room)) a e
 
 -- a number at k and what stands behind it
-number_front : (xs : List ℕ) (k m n : ℕ) → Bytes xs → m ≡ suc (suc k) → m ≤ length xs → n ≡ number_at xs k → two_bytes n ++ drop m xs ≡ drop k xs
+number_front : (xs : List ℕ) (k m n : ℕ) → Bytes xs → m ≡ suc (suc k) → m ≤ length xs → n ≡ number_at xs k
+    → two_bytes n ++ drop m xs ≡ drop k xs
 number_front xs k m n bytes after room e =
-    rw (e, after, two_back (get_or xs k 0) (get_or xs (k + 1) 0) (bytes k), add-one, drop-cons xs k 0 (omega arith), drop-cons xs (suc k) 0 (omega arith))
+    rw (
+      e,
+      after,
+      two_back (get_or xs k 0) (get_or xs (k + 1) 0) (bytes k),
+      add-one,
+      drop-cons xs k 0 (omega arith),
+      drop-cons xs (suc k) 0 (omega arith),
+    )
 
 -- and an entry of the contents
 entry_front : (xs : List ℕ) (k kind count offset : ℕ) → Bytes xs → k + 6 ≤ length xs → kind ≡ number_at xs k

@@ -46,7 +46,8 @@ every_number : Every 2 number_at numbers_from
 unfolding numbers_from
 every_number = record { none = λ bytes. refl; more = λ n bytes. refl; shift = number_drop }
 
-module _ {A : Type 0} {step : ℕ} {at : List ℕ → ℕ → A} {list_from : ℕ → List ℕ → List A} (every : Every step at list_from) where
+module _ {A : Type 0} {step : ℕ} {at : List ℕ → ℕ → A} {list_from : ℕ → List ℕ → List A}
+    (every : Every step at list_from) where
   next_entry : (bytes : List ℕ) (i : ℕ) → at (drop step bytes) (step * i) ≡ at bytes (step * suc i)
   next_entry bytes i =
       let m : step + step * i ≡ step * suc i = omega arith in
@@ -55,24 +56,29 @@ module _ {A : Type 0} {step : ℕ} {at : List ℕ → ℕ → A} {list_from : �
   first_entry : (bytes : List ℕ) → at bytes 0 ≡ at bytes (step * 0)
   first_entry bytes = ap (at bytes) (omega arith)
 
-  listed_entry : (n : ℕ) (bytes : List ℕ) (x : A) → In x (list_from n bytes) → (i : ℕ) × (i < n) × (x ≡ at bytes (step * i))
+  listed_entry : (n : ℕ) (bytes : List ℕ) (x : A) → In x (list_from n bytes)
+      → (i : ℕ) × (i < n) × (x ≡ at bytes (step * i))
   listed_entry zero bytes x h = absurd (subst (In x) (every.none bytes) h)
   listed_entry (suc n) bytes x h = go (subst (In x) (every.more n bytes) h) (λ h. listed_entry n (drop step bytes) x h)
     where
-      next : (i : ℕ) × (i < n) × (x ≡ at (drop step bytes) (step * i)) → (i : ℕ) × (i < suc n) × (x ≡ at bytes (step * i))
+      next : (i : ℕ) × (i < n) × (x ≡ at (drop step bytes) (step * i))
+          → (i : ℕ) × (i < suc n) × (x ≡ at bytes (step * i))
       next (i, lt, e) = (suc i, omega arith, e ∙ next_entry bytes i)
 
-      go : (x ≡ at bytes 0) ⊎ In x (list_from n (drop step bytes)) → (In x (list_from n (drop step bytes)) → (i : ℕ) × (i < n) × (x ≡ at (drop step bytes) (step * i)))
+      go : (x ≡ at bytes 0) ⊎ In x (list_from n (drop step bytes))
+          → (In x (list_from n (drop step bytes)) → (i : ℕ) × (i < n) × (x ≡ at (drop step bytes) (step * i)))
           → (i : ℕ) × (i < suc n) × (x ≡ at bytes (step * i))
       go (inl e) below = (0, omega arith, e ∙ first_entry bytes)
       go (inr h) below = next (below h)
 
   entry_listed : (n : ℕ) (bytes : List ℕ) (i : ℕ) → i < n → In (at bytes (step * i)) (list_from n bytes)
   entry_listed zero bytes i lt = absurd (omega arith)
-  entry_listed (suc n) bytes zero lt = subst (In (at bytes (step * 0))) (sym (every.more n bytes)) (inl (sym (first_entry bytes)))
+  entry_listed (suc n) bytes zero lt =
+      subst (In (at bytes (step * 0))) (sym (every.more n bytes)) (inl (sym (first_entry bytes)))
   entry_listed (suc n) bytes (suc i) lt =
       subst (In (at bytes (step * suc i))) (sym (every.more n bytes))
-      (inr (subst (λ (x : A). In x (list_from n (drop step bytes))) (next_entry bytes i) (entry_listed n (drop step bytes) i (omega arith))))
+      (inr (subst (λ (x : A). In x (list_from n (drop step bytes))) (next_entry bytes i)
+      (entry_listed n (drop step bytes) i (omega arith))))
 
   -- the entry behind the first n
   last_entry : (n : ℕ) (bytes : List ℕ) → list_from (suc n) bytes ≡ list_from n bytes ++ (at bytes (step * n) ∷ [])
@@ -110,7 +116,8 @@ count_up states q zero le =
     rw e (omega arith)
 count_up states q (suc n) le = pick (ℕ_discrete q (suc n)) (λ le. count_up states q n le)
   where
-    pick : Dec (q ≡ suc n) → (q ≤ n → count_sum states q ≤ count_sum states n) → count_sum states q ≤ count_sum states n + number_at states (4 * n)
+    pick : Dec (q ≡ suc n) → (q ≤ n → count_sum states q ≤ count_sum states n)
+        → count_sum states q ≤ count_sum states n + number_at states (4 * n)
     pick (yes e) below = rw e (omega arith)
     pick (no e) below = omega (arith, below (omega arith))
 
@@ -123,10 +130,13 @@ state_at_lem (suc n) states transitions zero lt = refl
 state_at_lem (suc n) states transitions (suc q) lt =
     let m : 4 + 4 * q ≡ 4 * suc q = omega arith in
     let k : 4 + (4 * q + 2) ≡ 4 * suc q + 2 = omega arith in
-    let c : 4 * number_at states 0 + 4 * count_sum (drop 4 states) q ≡ 4 * count_sum states (suc q) = omega (arith, sum_first states q) in
+    let c : 4 * number_at states 0 + 4 * count_sum (drop 4 states) q ≡ 4 * count_sum states (suc q) =
+    omega (arith, sum_first states q) in
     state_at_lem n (drop 4 states) (drop (4 * number_at states 0) transitions) q (omega arith)
-    ∙ same (get_or-drop 4 states (4 * q + 2) 0 ∙ ap (λ (i : ℕ). get_or states i 0) k) (number_drop 4 states (4 * q) ∙ ap (number_at states) m)
-    (drop-drop (4 * count_sum (drop 4 states) q) (4 * number_at states 0) transitions ∙ ap (λ (i : ℕ). drop i transitions) c)
+    ∙ same (get_or-drop 4 states (4 * q + 2) 0 ∙ ap (λ (i : ℕ). get_or states i 0) k)
+    (number_drop 4 states (4 * q) ∙ ap (number_at states) m)
+    (drop-drop (4 * count_sum (drop 4 states) q) (4 * number_at states 0) transitions ∙ ap
+    (λ (i : ℕ). drop i transitions) c)
   where
     same : {b b' c c' : ℕ} {d d' : List ℕ} → b ≡ b' → c ≡ c' → d ≡ d'
         → ◌≡◌ {A = State} (record { accepting = eqb b 1; transitions = transitions_from c d }) (record { accepting = eqb b' 1; transitions = transitions_from c' d' })
@@ -145,7 +155,8 @@ module _ (image : List ℕ) where
   abbrev transitions : List ℕ
   transitions = transitions_body counted image
 
-  automaton_state : (q : ℕ) → q < count → get_or (image_automaton image).states q no_state ≡ state_at states transitions q
+  automaton_state : (q : ℕ) → q < count
+      → get_or (image_automaton image).states q no_state ≡ state_at states transitions q
   unfolding automaton_from
   automaton_state q lt = state_at_lem count states transitions q lt
 

@@ -22,12 +22,14 @@ use Rattle.image.specs.Calls.{written, writes, loaded, read_into, checks}
 use Rattle.answer.specs.Buffer.{Buffer, buffer}
 use Rattle.image.specs.Memory.{joined_over, HasRecords, Loads, Small}
 use Rattle.image.proofs.Tests.{small_fits}
-use Rattle.image.proofs.Tables.{Bytes, drop_bytes, Passed, counts_back, states_back, transitions_back, initial_back, image_back, image_length_lem}
+use Rattle.image.proofs.Tables.{Bytes, drop_bytes, Passed, counts_back, states_back, transitions_back, initial_back}
+use Rattle.image.proofs.Tables.{image_back, image_length_lem}
 use Rattle.image.proofs.Contents.{Contents, contents_fine, read_of, checks_of, checks_refused}
 
 module _ (s t i : List ℕ) where
   -- such tables have room for the records of counts that fit
-  pub room_passed : (c : Counts) → Small c → TablesRoom s t i → Bytes s → Bytes t → Bytes i → records_check c s t i ≡ fine → Passed c s t i
+  pub room_passed : (c : Counts) → Small c → TablesRoom s t i → Bytes s → Bytes t → Bytes i
+      → records_check c s t i ≡ fine → Passed c s t i
   room_passed c small room bs bt bi checked = record {
     state_bytes_lem = bs;
     transition_bytes_lem = bt;
@@ -45,7 +47,8 @@ module _ (c : Counts) (s t i image : List ℕ) where
   unfolding writes
   write_short fit f = rw (tables_short s t i fit f)
 
-  pub buffer_short : TablesRoom s t i → length image < largest_image → buffer (refused 25 0) image ≡ writes c s t i image
+  pub buffer_short : TablesRoom s t i → length image < largest_image
+      → buffer (refused 25 0) image ≡ writes c s t i image
   unfolding writes
   buffer_short tables lt = rw (fine_room s t i tables, lt-leb largest_image (length image) lt)
 
@@ -93,13 +96,15 @@ pub record Writes (r : Result Automaton) (n : ℕ) (before after : List ℕ) : T
   pub size : n ≡ length (image_bytes automaton)
   pub bytes : after ≡ image_bytes automaton ++ drop (length (image_bytes automaton)) before
 
-pub writes_of : (r : Result Automaton) (n : ℕ) (before after : List ℕ) → written r before ≡ buffer (accepted n) after → Writes r n before after
+pub writes_of : (r : Result Automaton) (n : ℕ) (before after : List ℕ) → written r before ≡ buffer (accepted n) after
+    → Writes r n before after
 writes_of (accepted a) n before after e =
     let same : accepted (length (image_bytes a)) ≡ accepted n = ap (λ (b : Buffer). b.answer) e in
     record { automaton = a; answer = refl; size = cc; bytes = sym (ap (λ (b : Buffer). b.bytes) e) }
 writes_of (refused number place) n before after e = never_both (ap (λ (b : Buffer). b.answer) e)
 
-pub written_front : {r : Result Automaton} {n : ℕ} {before after : List ℕ} (done : Writes r n before after) → take n after ≡ image_bytes done.automaton
+pub written_front : {r : Result Automaton} {n : ℕ} {before after : List ℕ} (done : Writes r n before after)
+    → take n after ≡ image_bytes done.automaton
 written_front {before = before} done =
     let a = done.automaton in
     rw (done.size, done.bytes) (take-append_seam (image_bytes a) (drop (length (image_bytes a)) before))
@@ -113,7 +118,8 @@ pub record Reads (r : Result Automaton) (c : Counts) (s t i s₁ t₁ i₁ : Lis
   pub transitions_are : t₁ ≡ filled t (transition_records automaton)
   pub initial_are : i₁ ≡ filled i (initial_records automaton)
 
-pub reads_of : (r : Result Automaton) (c : Counts) (s t i s₁ t₁ i₁ : List ℕ) → loaded r s t i ≡ outcome (accepted c) s₁ t₁ i₁ → Reads r c s t i s₁ t₁ i₁
+pub reads_of : (r : Result Automaton) (c : Counts) (s t i s₁ t₁ i₁ : List ℕ)
+    → loaded r s t i ≡ outcome (accepted c) s₁ t₁ i₁ → Reads r c s t i s₁ t₁ i₁
 reads_of (accepted a) c s t i s₁ t₁ i₁ e =
     let same : accepted (counts a) ≡ accepted c = ap (λ (o : Outcome). o.answer) e in
     record {

@@ -38,7 +38,8 @@ entry_at bytes at (suc n) (suc i) lt =
 -- the three tests of one record in a row
 module _ (bytes : List ℕ) (at q : ℕ) where
   pub asks_something : (get_or bytes at 0 ≡ 0 → ⊥) → false ≡ free_to q (record_at bytes at)
-  asks_something ne = first_differs (get_or bytes at 0) 0 (get_or bytes (at + 1) 0) 0 (number_at bytes (at + 2)) q refl ne
+  asks_something ne =
+      first_differs (get_or bytes at 0) 0 (get_or bytes (at + 1) 0) 0 (number_at bytes (at + 2)) q refl ne
 
   module _ (must : get_or bytes at 0 ≡ 0) where
     pub forbids_something : (get_or bytes (at + 1) 0 ≡ 0 → ⊥) → false ≡ free_to q (record_at bytes at)
@@ -48,7 +49,8 @@ module _ (bytes : List ℕ) (at q : ℕ) where
     pub leads_there : get_or bytes (at + 1) 0 ≡ 0 → {target : ℕ} → target ≡ number_at bytes (at + 2)
         → eqb target q ≡ free_to q (record_at bytes at)
     leads_there none e =
-        third_agrees (get_or bytes at 0) 0 (get_or bytes (at + 1) 0) 0 (number_at bytes (at + 2)) q refl must refl none e
+        third_agrees (get_or bytes at 0) 0 (get_or bytes (at + 1) 0) 0 (number_at bytes (at + 2)) q refl must refl none
+        e
 
 -- ---- the last byte of state record q
 
@@ -60,7 +62,8 @@ module _ (s t : List ℕ) (q : ℕ) where
   unfolding at_rest
   not_accepting ne = rw (ne_eqb (get_or s (4 * q + 2) 0) 1 ne)
 
-  pub by_transitions : get_or s (4 * q + 2) 0 ≡ 1 → (at count : ℕ) → at ≡ 4 * count_sum s q → count ≡ number_at s (4 * q)
+  pub by_transitions : get_or s (4 * q + 2) 0 ≡ 1 → (at count : ℕ) → at ≡ 4 * count_sum s q
+      → count ≡ number_at s (4 * q)
       → {r b : Bool} → r ≡ any (free_to q) (transitions_from count (drop at t)) → r ≡ b → cond b 1 0 ≡ byte
   unfolding at_rest
   by_transitions e at count f g h k = rw (eq-eqb (get_or s (4 * q + 2) 0) 1 e, ← f, ← g, ← h, k)

@@ -21,14 +21,18 @@ module _ (states : ℕ) (xs : List ℕ) (n : ℕ) where
   -- x is the number that the code has read at i
   module _ (least i x : ℕ) (lt : i < n) (inv : Rising states xs n least i) (read : x ≡ number_at xs (2 * i)) where
     pub out_of_range : states ≤ x → refused 13 i ≡ lowest (initial_check states xs) n
-    out_of_range le = pass_fails (initial_check states xs) n i lt inv.passing (number_wrong states xs i (rw (← read) le))
+    out_of_range le =
+        pass_fails (initial_check states xs) n i lt inv.passing (number_wrong states xs i (rw (← read) le))
 
     module _ (inside : x < states) where
       pub rise_fails : x < least → refused 13 i ≡ lowest (initial_check states xs) n
-      rise_fails less = pass_fails (initial_check states xs) n i lt inv.passing (not_rising states xs i (rw (← read) inside) (rw (← read, ← inv.next) less))
+      rise_fails less =
+          pass_fails (initial_check states xs) n i lt inv.passing
+          (not_rising states xs i (rw (← read) inside) (rw (← read, ← inv.next) less))
 
       pub rise_steps : least ≤ x → Rising states xs n (x + 1) (i + 1)
       rise_steps le = record {
-        passing = pass_steps (initial_check states xs) n i lt inv.passing (sym (rising states xs i (rw (← read) inside) (rw (← read, ← inv.next) le)));
+        passing = pass_steps (initial_check states xs) n i lt inv.passing
+            (sym (rising states xs i (rw (← read) inside) (rw (← read, ← inv.next) le)));
         next = rw (add-one i, read);
       }

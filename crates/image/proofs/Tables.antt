@@ -11,7 +11,8 @@ use borrow.Author.Tests.{eqb-true}
 use Rattle.answer.specs.Result.{fine}
 use Rattle.answer.proofs.Results.{require_fine}
 use Rattle.automaton.specs.Automaton.{no_state, at_rest}
-use Rattle.automaton.specs.Records.{records, numbered, numbered_records, state_record, transition_record, state_records, transition_records, initial_records}
+use Rattle.automaton.specs.Records.{records, numbered, numbered_records, state_record, transition_record, state_records}
+use Rattle.automaton.specs.Records.{transition_records, initial_records}
 use Rattle.answer.specs.Bytes.{two_bytes, number_at}
 use Rattle.automaton.specs.Tables.{Counts, counts, transition_count}
 use Rattle.image.specs.Image.{image_length, image_bytes}
@@ -38,7 +39,8 @@ two_back low high lt =
     rw (e, f)
 
 -- the first bytes of a list by themselves
-front_two : (xs : List ℕ) (n : ℕ) → 2 ≤ length xs → take (suc (suc n)) xs ≡ get_or xs 0 0 ∷ (get_or xs 1 0 ∷ take n (drop 2 xs))
+front_two : (xs : List ℕ) (n : ℕ) → 2 ≤ length xs
+    → take (suc (suc n)) xs ≡ get_or xs 0 0 ∷ (get_or xs 1 0 ∷ take n (drop 2 xs))
 front_two [] n le = absurd (omega arith)
 front_two (x ∷ []) n le = absurd (omega arith)
 front_two (x ∷ (y ∷ xs)) n le = refl
@@ -48,7 +50,8 @@ front_four : (xs : List ℕ) (n : ℕ) → 4 ≤ length xs
 front_four [] n le = absurd (omega arith)
 front_four (x ∷ xs) n le = ap {B = List ℕ} (λ l. x ∷ l) (three xs (omega arith))
   where
-    three : (xs : List ℕ) → 3 ≤ length xs → take (suc (suc (suc n))) xs ≡ get_or xs 0 0 ∷ (get_or xs 1 0 ∷ (get_or xs 2 0 ∷ take n (drop 3 xs)))
+    three : (xs : List ℕ) → 3 ≤ length xs
+        → take (suc (suc (suc n))) xs ≡ get_or xs 0 0 ∷ (get_or xs 1 0 ∷ (get_or xs 2 0 ∷ take n (drop 3 xs)))
     three [] le = absurd (omega arith)
     three (x ∷ xs) le = ap {B = List ℕ} (λ l. x ∷ l) (front_two xs n (omega arith))
 
@@ -58,12 +61,19 @@ unfolding transitions_from
 transitions_length zero t = refl
 transitions_length (suc n) t = ap suc (transitions_length n (drop 4 t))
 
-transitions_bytes_lem : (n : ℕ) (t : List ℕ) → Bytes t → 4 * n ≤ length t → records transition_record (transitions_from n t) ≡ take (4 * n) t
+transitions_bytes_lem : (n : ℕ) (t : List ℕ) → Bytes t → 4 * n ≤ length t
+    → records transition_record (transitions_from n t) ≡ take (4 * n) t
 unfolding records transition_record transitions_from
 transitions_bytes_lem zero t b le = refl
 transitions_bytes_lem (suc n) t b le =
     let e : 4 * suc n ≡ suc (suc (suc (suc (4 * n)))) = omega arith in
-    rw (e, front_four t (4 * n) (omega arith), two_back (get_or t 2 0) (get_or t 3 0) (b 2), transitions_bytes_lem n (drop 4 t) (drop_bytes 4 t b) (rw (length-drop 4 t) (omega arith)))
+    rw (
+      e,
+      front_four t (4 * n) (omega arith),
+      two_back (get_or t 2 0) (get_or t 3 0) (b 2),
+      transitions_bytes_lem n
+          (drop 4 t) (drop_bytes 4 t b) (rw (length-drop 4 t) (omega arith)),
+    )
 
 -- initial numbers
 numbers_length : (n : ℕ) (xs : List ℕ) → length (numbers_from n xs) ≡ n
@@ -71,12 +81,19 @@ unfolding numbers_from
 numbers_length zero xs = refl
 numbers_length (suc n) xs = ap suc (numbers_length n (drop 2 xs))
 
-numbers_bytes : (n : ℕ) (xs : List ℕ) → Bytes xs → 2 * n ≤ length xs → records two_bytes (numbers_from n xs) ≡ take (2 * n) xs
+numbers_bytes : (n : ℕ) (xs : List ℕ) → Bytes xs → 2 * n ≤ length xs
+    → records two_bytes (numbers_from n xs) ≡ take (2 * n) xs
 unfolding records numbers_from
 numbers_bytes zero xs b le = refl
 numbers_bytes (suc n) xs b le =
     let e : 2 * suc n ≡ suc (suc (2 * n)) = omega arith in
-    rw (e, front_two xs (2 * n) (omega arith), two_back (get_or xs 0 0) (get_or xs 1 0) (b 0), numbers_bytes n (drop 2 xs) (drop_bytes 2 xs b) (rw (length-drop 2 xs) (omega arith)))
+    rw (
+      e,
+      front_two xs (2 * n) (omega arith),
+      two_back (get_or xs 0 0) (get_or xs 1 0) (b 0),
+      numbers_bytes n
+          (drop 2 xs) (drop_bytes 2 xs b) (rw (length-drop 2 xs) (omega arith)),
+    )
 
 -- the first state record aside
 next_state : (s : List ℕ) (k j : ℕ) → get_or s (4 * suc k + j) 0 ≡ get_or (drop 4 s) (4 * k + j) 0
@@ -113,7 +130,8 @@ states_length (suc n) s t = ap suc (states_length n (drop 4 s) (drop (4 * number
 states_count : (n : ℕ) (s t : List ℕ) → transition_count (states_from n s t) ≡ count_sum s n
 unfolding states_from transition_count
 states_count zero s t = sym (sum_none s)
-states_count (suc n) s t = rw (sum_first s n, transitions_length (number_at s 0) t, states_count n (drop 4 s) (drop (4 * number_at s 0) t))
+states_count (suc n) s t =
+    rw (sum_first s n, transitions_length (number_at s 0) t, states_count n (drop 4 s) (drop (4 * number_at s 0) t))
 
 flag_back : (x : ℕ) → x ≤ 1 → cond (eqb x 1) 1 0 ≡ x
 flag_back zero le = refl
@@ -153,20 +171,34 @@ states_bytes_lem from (suc n) s t b le fits rests =
           (next_rests from n s t rests),
     )
 
-grouped_bytes : (n : ℕ) (s t : List ℕ) → Bytes t → 4 * count_sum s n ≤ length t → records (λ q. records transition_record q.transitions) (states_from n s t) ≡ take (4 * count_sum s n) t
+grouped_bytes : (n : ℕ) (s t : List ℕ) → Bytes t → 4 * count_sum s n ≤ length t
+    → records (λ q. records transition_record q.transitions) (states_from n s t) ≡ take (4 * count_sum s n) t
 unfolding records states_from
 grouped_bytes zero s t b le = rw (sum_none s)
 grouped_bytes (suc n) s t b le =
     let m : ℕ = number_at s 0 in
     let e : 4 * (m + count_sum (drop 4 s) n) ≡ 4 * m + 4 * count_sum (drop 4 s) n = omega arith in
     let room : 4 * (m + count_sum (drop 4 s) n) ≤ length t = rw (← sum_first s n) le in
-    rw (sum_first s n, e, take-add (4 * m) (4 * count_sum (drop 4 s) n) t, transitions_bytes_lem m t b (omega arith), grouped_bytes n (drop 4 s) (drop (4 * m) t) (drop_bytes (4 * m) t b) (rw (length-drop (4 * m) t) (omega arith)))
+    rw (
+      sum_first s n,
+      e,
+      take-add (4 * m) (4 * count_sum (drop 4 s) n) t,
+      transitions_bytes_lem m t b (omega arith),
+      grouped_bytes n (drop 4 s) (drop (4 * m) t) (drop_bytes (4 * m) t b) (rw (length-drop (4 * m) t) (omega arith)),
+    )
 
 -- what 11 to 13 say of the counts
 module _ (c : Counts) (s t i : List ℕ) (checked : records_check c s t i ≡ fine) where
   pub counts_back : counts (automaton_from c s t i) ≡ c
   unfolding automaton_from
-  counts_back = rw (states_length c.states s t, states_count c.states s t, (fine_fit c s t i checked).sum, numbers_length c.initial i)
+  counts_back =
+      rw (
+        states_length c.states s t,
+        states_count c.states s t,
+        (fine_fit c s t i checked).sum,
+        numbers_length
+            c.initial i,
+      )
 
 -- three tables that hold the records of c and pass 11 to 13
 pub record Passed (c : Counts) (s t i : List ℕ) : Type 0 where
@@ -191,12 +223,15 @@ module _ (c : Counts) (s t i : List ℕ) (passed : Passed c s t i) where
 
   pub states_back : state_records (automaton_from c s t i) ≡ take (4 * c.states) s
   unfolding state_records automaton_from
-  states_back = states_bytes_lem 0 c.states s t passed.state_bytes_lem passed.state_room (λ k lt. state_fine s k (fit.states k lt))
+  states_back =
+      states_bytes_lem 0 c.states s t passed.state_bytes_lem passed.state_room
+      (λ k lt. state_fine s k (fit.states k lt))
       (rests_right fit)
 
   pub transitions_back : transition_records (automaton_from c s t i) ≡ take (4 * c.transitions) t
   unfolding transition_records automaton_from
-  transitions_back = grouped_bytes c.states s t passed.transition_bytes_lem (rw fit.sum passed.transition_room) ∙ rw fit.sum
+  transitions_back =
+      grouped_bytes c.states s t passed.transition_bytes_lem (rw fit.sum passed.transition_room) ∙ rw fit.sum
 
   pub initial_back : initial_records (automaton_from c s t i) ≡ take (2 * c.initial) i
   unfolding initial_records automaton_from
@@ -208,4 +243,6 @@ module _ (c : Counts) (s t i : List ℕ) (passed : Passed c s t i) where
   image_back = rw (counts_back c s t i passed.checked, states_back, transitions_back, initial_back)
 
   pub image_length_lem : length (joined_bodies c s t i) ≡ image_length c
-  image_length_lem = ap length (sym image_back) ∙ image_size (automaton_from c s t i) ∙ ap image_length (counts_back c s t i passed.checked)
+  image_length_lem =
+      ap length (sym image_back) ∙ image_size (automaton_from c s t i) ∙ ap image_length
+      (counts_back c s t i passed.checked)

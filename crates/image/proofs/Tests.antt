@@ -26,11 +26,21 @@ unfolding counts_fit
 counts_small c e =
     let tests = (and-eq-true_iff _ _).0 e in
     let rest = (and-eq-true_iff _ _).0 tests.1 in
-    record { states = leb-true c.states max_states tests.0; transitions = leb-true c.transitions max_transitions rest.0; initial = leb-true c.initial max_initial rest.1 }
+    record {
+      states = leb-true c.states max_states tests.0;
+      transitions = leb-true c.transitions max_transitions rest.0;
+      initial = leb-true c.initial max_initial rest.1;
+    }
 
 pub small_fits : (c : Counts) → Small c → counts_fit c ≡ true
 unfolding counts_fit
-small_fits c small = rw (le-leb c.states max_states small.states, le-leb c.transitions max_transitions small.transitions, le-leb c.initial max_initial small.initial)
+small_fits c small =
+    rw (
+      le-leb c.states max_states small.states,
+      le-leb c.transitions max_transitions small.transitions,
+      le-leb
+          c.initial max_initial small.initial,
+    )
 
 -- the contents of an image, by the tests in their order
 abbrev contents_answer : List ℕ → Result Counts
@@ -89,9 +99,11 @@ module _ (s : List ℕ) (i sum : ℕ) where
     unfolding state_check
     accepting_wrong lt = rw (le-leb (number_at s (4 * i)) max_of_state small, lt-leb (get_or s (4 * i + 2) 0) 1 lt)
 
-    pub state_fits_lem : {n : ℕ} → get_or s (4 * i + 2) 0 ≤ 1 → n ≡ sum + number_at s (4 * i) → accepted n ≡ add_state s i sum
+    pub state_fits_lem : {n : ℕ} → get_or s (4 * i + 2) 0 ≤ 1 → n ≡ sum + number_at s (4 * i)
+        → accepted n ≡ add_state s i sum
     unfolding state_check
-    state_fits_lem flag e = rw (le-leb (number_at s (4 * i)) max_of_state small, le-leb (get_or s (4 * i + 2) 0) 1 flag, e)
+    state_fits_lem flag e =
+        rw (le-leb (number_at s (4 * i)) max_of_state small, le-leb (get_or s (4 * i + 2) 0) 1 flag, e)
 
 -- the state records, by what the pass over them comes to
 module _ (c : Counts) (s : List ℕ) where
@@ -147,15 +159,26 @@ module _ (n : ℕ) (xs : List ℕ) where
   number_wrong zero le = rw (le-ltb (number_at xs 0) n le)
   number_wrong (suc i) le = rw (le-ltb (number_at xs (2 * suc i)) n le)
 
-  pub not_rising : (i : ℕ) → number_at xs (2 * i) < n → number_at xs (2 * i) < least_at xs i → refused 13 i ≡ initial_check n xs i
+  pub not_rising : (i : ℕ) → number_at xs (2 * i) < n → number_at xs (2 * i) < least_at xs i
+      → refused 13 i ≡ initial_check n xs i
   unfolding initial_check
   not_rising zero lt less = absurd (omega arith)
-  not_rising (suc i) lt less = rw (lt-ltb (number_at xs (2 * suc i)) n lt, le-ltb (number_at xs (2 * i)) (number_at xs (2 * suc i)) (omega arith))
+  not_rising (suc i) lt less =
+      rw (
+        lt-ltb (number_at xs (2 * suc i)) n lt,
+        le-ltb (number_at xs (2 * i)) (number_at xs (2 * suc i))
+            (omega arith),
+      )
 
   pub rising : (i : ℕ) → number_at xs (2 * i) < n → least_at xs i ≤ number_at xs (2 * i) → fine ≡ initial_check n xs i
   unfolding initial_check
   rising zero lt le = rw (lt-ltb (number_at xs 0) n lt)
-  rising (suc i) lt le = rw (lt-ltb (number_at xs (2 * suc i)) n lt, lt-ltb (number_at xs (2 * i)) (number_at xs (2 * suc i)) (omega arith))
+  rising (suc i) lt le =
+      rw (
+        lt-ltb (number_at xs (2 * suc i)) n lt,
+        lt-ltb (number_at xs (2 * i)) (number_at xs (2 * suc i))
+            (omega arith),
+      )
 
 -- the records of three tables, by the answers of their checks
 module _ (c : Counts) (s t i : List ℕ) where

@@ -15,7 +15,8 @@ image_automaton image =
 
 -- the transition record at a byte of the image
 abbrev pub record_at : List ℕ → ℕ → Transition
-record_at image at = record { must = get_or image at 0; must_not = get_or image (at + 1) 0; target = number_at image (at + 2) }
+record_at image at =
+    record { must = get_or image at 0; must_not = get_or image (at + 1) 0; target = number_at image (at + 2) }
 
 -- the accepting byte of state q is 1
 abbrev pub AcceptingByte : List ℕ → ℕ → Type 0

@@ -1,5 +1,6 @@
 -- What a reader says of any bytes: refusals 10 to 13, or the automaton.
-use Rattle.std.specs.Prelude.{ℕ, zero, suc, ◌+◌, ◌*◌, List, [], ◌∷◌, Bool, cond, ◌&&◌, get_or, length, drop, eqb, leb, ltb}
+use Rattle.std.specs.Prelude.{ℕ, zero, suc, ◌+◌, ◌*◌, List, [], ◌∷◌, Bool, cond, ◌&&◌, get_or, length, drop, eqb, leb}
+use Rattle.std.specs.Prelude.{ltb}
 use Rattle.std.specs.Int.Bits.{bit_and}
 use Rattle.answer.specs.Bytes.{number_at}
 use Rattle.answer.specs.Result.{Result, accepted, and_then, Check, require, lowest}

@@ -5,7 +5,8 @@ use mathlib.Core.List.{List}
 use mathlib.Core.Logic.{◌⊎◌, inl, inr, ⊎_elim, ⊎_map}
 use native.Mathlib.Omega.{arith}
 use native.Mathlib.Decide.{ℕ_discrete}
-use Rattle.judge.specs.Memory.{Token, Lifted, Is, Gains, Through, Via, Joined, both, met, round, Covered, Linked, one, join, join_met}
+use Rattle.judge.specs.Memory.{Token, Lifted, Is, Gains, Through, Via, Joined, both, met, round, Covered, Linked, one}
+use Rattle.judge.specs.Memory.{join, join_met}
 use Rattle.judge.specs.Limits.{met_bit}
 use Rattle.automaton.specs.Limits.{max_states}
 use Rattle.judge.proofs.Gathers.{Gathering, adds_as, adds_none, adds_both, lift_as, row_was, row_is}
@@ -103,7 +104,8 @@ pub record Closing (n : ℕ) (before after : List ℕ) (m : ℕ) : Type 0 where
   pub kept : (q k : ℕ) → Token before q k → Token after q k
   pub closed : (p : ℕ) → p < m → Closed n (Token after) p
 
-module _ (n m : ℕ) (few : n ≤ max_states) (lm : m < n) {y z : List ℕ} (adds : Gains y z (λ q k. (q < n) × Joined (Token y) m q k)) where
+module _ (n m : ℕ) (few : n ≤ max_states) (lm : m < n) {y z : List ℕ}
+    (adds : Gains y z (λ q k. (q < n) × Joined (Token y) m q k)) where
   old : {q k : ℕ} → Token y q k → Token z q k
   old {q} {k} h = adds.all q k (inl h)
 
@@ -145,7 +147,8 @@ module _ (n m : ℕ) (few : n ≤ max_states) (lm : m < n) {y z : List ℕ} (add
 
   -- and those before it
   module _ (p : ℕ) (lp : p < n) (c : Closed n (Token y) p) where
-    run_before : (q k : ℕ) → q < n → Token y q p ⊎ (Token y q m × Token y m p) → Token y p k ⊎ ((p < n) × Joined (Token y) m p k) → Token z q k
+    run_before : (q k : ℕ) → q < n → Token y q p ⊎ (Token y q m × Token y m p)
+        → Token y p k ⊎ ((p < n) × Joined (Token y) m p k) → Token z q k
     run_before q k lq (inl a) (inl h) = old (c.runs q k lq a h)
     run_before q k lq (inl a) (inr (l, both b h)) = new lq (both (c.runs q m lq a b) h)
     run_before q k lq (inl a) (inr (l, round b d h)) = new lq (round (c.runs q m lq a b) d h)
@@ -155,7 +158,9 @@ module _ (n m : ℕ) (few : n ≤ max_states) (lm : m < n) {y z : List ℕ} (add
     run_before q k lq (inr (a, g)) (inr (l, round b d h)) = new lq (round a d h)
     run_before q k lq (inr (a, g)) (inr (l, met b h)) = new lq (round a (c.runs m (met_bit + m) lm g b) h)
 
-    met_before : (q k j : ℕ) → q < n → j < met_bit → k ≡ met_bit + j → Token y q (met_bit + p) ⊎ ((q < n) × Joined (Token y) m q (met_bit + p)) → Token y p j ⊎ (Token y p m × Token y m j) → Token z q k
+    met_before : (q k j : ℕ) → q < n → j < met_bit → k ≡ met_bit + j
+        → Token y q (met_bit + p) ⊎ ((q < n) × Joined (Token y) m q (met_bit + p))
+        → Token y p j ⊎ (Token y p m × Token y m j) → Token z q k
     met_before q k j lq lj ek s (inl a) = here s
       where
         lift : Lifted (Token y) p k
@@ -188,7 +193,8 @@ module _ (n m : ℕ) (few : n ≤ max_states) (lm : m < n) {y z : List ℕ} (add
     closed_before : Closed n (Token z) p
     closed_before = record {
       runs = λ q k lq b h. run_before q k lq (low q p (omega arith) b) (adds.only p k h);
-      mets = λ q k lq b l. met_before q k l.low lq l.half l.high (adds.only q (met_bit + p) b) (low p l.low l.half l.held);
+      mets = λ q k lq b l. met_before q k l.low lq l.half l.high (adds.only q (met_bit + p) b)
+          (low p l.low l.half l.held);
     }
 
   pub closing_steps : {x : List ℕ} → Closing n x y m → Closing n x z (m + 1)
@@ -227,7 +233,8 @@ module _ (n m : ℕ) (few : n ≤ max_states) (lm : m < n) {y z : List ℕ} (add
       link q k (inl h) = s h
       link q k (inr (lq, both b h)) = join m q k lm lq (s b) (s h)
       link q k (inr (lq, met b l)) = at l (join_met m q l.low lm lq l.half (s b) (s l.held))
-      link q k (inr (lq, round b c l)) = at l (join m q (met_bit + l.low) lm lq (s b) (join_met m m l.low lm lm l.half (s c) (s l.held)))
+      link q k (inr (lq, round b c l)) =
+          at l (join m q (met_bit + l.low) lm lq (s b) (join_met m m l.low lm lm l.half (s c) (s l.held)))
 
 pub closing_begins : (n : ℕ) (x : List ℕ) → Covered x → Closing n x x 0
 closing_begins n x covered = record {
@@ -244,4 +251,6 @@ closing_ends n m {x} {y} le inv = record { only = inv.sound; all = λ q k h. all
     all : {q k : ℕ} → Linked n (Token x) q k → Token y q k
     all (one q k h) = inv.kept q k h
     all (join p q k lp lq b h) = (inv.closed p (omega arith)).runs q k lq (all b) (all h)
-    all (join_met p q k lp lq lk b h) = (inv.closed p (omega arith)).mets q (met_bit + k) lq (all b) (record { low = k; half = lk; high = refl; held = all h })
+    all (join_met p q k lp lq lk b h) =
+        (inv.closed p (omega arith)).mets q (met_bit + k) lq (all b)
+        (record { low = k; half = lk; high = refl; held = all h })

@@ -84,7 +84,8 @@ module _ (x : List ℕ) (New : (i q k : ℕ) → Type 0) (n : ℕ) where
     };
   }
     where
-      old : (q k : ℕ) → Token x q k ⊎ ((j : ℕ) × (j < i) × New j q k) → Token x q k ⊎ ((j : ℕ) × (j < i + 1) × New j q k)
+      old : (q k : ℕ) → Token x q k ⊎ ((j : ℕ) × (j < i) × New j q k)
+          → Token x q k ⊎ ((j : ℕ) × (j < i + 1) × New j q k)
       old q k (inl h) = inl h
       old q k (inr (j, l, h)) = inr (j, omega arith, h)
 

@@ -51,11 +51,13 @@ module _ (a : Automaton) (stem cycle work : List ℕ) {rests k : Bool} {pairs : 
   letters_broken e = letters_judged_lem (rw (← at_rest, ← decided, e, verdict))
 
 module _ (stem cycle work : List ℕ) where
-  judged_refused : {x : Result Automaton} {number place : ℕ} → refused number place ≡ x → judgement (refused number place) work ≡ judged_by x stem cycle work
+  judged_refused : {x : Result Automaton} {number place : ℕ} → refused number place ≡ x
+      → judgement (refused number place) work ≡ judged_by x stem cycle work
   judged_refused e = rw (← e)
 
   module _ (a : Automaton) where
-    pub lasso_refused : {number place : ℕ} → refused number place ≡ lasso_check stem cycle → judgement (refused number place) work ≡ judged_by (lasso_judgeable a stem cycle) stem cycle work
+    pub lasso_refused : {number place : ℕ} → refused number place ≡ lasso_check stem cycle
+        → judgement (refused number place) work ≡ judged_by (lasso_judgeable a stem cycle) stem cycle work
     lasso_refused e = judged_refused {x = lasso_judgeable a stem cycle} (rw (← e))
 
     -- the letters that were judged are those that remain
@@ -75,14 +77,20 @@ module _ (stem cycle work : List ℕ) where
     work_short lt = judged_refused {x = judgeable image stem cycle work} (rw (lt-leb work_bytes (length work) lt))
 
     module _ (long : work_bytes ≤ length work) where
-      pub image_refused : {number place : ℕ} → refused number place ≡ checks image → judgement (refused number place) work ≡ judged image stem cycle work
+      pub image_refused : {number place : ℕ} → refused number place ≡ checks image
+          → judgement (refused number place) work ≡ judged image stem cycle work
       unfolding judged judgeable
-      image_refused e = judged_refused {x = judgeable image stem cycle work} (rw (le-leb work_bytes (length work) long, checks_refused image e))
+      image_refused e =
+          judged_refused {x = judgeable image stem cycle work}
+          (rw (le-leb work_bytes (length work) long, checks_refused image e))
 
-      pub image_judged : {c : Counts} → accepted c ≡ checks image → {j : Judgement} → j ≡ judged_by (lasso_judgeable (image_automaton image) stem cycle) stem cycle work → j ≡ judged image stem cycle work
+      pub image_judged : {c : Counts} → accepted c ≡ checks image → {j : Judgement}
+          → j ≡ judged_by (lasso_judgeable (image_automaton image) stem cycle) stem cycle work
+          → j ≡ judged image stem cycle work
       unfolding judged judgeable
       image_judged {c} e h =
           let found = checks_of image c e in
           let read = read_of image found.automaton found.read in
-          let same : judgeable image stem cycle work ≡ lasso_judgeable (image_automaton image) stem cycle = rw (le-leb work_bytes (length work) long, found.read, read.automaton) in
+          let same : judgeable image stem cycle work ≡ lasso_judgeable (image_automaton image) stem cycle =
+          rw (le-leb work_bytes (length work) long, found.read, read.automaton) in
           rw same h

@@ -70,7 +70,8 @@ pub judged_few : (image stem cycle work : List ℕ) (f : Finding) → (judged im
 unfolding judged
 judged_few image stem cycle work f e = go (judgeable image stem cycle work) refl e
   where
-    go : (r : Result Automaton) → judgeable image stem cycle work ≡ r → (judged_by r stem cycle work).answer ≡ accepted f
+    go : (r : Result Automaton) → judgeable image stem cycle work ≡ r
+        → (judged_by r stem cycle work).answer ≡ accepted f
         → f.pairs ≤ work_bytes
     go (refused number place) known e = never_both e
     go (accepted a) known e =

@@ -50,9 +50,11 @@ module _ (x : List ℕ) (a : ℕ) (from : List ℕ) (b n : ℕ) where
       new : List ℕ
       new = join_at y (a + i) (get_or from (b + i) 0)
 
-      pick : (j : ℕ) → j < i + 1 → Dec (j ≡ i) → get_or new (a + j) 0 ≡ bit_or (get_or x (a + j) 0) (get_or from (b + j) 0)
+      pick : (j : ℕ) → j < i + 1 → Dec (j ≡ i)
+          → get_or new (a + j) 0 ≡ bit_or (get_or x (a + j) 0) (get_or from (b + j) 0)
       pick j l (yes e) =
-          rw e (get_or-set_same y (a + i) _ 0 (omega (arith, inv.size)) ∙ ap (λ (w : ℕ). bit_or w (get_or from (b + i) 0)) (inv.ored.outside (a + i) (inr (omega arith))))
+          rw e (get_or-set_same y (a + i) _ 0 (omega (arith, inv.size)) ∙ ap
+          (λ (w : ℕ). bit_or w (get_or from (b + i) 0)) (inv.ored.outside (a + i) (inr (omega arith))))
       pick j l (no e) = get_or-set_other y (a + i) (a + j) _ 0 (λ q. e (omega arith)) ∙ inv.ored.inside j (omega arith)
 
       other : (j : ℕ) → (j < a) ⊎ (a + (i + 1) ≤ j) → get_or new j 0 ≡ get_or x j 0
@@ -168,7 +170,8 @@ module _ (x from y : List ℕ) (t q : ℕ) where
 
 -- ---- no bit
 
-four : (row : List ℕ) (j : ℕ) → j < 4 → get_or row 0 0 ≡ 0 → get_or row 1 0 ≡ 0 → get_or row 2 0 ≡ 0 → get_or row 3 0 ≡ 0
+four : (row : List ℕ) (j : ℕ) → j < 4 → get_or row 0 0 ≡ 0 → get_or row 1 0 ≡ 0 → get_or row 2 0 ≡ 0
+    → get_or row 3 0 ≡ 0
     → get_or row j 0 ≡ 0
 four row zero lt a b c d = a
 four row (suc zero) lt a b c d = b

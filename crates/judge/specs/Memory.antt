@@ -3,7 +3,8 @@
 -- began stands in q now. Passes begin in those states alone in which a run from an initial state stands when some pass
 -- begins. Bit `met_bit` + p: the same as bit p, of a run that has stood in an accepting state since the pass began, now
 -- included and then not: a run that comes back to where it stood then is there now.
-use Rattle.std.specs.Prelude.{ℕ, zero, suc, ◌+◌, ◌*◌, ◌/◌, ◌%◌, ◌<◌, ◌≤◌, ◌≡◌, List, Bool, true, false, ◌⊎◌, get_or, length}
+use Rattle.std.specs.Prelude.{ℕ, zero, suc, ◌+◌, ◌*◌, ◌/◌, ◌%◌, ◌<◌, ◌≤◌, ◌≡◌, List, Bool, true, false, ◌⊎◌, get_or}
+use Rattle.std.specs.Prelude.{length}
 use Rattle.std.specs.Int.Bits.{bit_or}
 use Rattle.answer.specs.Bytes.{number_at}
 use Rattle.sets.specs.Bits.{Has}

@@ -1,7 +1,8 @@
 // The call judge: whether a lasso is kept or broken by the automaton of an image.
 #![tactic(auto)]
 
-ghost use Rattle.std.specs.Prelude.{◌≡◌, true, false, ◌||◌, ℕ, ◌+◌, ◌*◌, ◌<◌, ◌≤◌, ◌++◌, length, get_or, replicate, drop};
+ghost use Rattle.std.specs.Prelude.{◌≡◌, true, false, ◌||◌, ℕ, ◌+◌, ◌*◌, ◌<◌, ◌≤◌, ◌++◌, length, get_or, replicate};
+ghost use Rattle.std.specs.Prelude.{drop};
 ghost use Rattle.automaton.specs.Automaton.{AcceptingPass, Accepts, Step};
 ghost use Rattle.automaton.specs.Limits.{max_states};
 ghost use Rattle.answer.specs.Bytes.{number_at};

@@ -15,7 +15,8 @@ use Rattle.lasso.specs.Lasso.{remaining, max_letters, lasso_check}
 use Rattle.lasso.proofs.Skipping.{remaining_fewer, remaining_again}
 
 -- the sum of two lengths is not made
-pub letters_left : (stem cycle : ℕ) → stem ≤ max_letters → leb cycle (max_letters - stem) ≡ leb (stem + cycle) max_letters
+pub letters_left : (stem cycle : ℕ) → stem ≤ max_letters
+    → leb cycle (max_letters - stem) ≡ leb (stem + cycle) max_letters
 letters_left stem cycle le = go (dec_lt (max_letters - stem) cycle)
   where
     go : Dec (max_letters - stem < cycle) → leb cycle (max_letters - stem) ≡ leb (stem + cycle) max_letters

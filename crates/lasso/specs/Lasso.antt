@@ -1,7 +1,8 @@
 -- A lasso: a stem, and a cycle that is taken round and round (document 01: a plan, its stem and its loop). A letter is
 -- one byte, in which bit p is proposition p (a slot with its marks); bit 7 says that it is skipped (02, R-9). A lasso
 -- is lent with its skipped letters; its word is that of the letters that remain.
-use Rattle.std.specs.Prelude.{ℕ, zero, suc, ◌+◌, ◌-◌, ◌%◌, ◌≡◌, List, [], ◌∷◌, Bool, true, false, cond, get_or, length, leb, ltb}
+use Rattle.std.specs.Prelude.{ℕ, zero, suc, ◌+◌, ◌-◌, ◌%◌, ◌≡◌, List, [], ◌∷◌, Bool, true, false, cond, get_or, length}
+use Rattle.std.specs.Prelude.{leb, ltb}
 use Rattle.answer.specs.Result.{and_then, Check, require}
 
 -- bit 7 of a letter, which is set where it is skipped (02, R-9, sentence 1)

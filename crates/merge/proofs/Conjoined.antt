@@ -88,7 +88,14 @@ module _ (first second : List ℕ) (passes : syntax_check release_kind first ≡
   pub merged_length : length all ≡ merged_count first second * 3
   unfolding conjoined
   merged_length =
-      omega (arith, whole, moved_length second m n, length-append first (nodes ++ root_node), length-append nodes root_node)
+      omega (
+        arith,
+        whole,
+        moved_length second m n,
+        length-append first (nodes ++ root_node),
+        length-append nodes
+            root_node,
+      )
 
   pub merged_count_lem : node_count all ≡ merged_count first second
   merged_count_lem = omega (arith, merged_length)
@@ -121,8 +128,11 @@ module _ (first second : List ℕ) (passes : syntax_check release_kind first ≡
   first_copied = record {
     inside = omega (arith, merged_count_lem);
     kinds = λ k lt. rw (zero-add k) (first_byte (k * 3) (omega (arith, whole)));
-    lefts = λ k lt. rw (zero-add k) (first_byte (k * 3 + 1) (omega (arith, whole)) ∙ not_moved (left_operand (kind_at first k)) (left_at first k));
-    rights = λ k lt. rw (zero-add k) (first_byte (k * 3 + 2) (omega (arith, whole)) ∙ not_moved (right_operand (kind_at first k)) (right_at first k));
+    lefts = λ k lt. rw (zero-add k)
+        (first_byte (k * 3 + 1) (omega (arith, whole)) ∙ not_moved (left_operand (kind_at first k)) (left_at first k));
+    rights = λ k lt. rw (zero-add k)
+        (first_byte (k * 3 + 2) (omega (arith, whole)) ∙ not_moved (right_operand (kind_at first k))
+        (right_at first k));
   }
 
   pub second_copied : Copied all second m
@@ -173,7 +183,8 @@ module _ (first second : List ℕ) (passes : syntax_check release_kind first ≡
   merged_nodes : (k : ℕ) → k < node_count all → node_check release_kind all k ≡ fine
   merged_nodes =
       each_node (λ k. node_check release_kind all k ≡ fine)
-      (λ k lt. copied_node all first 0 first_copied release_kind k lt ((formed_fine release_kind first passes).each k lt))
+      (λ k lt. copied_node all first 0 first_copied release_kind k lt
+      ((formed_fine release_kind first passes).each k lt))
       (λ k lt. copied_node all second m second_copied release_kind k lt
       ((formed_fine release_kind second passes_too).each k lt))
       root_node_lem
@@ -183,7 +194,8 @@ module _ (first second : List ℕ) (passes : syntax_check release_kind first ≡
   below_in : (rule : List ℕ) → ((k : ℕ) → k < node_count rule → node_check release_kind rule k ≡ fine)
       → ChildrenBelow rule (node_count rule)
   below_in rule each =
-      children_below release_kind rule (node_count rule) (lowest_all (node_check release_kind rule) (node_count rule) each)
+      children_below release_kind rule (node_count rule)
+      (lowest_all (node_check release_kind rule) (node_count rule) each)
 
   -- both roots are children of the root besides
   all_places : (k : ℕ) → places all (node_count all) k
@@ -209,7 +221,8 @@ module _ (first second : List ℕ) (passes : syntax_check release_kind first ≡
 
   place_of_second : (k : ℕ) → k < n → place_check all (m + k) ≡ fine
   place_of_second k lt =
-      let none = no_places first m (m + k) (below_in first (formed_fine release_kind first passes).each) (omega arith) in
+      let none =
+      no_places first m (m + k) (below_in first (formed_fine release_kind first passes).each) (omega arith) in
       copied_place all second m second_copied k lt (below_in second (formed_fine release_kind second passes_too).each)
       ((formed_fine release_kind second passes_too).places k lt)
       (all_places (m + k)

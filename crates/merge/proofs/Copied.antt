@@ -14,7 +14,8 @@ use Rattle.answer.specs.Result.{fine}
 use Rattle.answer.proofs.Lowest.{not_fine}
 use Rattle.formula.specs.declared.Operand.{Operand}
 use Rattle.formula.specs.declared.Operand.TheVariants.{Unused, Proposition, Child}
-use Rattle.formula.specs.Rule.{node_count, kind_at, left_at, right_at, root, left_operand, right_operand, byte_fits, child_fits}
+use Rattle.formula.specs.Rule.{node_count, kind_at, left_at, right_at, root, left_operand, right_operand, byte_fits}
+use Rattle.formula.specs.Rule.{child_fits}
 use Rattle.formula.specs.Rule.{node_check, ChildrenBelow, is_child, places, place_check, untils}
 use Rattle.formula.proofs.Accepted.{kind_known}
 use Rattle.formula.proofs.Untils.{untils_more, untils_most}
@@ -61,7 +62,8 @@ moved_past Proposition up byte k lt = refl
 moved_past Child up byte k lt = rw (ne_eqb (up + byte) k (λ e. omega arith))
 
 -- a child of a node is no node from that one on
-child_below : (operand : Operand) (byte n k : ℕ) → child_fits operand byte n ≡ true → n ≤ k → is_child operand byte k ≡ 0
+child_below : (operand : Operand) (byte n k : ℕ) → child_fits operand byte n ≡ true → n ≤ k
+    → is_child operand byte k ≡ 0
 child_below Unused byte n k e le = refl
 child_below Proposition byte n k e le = refl
 child_below Child byte n k e le = rw (ne_eqb byte k (λ f. omega (arith, ltb-true byte n e)))
@@ -73,7 +75,8 @@ no_places rule zero k below le = refl
 no_places rule (suc n) k below le =
     let lower : ChildrenBelow rule n =
     record { lefts = λ i l. below.lefts i (omega arith); rights = λ i l. below.rights i (omega arith) } in
-    let left = child_below (left_operand (kind_at rule n)) (left_at rule n) n k (below.lefts n (omega arith)) (omega arith) in
+    let left =
+    child_below (left_operand (kind_at rule n)) (left_at rule n) n k (below.lefts n (omega arith)) (omega arith) in
     let right =
     child_below (right_operand (kind_at rule n)) (right_at rule n) n k (below.rights n (omega arith)) (omega arith) in
     omega (arith, no_places rule n k lower (omega arith))
@@ -127,8 +130,10 @@ module _ (whole part : List ℕ) (up : ℕ) (copied : Copied whole part up) wher
       ))
 
   -- 6 lets a node pass that is a child at the places where it was, and the part's root at one more
-  module _ (k : ℕ) (lt : k < node_count part) (below : ChildrenBelow part (node_count part)) (e : place_check part k ≡ fine)
-      (count : places whole (node_count whole) (up + k) ≡ places part (node_count part) k + cond (eqb (root part) k) 1 0) where
+  module _ (k : ℕ) (lt : k < node_count part) (below : ChildrenBelow part (node_count part))
+      (e : place_check part k ≡ fine)
+      (count : places whole (node_count whole) (up + k) ≡ places part (node_count part) k + cond (eqb (root part) k) 1
+      0) where
     abbrev own : ℕ
     own = places part (node_count part) k
 

@@ -47,7 +47,8 @@ module _ (first second : List ℕ) where
       too_large lt = rw (passes, passes_too, lt-leb (merged_count first second) max_nodes lt)
 
       -- x and y are the counts of the untils
-      module _ (few : merged_count first second ≤ max_nodes) {x y : ℕ} (ex : x ≡ length (untils first (node_count first)))
+      module _ (few : merged_count first second ≤ max_nodes) {x y : ℕ}
+          (ex : x ≡ length (untils first (node_count first)))
           (ey : y ≡ length (untils second (node_count second))) where
         abbrev all : ℕ
         all = length (untils (conjoined first second) (node_count (conjoined first second)))
@@ -101,7 +102,8 @@ module _ (first second : List ℕ) where
       merged_stored written after e same is put =
           let may = merge_fine e in
           let long = merged_length first second may.passes may.passes_too in
-          let filled-up = filled_as merged written after (conjoined first second) (merged_count first second * 3) is same put in
+          let filled-up =
+          filled_as merged written after (conjoined first second) (merged_count first second * 3) is same put in
           rw (le-leb rule_bytes (length merged) room, e, filled-up)
           (ap (λ (x : ℕ). buffer (accepted x) (filled merged (conjoined first second))) (sym long))
 

@@ -14,7 +14,8 @@ use Rattle.answer.proofs.Filling.{front_more}
 use Rattle.formula.specs.declared.Operand.{Operand}
 use Rattle.formula.specs.declared.Operand.TheVariants.{Unused, Proposition, Child}
 use Rattle.formula.specs.Limits.{max_nodes, propositions}
-use Rattle.formula.specs.Rule.{node_count, kind_at, left_at, right_at, left_operand, right_operand, byte_fits, child_fits}
+use Rattle.formula.specs.Rule.{node_count, kind_at, left_at, right_at, left_operand, right_operand, byte_fits}
+use Rattle.formula.specs.Rule.{child_fits}
 use Rattle.formula.specs.Rule.{release_kind, node_check, syntax_check}
 use Rattle.formula.proofs.Accepted.{formed_fine}
 use Rattle.formula.proofs.Checks.{tested}
@@ -72,7 +73,8 @@ module _ (rule : List ℕ) (up : ℕ) (before : List ℕ) (n : ℕ) where
       size = same ∙ inv.size;
       stored =
           rw (add-one i)
-          (front_more merged after ((up + i) * 3) ((up + suc i) * 3) (moved_node rule up i) (omega arith) (omega arith) put
+          (front_more merged after ((up + i) * 3) ((up + suc i) * 3) (moved_node rule up i) (omega arith) (omega arith)
+          put
           ∙ rw inv.stored (append_assoc (take (up * 3) before) (moved_nodes rule up i) (moved_node rule up i)));
     }
 

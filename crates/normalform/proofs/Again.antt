@@ -17,7 +17,8 @@ use Rattle.formula.proofs.Accepted.{node_widens, syntax_widens}
 use Rattle.normalform.specs.Written.{Connective, and, or, until, release, Written, constant, literal}
 use Rattle.normalform.specs.Written.{negation, next, binary, future, build_written, written_tree, written_check}
 use Rattle.normalform.specs.NormalForm.{turned, bit, left_sense, connective_kind, left_constant, pair_code, code}
-use Rattle.normalform.specs.NormalForm.{future_kind, below, walk, entry, member, rank, emit, entry_of, size, normal_bytes}
+use Rattle.normalform.specs.NormalForm.{future_kind, below, walk, entry, member, rank, emit, entry_of, size}
+use Rattle.normalform.specs.NormalForm.{normal_bytes}
 use Rattle.normalform.specs.NormalForm.{normal_form}
 use Rattle.normalform.proofs.Ranks.{rank_rises}
 use Rattle.normalform.proofs.Shape.{member_map, member_from, Fits, pair_high, entry_code}

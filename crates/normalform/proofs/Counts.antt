@@ -10,7 +10,8 @@ use native.Mathlib.Decide.{ℕ_discrete, dec_le, dec_lt}
 use borrow.Author.Tests.{eq-eqb}
 use Rattle.answer.specs.Result.{fine}
 use Rattle.answer.proofs.Lowest.{not_fine}
-use Rattle.formula.specs.Rule.{node_count, kind_at, left_at, right_at, root, left_operand, right_operand, is_child, places}
+use Rattle.formula.specs.Rule.{node_count, kind_at, left_at, right_at, root, left_operand, right_operand, is_child}
+use Rattle.formula.specs.Rule.{places}
 use Rattle.formula.specs.Rule.{place_check}
 use Rattle.formula.proofs.Operands.{left_child, right_child}
 use Rattle.formula.proofs.Checks.{place_twice}

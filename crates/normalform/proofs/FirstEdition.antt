@@ -90,7 +90,8 @@ first_edition_same rule stem cycle low = root_alike (letter stem cycle) rule low
 
 -- and its normal form exactly when it satisfies the rule
 pub first_edition_kept : (rule out stem cycle : List ℕ)
-    → ((n : ℕ) → n < node_count rule → kind_at rule n ≤ release_kind) → normal_form rule ≡ accepted out → 0 < length cycle
+    → ((n : ℕ) → n < node_count rule → kind_at rule n ≤ release_kind) → normal_form rule ≡ accepted out
+    → 0 < length cycle
     → Satisfies out stem cycle ↔ Satisfies rule stem cycle
 first_edition_kept rule out stem cycle low e pos =
     Iff.trans (normal_form_holds rule out stem cycle e pos) (Iff.symm (first_edition_same rule stem cycle low))

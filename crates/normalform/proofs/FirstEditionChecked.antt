@@ -14,7 +14,8 @@ use borrow.Author.Tests.{le-leb}
 use Rattle.answer.specs.Result.{fine}
 use Rattle.answer.proofs.Lowest.{fine_first}
 use Rattle.formula.specs.Limits.{max_nodes, max_untils}
-use Rattle.formula.specs.Rule.{node_count, kind_at, left_at, right_at, root, release_kind, eventually_kind, syntax_check}
+use Rattle.formula.specs.Rule.{node_count, kind_at, left_at, right_at, root, release_kind, eventually_kind}
+use Rattle.formula.specs.Rule.{syntax_check}
 use Rattle.formula.specs.Rule.{untils, until_check, checked}
 use Rattle.formula.proofs.Accepted.{kind_known, syntax_widens, formed_fine, accepted_fine}
 use Rattle.formula.proofs.Untils.{untils_more}

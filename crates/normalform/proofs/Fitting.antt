@@ -120,7 +120,8 @@ module _ (rule : List ℕ) where
   fits_step : (n : ℕ) → WrittenNode rule n → ((k : ℕ) → k < n → FitsAt k n) → FitsAt n (suc n)
   fits_step n w ih = go (dec_lt 3 (kind_at rule n)) (leaf_made rule n w)
     where
-      go : Dec (3 < kind_at rule n) → (a b : Written) × Made n (left_at rule n) a b (kind_at rule n) (written_tree rule n)
+      go : Dec (3 < kind_at rule n)
+          → (a b : Written) × Made n (left_at rule n) a b (kind_at rule n) (written_tree rule n)
           → FitsAt n (suc n)
       go (yes inner) x =
           fits_made (written_tree rule) (inner_made rule n w inner) refl w.node.proposition

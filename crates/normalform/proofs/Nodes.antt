@@ -177,7 +177,8 @@ module _ (look : ℕ → Written) (t : Written) (m : ℕ) (fits : Fits look t m)
   needed_low : (c : ℕ) → needs c ≡ true → c < m * 2 + 2
   needed_low c e = omega (arith, walk_low c e, code_low look t m false fits)
 
-  pub byte : (c j : ℕ) → needs c ≡ true → j < 3 → get_or out (at c * 3 + j) 0 ≡ get_or (entry_of (walk t false) look c) j 0
+  pub byte : (c j : ℕ) → needs c ≡ true → j < 3
+      → get_or out (at c * 3 + j) 0 ≡ get_or (entry_of (walk t false) look c) j 0
   byte c j e small = emit_byte needs (entry_of (walk t false) look) three (m * 2 + 2) c j (needed_low c e) e small
 
   pub kind_byte : (c : ℕ) → needs c ≡ true → kind_at out (at c) ≡ get_or (entry_of (walk t false) look c) 0 0

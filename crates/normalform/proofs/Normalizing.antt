@@ -51,7 +51,8 @@ module _ (rule : List ℕ) (passes : written_check rule ≡ fine) {needed : List
         room = omega arith;
       }
 
-      pub form_stored : (written after : List ℕ) → length written ≡ length form → take (count * 3) written ≡ normal_bytes rule
+      pub form_stored : (written after : List ℕ) → length written ≡ length form
+          → take (count * 3) written ≡ normal_bytes rule
           → after ≡ filled written (take (count * 3) written)
           → buffer (accepted (count * 3)) after ≡ rule_stored (sized rule) form
       form_stored written after same is put =

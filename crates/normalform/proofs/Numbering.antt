@@ -85,7 +85,13 @@ module _ (needed : List Bool) (end : ℕ) (before : List ℕ) where
   pub count_begins : Counting needed end before before 0 0
   unfolding rank
   count_begins =
-      record { within = omega arith; room = refl; most = omega arith; counted = refl; each = λ k l. absurd (omega arith) }
+      record {
+        within = omega arith;
+        room = refl;
+        most = omega arith;
+        counted = refl;
+        each = λ k l. absurd (omega arith);
+      }
 
   module _ (numbers : List ℕ) (count c : ℕ) (inv : Counting needed end before numbers count c) where
     pub count_steps : c < end → end ≤ length before → (more : ℕ) → (more ≡ bit (flagged needed c)) × (more ≤ 1)

@@ -180,7 +180,8 @@ module _ (look : ℕ → Written) (t : Written) (m : ℕ) (fits : Fits look t m)
         ∙ one_tree a s (within_next look t m fits n a s w)
 
     binary_own : (n : ℕ) (o : Connective) (a b : Written) (l : ℕ) (s : Bool) → Fits look (binary n o a b) l
-        → In (binary n o a b) s → entry_kids (num k) (pair_code n s) ≡ one k (code a (left_sense o s)) + one k (code b s)
+        → In (binary n o a b) s
+        → entry_kids (num k) (pair_code n s) ≡ one k (code a (left_sense o s)) + one k (code b s)
     unfolding code entry
     binary_own n o a b l s f w =
         omega (

@@ -77,16 +77,17 @@ module _ (rule : List ℕ) (passes : written_check rule ≡ fine) where
       omega (arith, low, pair_high n s, code_low look t m false formed.fits)
 
   -- and is named by its code, if it stands by itself
-  module _ (n : ℕ) (s : Bool) (stands : Standing (look n)) (needed : is_needed (codes_of rule) (pair_code n s) ≡ true) where
-    half : (s : Bool) → (pair_code n s - 2) / 2 ≡ n
-    half true = omega arith
-    half false = omega arith
+  module _ (n : ℕ) (s : Bool) (stands : Standing (look n)) (needed : is_needed (codes_of rule) (pair_code n s) ≡ true)
+    where
+      half : (s : Bool) → (pair_code n s - 2) / 2 ≡ n
+      half true = omega arith
+      half false = omega arith
 
-    pair_named : Named rule (pair_code n s)
-    pair_named le =
-        let inside = pair_inside n s needed in
-        let (a, b, made) = leaf_made rule n (formed.nodes n inside) in
-        rw (half s) (record { inside = inside; passes = passes }, standing_place rule n made stands)
+      pair_named : Named rule (pair_code n s)
+      pair_named le =
+          let inside = pair_inside n s needed in
+          let (a, b, made) = leaf_made rule n (formed.nodes n inside) in
+          rw (half s) (record { inside = inside; passes = passes }, standing_place rule n made stands)
 
   constant_named : (v : Bool) → Named rule (bit v)
   constant_named true le = absurd (omega arith)
@@ -158,7 +159,13 @@ module _ {rule : List ℕ} {needed : List Bool} {numbers : List ℕ} {count : �
     pub code_named : Named rule c × (number_in numbers c * 3 + 3 ≤ length form)
     code_named = (
       names,
-      omega (arith, at_number c l, count_size, rank_below (is_needed codes) c (code_end rule) is_needed_lem l, ready.room),
+      omega (
+        arith,
+        at_number c l,
+        count_size,
+        rank_below (is_needed codes) c (code_end rule) is_needed_lem l,
+        ready.room,
+      ),
     )
 
     bytes_are : code_bytes rule numbers c ≡ entry_of codes (written_tree rule) c
@@ -167,13 +174,15 @@ module _ {rule : List ℕ} {needed : List Bool} {numbers : List ℕ} {count : �
         go : Dec (c < 2) → code_bytes rule numbers c ≡ entry_of codes (written_tree rule) c
         go (yes low) =
             let at : (k : ℕ) → k < 2 → number_in numbers k ≡ number codes k = λ k h. at_number k (omega arith) in
-            rw (lt-ltb c 2 low) (entry_agree (number_in numbers) (number codes) (written_tree rule) (constant false) 0 (sense c) tt at)
+            rw (lt-ltb c 2 low) (entry_agree (number_in numbers) (number codes) (written_tree rule) (constant false) 0
+            (sense c) tt at)
         go (no high) =
             let k = (c - 2) / 2 in
             let inside = (names (omega arith)).0.inside in
             let fits = fits_node rule (well_written rule ready.passes).nodes k inside in
             rw (le-ltb c 2 (omega arith))
-            (entry_agree (number_in numbers) (number codes) (written_tree rule) (written_tree rule k) (suc k) (sense c) fits
+            (entry_agree (number_in numbers) (number codes) (written_tree rule) (written_tree rule k) (suc k) (sense c)
+            fits
             (λ j h. at_number j (omega arith)))
 
   three : (c : ℕ) → length (entry_of codes (written_tree rule) c) ≡ 3
@@ -200,7 +209,8 @@ module _ {rule : List ℕ} {needed : List Bool} {numbers : List ℕ} {count : �
   abbrev wanted : ℕ → Bool
   wanted = is_needed (codes_of rule)
 
-  pub code_room : c < code_end rule → flagged needed c ≡ true → Named rule c × (number_in numbers c * 3 + 3 ≤ length form)
+  pub code_room : c < code_end rule → flagged needed c ≡ true
+      → Named rule c × (number_in numbers c * 3 + 3 ≤ length form)
   code_room l n =
       let (names, fits) = code_named ready c l n in
       (names, omega (arith, inv.room))

@@ -1,5 +1,6 @@
 -- What the code holds of a written rule on the way to its normal form: the needed codes as flags, and their numbers.
-use Rattle.std.specs.Prelude.{ℕ, ◌+◌, ◌-◌, ◌*◌, ◌/◌, ◌<◌, ◌≤◌, ◌≡◌, Bool, false, cond, ◌||◌, List, [], ◌∷◌, get_or, length, take, eqb, ltb}
+use Rattle.std.specs.Prelude.{ℕ, ◌+◌, ◌-◌, ◌*◌, ◌/◌, ◌<◌, ◌≤◌, ◌≡◌, Bool, false, cond, ◌||◌, List, [], ◌∷◌, get_or}
+use Rattle.std.specs.Prelude.{length, take, eqb, ltb}
 use Rattle.std.proofs.lemmas.List.Edits.{sets}
 use Rattle.answer.specs.declared.Stored.{Stored}
 use Rattle.answer.specs.declared.Stored.TheVariants.{Accepted, Refused}

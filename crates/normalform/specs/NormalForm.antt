@@ -2,7 +2,8 @@
 -- negated (true). A node of the result has a code: 0 is false, 1 is true, 2 n + 2 is node n as it stands and 2 n + 3 its
 -- negation. Rising codes are then the order that is asked for: a false and a true first, then by rising node, plain
 -- before negated (R-3, sentence 5).
-use Rattle.std.specs.Prelude.{ℕ, zero, suc, ◌+◌, ◌-◌, ◌*◌, ◌/◌, ◌%◌, Bool, true, false, cond, not, ◌||◌, List, [], ◌∷◌, ◌++◌, eqb, leb, ltb}
+use Rattle.std.specs.Prelude.{ℕ, zero, suc, ◌+◌, ◌-◌, ◌*◌, ◌/◌, ◌%◌, Bool, true, false, cond, not, ◌||◌, List, [], ◌∷◌}
+use Rattle.std.specs.Prelude.{◌++◌, eqb, leb, ltb}
 use Rattle.answer.specs.Result.{Result, accepted, and_then, Check, require}
 use Rattle.formula.specs.Limits.{max_nodes}
 use Rattle.formula.specs.Rule.{node_count, root, until_check}

@@ -43,7 +43,8 @@ verdict_none (refused number place) p = omega (arith, (p.refusal number place re
 -- ---- the calls
 
 -- zimboralo_translate, where it refuses
-pub refused_tells_none : (rule s t i : List ℕ) (number place : ℕ) → (translated rule s t i).answer ≡ refused number place
+pub refused_tells_none : (rule s t i : List ℕ) (number place : ℕ)
+    → (translated rule s t i).answer ≡ refused number place
     → conflicts_of (pack_translated (translates rule s t i)).answer ≡ 0
 refused_tells_none rule s t i =
     refused_none (translated rule s t i).answer (translated_conflicts rule s t i) (translated_alike rule s t i)

@@ -14,11 +14,13 @@ use Rattle.field.specs.Calls.{Watch, watch}
 use Rattle.judge.specs.Judge.{Finding, Judgement, judgement}
 use Rattle.demands.specs.Demand.{Decision, decision}
 use Rattle.office.specs.Packing.{pack_counts, pack_length, pack_verdict, packed_tables, pack_outcome, packed_slice}
-use Rattle.office.specs.Packing.{pack_buffer, pack_judgement, packed_decision, pack_decision, pack_conflicts, pack_translated}
+use Rattle.office.specs.Packing.{pack_buffer, pack_judgement, packed_decision, pack_decision, pack_conflicts}
+use Rattle.office.specs.Packing.{pack_translated}
 use Rattle.office.specs.Packing.{pack_bit, pack_watch, pack_part}
 
 -- of a call that fills three tables
-pub packed_tables_lem : (a : Result Counts) (s t i : List ℕ) (o : Outcome) (r : ℕ) → r ≡ pack_counts a → outcome a s t i ≡ o
+pub packed_tables_lem : (a : Result Counts) (s t i : List ℕ) (o : Outcome) (r : ℕ) → r ≡ pack_counts a
+    → outcome a s t i ≡ o
     → packed_tables r s t i ≡ pack_outcome o
 packed_tables_lem a s t i o r packs says = ap (λ (n : ℕ). packed_tables n s t i) packs ∙ ap pack_outcome says
 

@@ -9,7 +9,8 @@ use lib.ListN.{get_or, length}
 use lib.Dec.{leb, ltb}
 use borrow.Author.Tests.{leb-true, ltb-true}
 use Rattle.answer.specs.Result.{Result, accepted, refused, and_then, Check, fine, require, lowest}
-use Rattle.formula.specs.Rule.{node_count, release_kind, length_check, node_check, place_check, syntax_check, until_check}
+use Rattle.formula.specs.Rule.{node_count, release_kind, length_check, node_check, place_check, syntax_check}
+use Rattle.formula.specs.Rule.{until_check}
 use Rattle.formula.specs.Limits.{rule_bytes}
 use Rattle.formula.specs.Rule
 use Rattle.formula.proofs.Accepted.{formed_fine}
@@ -174,7 +175,8 @@ syntax_proper : (highest : ℕ) (rule : List ℕ) → Proper (syntax_check highe
 unfolding syntax_check
 syntax_proper highest rule =
     then_proper (length_check rule) _ (length_proper rule)
-    (λ u e. let few : node_count rule ≤ max_transitions = few_nodes rule e in search (proper, node_proper, place_proper) depth 7)
+    (λ u e. let few : node_count rule ≤ max_transitions = few_nodes rule e in search (proper, node_proper, place_proper)
+    depth 7)
 
 -- 1 to 6 of a written rule, and 26
 form_proper : (rule : List ℕ) → Proper (normal_form rule)
@@ -224,7 +226,9 @@ sizes_proper : (rule : List ℕ) → Proper (sizes_checked rule)
 unfolding sizes_checked Rule.checked syntax_check
 sizes_proper rule =
     then_proper (Rule.checked rule) _ (rule_proper rule)
-    (λ u e. let few : node_count rule ≤ max_transitions = few_nodes rule (fine_first (length_check rule) _ (fine_first (syntax_check release_kind rule) _ e)) in search (proper, size_proper))
+    (λ u e. let few : node_count rule ≤ max_transitions = few_nodes rule
+    (fine_first (length_check rule) _ (fine_first (syntax_check release_kind rule) _ e)) in search
+    (proper, size_proper))
 
 -- 21
 product_proper : (rule : List ℕ) (place state : ℕ) → place ≤ max_transitions → Proper (product_check rule place state)
@@ -309,7 +313,8 @@ unfolding rest_check
 rest_proper read s k le = search proper
 
 -- 12
-transition_proper : (states : ℕ) (t : List ℕ) (k : ℕ) → k ≤ max_transitions → Proper (transition_record_check states t k)
+transition_proper : (states : ℕ) (t : List ℕ) (k : ℕ) → k ≤ max_transitions
+    → Proper (transition_record_check states t k)
 unfolding transition_record_check
 transition_proper states t k le = search proper
 

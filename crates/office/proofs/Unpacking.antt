@@ -129,7 +129,8 @@ normalizes_small rule form n e = first (rule_room form) e
         omega (arith, (formed_fine release_kind bytes (normal_form_passes rule bytes known)).most)
     second (refused number place) known e = never_both e
 
-    first : (check : Check) → (rule_stored (and_then check (λ _. normal_form rule)) form).answer ≡ accepted n → n ≤ rule_bytes
+    first : (check : Check) → (rule_stored (and_then check (λ _. normal_form rule)) form).answer ≡ accepted n
+        → n ≤ rule_bytes
     first (accepted u) e = second (normal_form rule) refl e
     first (refused number place) e = never_both e
 
@@ -165,7 +166,8 @@ stored_small rule s t i check c e = first check e
         (record { states = formed.states; transitions = omega (arith, formed.states); initial = formed.initial })
     second (refused number place) known e = never_both e
 
-    first : (check : Check) → (unless check (stored (written_translation rule) s t i) s t i).answer ≡ accepted c → Small c
+    first : (check : Check) → (unless check (stored (written_translation rule) s t i) s t i).answer ≡ accepted c
+        → Small c
     first (accepted u) e = second (written_translation rule) refl e
     first (refused number place) e = never_both e
 

@@ -11,4 +11,5 @@ place_in (x ∷ xs) (suc i) = suc (place_in xs (cond (remains x) i (suc i)))
 -- the same of a lasso, whose cycle's indices follow on those of the stem
 unfoldable pub place_of : (stem cycle : List ℕ) (i : ℕ) → ℕ
 place_of stem cycle i =
-    cond (ltb i (length (remaining stem))) (place_in stem i) (length stem + place_in cycle (i - length (remaining stem)))
+    cond (ltb i (length (remaining stem))) (place_in stem i)
+    (length stem + place_in cycle (i - length (remaining stem)))

@@ -48,7 +48,8 @@ module _ (rule : List ℕ) (free : untils rule (node_count rule) ≡ []) where
   none : until_count rule ≡ 0
   none = ap length free
 
-  initial_accepts : (x : Counted) → (counting rule (Listed (transitions rule))).Initial x → (counting rule (Listed (transitions rule))).Accepting x
+  initial_accepts : (x : Counted) → (counting rule (Listed (transitions rule))).Initial x
+      → (counting rule (Listed (transitions rule))).Accepting x
   initial_accepts x (m, z) = z ∙ sym none
 
   step_accepts : (x : Counted) (letter : ℕ) (y : Counted) → (counting rule (Listed (transitions rule))).Step x letter y
@@ -58,13 +59,16 @@ module _ (rule : List ℕ) (free : untils rule (node_count rule) ≡ []) where
   module _ (stem cycle : List ℕ) where
     -- a run over that many letters has an accepting pass
     abbrev Passes : Automaton → Type 0
-    Passes a = (q : ℕ) → Path a (letter stem cycle) (length stem + length cycle * length a.states) q → AcceptingPass a stem cycle
+    Passes a =
+        (q : ℕ) → Path a (letter stem cycle) (length stem + length cycle * length a.states) q → AcceptingPass a stem
+        cycle
 
     path_pass : (a : Automaton) → translation rule ≡ accepted a → Passes a
     path_pass a e =
         translated rule (transitions rule) Passes
         (λ passed states first pairs second q path.
-        let size : length cycle * length (map (state_by rule (transitions rule) states pairs) pairs) ≡ length cycle * length pairs =
+        let size : length cycle * length (map (state_by rule (transitions rule) states pairs) pairs) ≡ length cycle *
+        length pairs =
         ap (λ (x : ℕ). length cycle * x) (length-map pairs (state_by rule (transitions rule) states pairs)) in
         (pass_iff (automaton_by rule (transitions rule) states pairs) stem cycle).1
         (long_pass (letter stem cycle) (numbering rule (transitions rule) passed states first pairs second)
@@ -74,9 +78,11 @@ module _ (rule : List ℕ) (free : untils rule (node_count rule) ≡ []) where
 
     module _ (a : Automaton) (e : translation rule ≡ accepted a) (pos : 0 < length cycle) where
       -- broken: the alarm is raised after that many letters
-      pub broken_alarm : (Satisfies rule stem cycle → ⊥) → NoneCurrent a (letter stem cycle) (length stem + length cycle * length a.states)
+      pub broken_alarm : (Satisfies rule stem cycle → ⊥)
+          → NoneCurrent a (letter stem cycle) (length stem + length cycle * length a.states)
       broken_alarm broken q c =
-          broken ((form_pass_iff_satisfied rule stem cycle a e pos).0 (path_pass a e q (current_path a (letter stem cycle) _ q c)))
+          broken ((form_pass_iff_satisfied rule stem cycle a e pos).0
+          (path_pass a e q (current_path a (letter stem cycle) _ q c)))
 
       -- raised, however late: broken, since a lasso that satisfies the rule lets some run go on for ever
       pub alarm_broken : (i : ℕ) → NoneCurrent a (letter stem cycle) i → Satisfies rule stem cycle → ⊥
@@ -84,6 +90,7 @@ module _ (rule : List ℕ) (free : untils rule (node_count rule) ≡ []) where
         where
           go : AcceptingPass a stem cycle → ⊥
           go p =
-              let (at, run) = pass_endless (length stem) (length cycle) pos (letter stem cycle) (letter_round stem cycle) (numbered a)
+              let (at, run) = pass_endless (length stem) (length cycle) pos (letter stem cycle)
+              (letter_round stem cycle) (numbered a)
               ((pass_iff a stem cycle).0 p) in
               raised (at i) (path_current a (letter stem cycle) at run.begins run.steps i)

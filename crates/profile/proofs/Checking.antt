@@ -119,7 +119,8 @@ module _ (rule s t i : List ℕ) where
         e ∙ rw (fine_room s t i room, made, sym (normal_form_checked rule form made) ∙ passes)
 
   -- what an accepted answer says: the profile takes the rule, and translate accepts it alike
-  pub profile_accepted : (s' t' i' : List ℕ) (c : Counts) → outcome (accepted c) s' t' i' ≡ profile_translated rule s t i
+  pub profile_accepted : (s' t' i' : List ℕ) (c : Counts)
+      → outcome (accepted c) s' t' i' ≡ profile_translated rule s t i
       → (profile_checked rule ≡ fine) × (outcome (accepted c) s' t' i' ≡ translated rule s t i)
   unfolding profile_translated translated
   profile_accepted s' t' i' c e = go (and_then (table_check s t i) (λ _. profile_checked rule)) refl e
@@ -127,8 +128,12 @@ module _ (rule s t i : List ℕ) where
       go : (check : Check) → and_then (table_check s t i) (λ _. profile_checked rule) ≡ check
           → outcome (accepted c) s' t' i' ≡ unless check (stored (written_translation rule) s t i) s t i
           → (profile_checked rule ≡ fine)
-          × (outcome (accepted c) s' t' i' ≡ unless (and_then (table_check s t i) (λ _. written_checked rule)) (stored (written_translation rule) s t i) s t i)
+          × (outcome (accepted c) s' t' i' ≡ unless (and_then (table_check s t i) (λ _. written_checked rule))
+          (stored (written_translation rule) s t i) s t i)
       go (accepted u) known is =
-          let passed = fine_second (table_check s t i) (profile_checked rule) known in
-          (passed, is ∙ rw (fine_first (table_check s t i) (profile_checked rule) known, written_passed rule passed) refl)
+          let passed = fine_second (table_check s t i) (profile_checked rule) known in (
+            passed,
+            is ∙ rw (fine_first (table_check s t i) (profile_checked rule) known, written_passed rule passed)
+                refl,
+          )
       go (refused number place) known is = never_both (sym (ap (λ (o : Outcome). o.answer) is))

@@ -57,15 +57,19 @@ current_path a w (suc i) q (p, m, s) = longer (current_path a w i p m)
             rw (x, y) (r.steps j (omega arith))
 
 -- what the first states of an endless run are
-pub path_current : (a : Automaton) (w p : ℕ → ℕ) → In (p 0) a.initial → ((j : ℕ) → Step a (p j) (w j) (p (suc j))) → (i : ℕ) → Current a w i (p i)
+pub path_current : (a : Automaton) (w p : ℕ → ℕ) → In (p 0) a.initial → ((j : ℕ) → Step a (p j) (w j) (p (suc j)))
+    → (i : ℕ) → Current a w i (p i)
 path_current a w p m s zero = m
 path_current a w p m s (suc i) = (p i, path_current a w p m s i, s i)
 
 -- an automaton of which all that it reaches accepts, and numbers for its states
-module _ (w : ℕ → ℕ) {X : Type 0} {automaton : AutomatonOver X} {numbered : AutomatonOver ℕ} {N : ℕ} {Valid : ℕ → Type 0} {means : ℕ → X}
+module _ (w : ℕ → ℕ) {X : Type 0} {automaton : AutomatonOver X} {numbered : AutomatonOver ℕ} {N : ℕ}
+    {Valid : ℕ → Type 0} {means : ℕ → X}
     (numbering : Numbering automaton numbered N Valid means)
-    (first : (x : X) → automaton.Initial x → automaton.Accepting x) (next : (x : X) (letter : ℕ) (y : X) → automaton.Step x letter y → automaton.Accepting y)
-    (s n : ℕ) (at : ℕ → ℕ) (begins : numbered.Initial (at 0)) (steps : (i : ℕ) → i < s + N * n → numbered.Step (at i) (w i) (at (suc i))) where
+    (first : (x : X) → automaton.Initial x → automaton.Accepting x)
+    (next : (x : X) (letter : ℕ) (y : X) → automaton.Step x letter y → automaton.Accepting y)
+    (s n : ℕ) (at : ℕ → ℕ) (begins : numbered.Initial (at 0))
+    (steps : (i : ℕ) → i < s + N * n → numbered.Step (at i) (w i) (at (suc i))) where
   record Good (i : ℕ) : Type 0 where
     valid : Valid (at i)
     accepts : automaton.Accepting (means (at i))
@@ -81,7 +85,8 @@ module _ (w : ℕ → ℕ) {X : Type 0} {automaton : AutomatonOver X} {numbered 
       on g =
           let step = steps i (omega arith) in record {
             valid = numbering.step_valid (at i) (w i) (at (suc i)) g.valid step;
-            accepts = next (means (at i)) (w i) (means (at (suc i))) (numbering.step_means (at i) (w i) (at (suc i)) g.valid step);
+            accepts = next (means (at i)) (w i) (means (at (suc i)))
+                (numbering.step_means (at i) (w i) (at (suc i)) g.valid step);
           }
 
   inside : (k : ℕ) → k ≤ N → s + k * n ≤ s + N * n
@@ -89,7 +94,9 @@ module _ (w : ℕ → ℕ) {X : Type 0} {automaton : AutomatonOver X} {numbered 
 
   -- at the beginnings of N + 1 passes it stands in one of N states
   pub long_pass : Pass s n w numbered
-  long_pass = make (pigeon N (λ k. at (s + k * n)) (λ k l. numbering.small (at (s + k * n)) (good (s + k * n) (inside k l)).valid))
+  long_pass =
+      make (pigeon N (λ k. at (s + k * n))
+      (λ k l. numbering.small (at (s + k * n)) (good (s + k * n) (inside k l)).valid))
     where
       make : (a b : ℕ) × (a < b) × (b ≤ N) × (at (s + a * n) ≡ at (s + b * n)) → Pass s n w numbered
       make (a, b, x, y, e) = record {
@@ -100,6 +107,10 @@ module _ (w : ℕ → ℕ) {X : Type 0} {automaton : AutomatonOver X} {numbered 
         begins = begins;
         steps = λ i l. steps i (omega (arith, inside b y));
         same = e;
-        accepts = let g = good (s + a * n) (inside a (omega arith)) in
-            (s + a * n, omega arith, omega (arith, mul-le-mul_right n (let l : a ≤ b = omega arith in l)), numbering.accepting_has (at (s + a * n)) g.valid g.accepts);
+        accepts = let g = good (s + a * n) (inside a (omega arith)) in (
+          s + a * n,
+          omega arith,
+          omega (arith, mul-le-mul_right n (let l : a ≤ b = omega arith in l)),
+          numbering.accepting_has (at (s + a * n)) g.valid g.accepts,
+        );
       }

@@ -68,7 +68,8 @@ unique_snoc x xs u new = record { apart = λ i j l m e. go i j l m e (dec_lt j (
     go i j l m e (yes k) = u.apart i j l k (sym (old i (omega arith)) ∙ e ∙ old j k)
     go i j l m e (no k) =
         let z : j ≡ length xs + 0 = omega (arith, length-append xs (x ∷ [])) in
-        let last : at (xs ++ (x ∷ [])) j ≡ x = ap (at (xs ++ (x ∷ []))) z ∙ get_or-append-add xs (x ∷ []) 0 (point 0 0) in
+        let last : at (xs ++ (x ∷ [])) j ≡ x =
+        ap (at (xs ++ (x ∷ []))) z ∙ get_or-append-add xs (x ∷ []) 0 (point 0 0) in
         let lt : i < length xs = omega arith in
         new (subst (λ (y : Point). In y xs) (sym (old i lt) ∙ e ∙ last) (at_in (point 0 0) xs i lt))
 

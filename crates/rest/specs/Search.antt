@@ -1,6 +1,7 @@
 -- A search over points, each a position of a lasso and a state of an automaton, breadth first: which points can be
 -- reached from given ones, in the order in which they are met and taken.
-use Rattle.std.specs.Prelude.{ℕ, zero, suc, ◌+◌, ◌*◌, List, [], ◌∷◌, ◌++◌, map, Bool, true, false, ◌&&◌, get_or, length, eqb, ltb}
+use Rattle.std.specs.Prelude.{ℕ, zero, suc, ◌+◌, ◌*◌, List, [], ◌∷◌, ◌++◌, map, Bool, true, false, ◌&&◌, get_or, length}
+use Rattle.std.specs.Prelude.{eqb, ltb}
 use Rattle.sets.specs.Sets.{any}
 use Rattle.lasso.specs.Lasso.{letter, after}
 use Rattle.automaton.specs.Automaton.{Transition, Automaton, no_state, reads}

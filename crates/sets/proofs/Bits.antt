@@ -5,7 +5,8 @@ use mathlib.Core.Path.{◌≡◌, refl, sym, ◌∙◌, ap, subst}
 use mathlib.Core.Logic.{◌⊎◌, inl, inr}
 use mathlib.Core.Bool.{true, false}
 use native.Mathlib.Omega.{arith}
-use native.Mathlib.Nat.{one-mul, mod-eq_of_lt, mod-lt, div-eq_of_lt, div_self, mul-mod_left, mul-div_cancel, pow-suc, pow-succ'}
+use native.Mathlib.Nat.{one-mul, mod-eq_of_lt, mod-lt, div-eq_of_lt, div_self, mul-mod_left, mul-div_cancel, pow-suc}
+use native.Mathlib.Nat.{pow-succ'}
 use native.Mathlib.Nat.{div-div-eq-div-mul, div-one, div-lt_iff_lt-mul}
 use native.Mathlib.Decide.{ℕ_discrete, dec_lt}
 use lib.Arith.{bin_ind}
@@ -202,5 +203,7 @@ bits_below x k below = go (dec_lt x (2 ^ k))
     go : Dec (x < 2 ^ k) → x < 2 ^ k
     go (yes lt) = lt
     go (no ge) =
-        let (n, h) = some_bit (x / 2 ^ k) (λ z. ge (omega (arith, (div-lt_iff_lt-mul {x = x} {y = 1} (pow_pos k)).0 (omega arith)))) in
+        let (n, h) =
+        some_bit (x / 2 ^ k) (λ z. ge (omega (arith, (div-lt_iff_lt-mul {x = x} {y = 1} (pow_pos k)).0 (omega arith))))
+        in
         absurd (omega (arith, below (k + n) (record { set = sym (ap (λ (y : ℕ). y % 2) (high n)) ∙ h.set })))

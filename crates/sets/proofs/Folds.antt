@@ -9,7 +9,8 @@ use lib.ListN.{length, get_or, take, drop, drop_of_length-le}
 use lib.Seq.{get_or-take, drop-cons, length-take-le}
 use borrow.Author.Tests.{ne_eqb}
 use Rattle.sets.specs.declared.Joined.{Joined}
-use Rattle.sets.specs.Sets.{Updates, Joins, conflict_n, insert_n, union_n, insert_join_n, insert_joins_n, insert_product_n}
+use Rattle.sets.specs.Sets.{Updates, Joins, conflict_n, insert_n, union_n, insert_join_n, insert_joins_n}
+use Rattle.sets.specs.Sets.{insert_product_n}
 use Rattle.sets.specs.Sets.{union, insert_join, insert_joins, insert_product}
 use Rattle.sets.specs.Sets.{join_conflicts, product_conflicts, join_conflicts_n, product_conflicts_n}
 
@@ -51,7 +52,10 @@ module _ {F : List ℕ → List ℕ → List ℕ} {f : ℕ → List ℕ → List
   fold_begins xs c = record {
     within = omega arith;
     size = refl;
-    done = record { updates = λ vs i. rw (drop_of_length-le (take n ts) {i = n} (omega (arith, length-take-le n ts le)), fold.nil) i };
+    done = record {
+      updates = λ vs i. rw
+          (drop_of_length-le (take n ts) {i = n} (omega (arith, length-take-le n ts le)), fold.nil) i;
+    };
   }
 
   pub fold_steps : (j : ℕ) → 0 < j → {xs ys zs : List ℕ} {c d e : ℕ} → Folding F ts n xs c ys d j
@@ -59,7 +63,10 @@ module _ {F : List ℕ → List ℕ → List ℕ} {f : ℕ → List ℕ → List
   fold_steps j p inv size turn = record {
     within = omega arith;
     size = size ∙ inv.size;
-    done = record { updates = λ vs i. rw (next_drop ts n le j p inv.within, fold.cons) (turn.updates _ (inv.done.updates vs i)) };
+    done = record {
+      updates = λ vs i. rw (next_drop ts n le j p inv.within, fold.cons)
+          (turn.updates _ (inv.done.updates vs i));
+    };
   }
 
   pub fold_ends : (j : ℕ) → j ≤ 0 → {xs ys : List ℕ} {c d : ℕ} → Folding F ts n xs c ys d j

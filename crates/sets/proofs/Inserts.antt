@@ -98,4 +98,9 @@ module _ {A : Type 0} (less : A → A → Bool) where
     unfolding insert_product
     product_shorter [] ys ws = omega arith
     product_shorter (x ∷ xs) ys ws =
-        omega (arith, joins_shorter x ys (insert_product less joined consistent xs ys ws), product_shorter xs ys ws, suc-mul (length xs) (length ys))
+        omega (
+          arith,
+          joins_shorter x ys (insert_product less joined consistent xs ys ws),
+          product_shorter xs ys ws,
+          suc-mul (length xs) (length ys),
+        )

@@ -73,7 +73,9 @@ any_iff {A} test (u ∷ us) = (there (any_iff test us), back (any_iff test us))
     Some vs = (v : A) × In v vs × (test v ≡ true)
 
     there : any test us ≡ true ↔ Some us → (test u || any test us) ≡ true → Some (u ∷ us)
-    there ih e = elim ((or_iff (test u) (any test us)).0 e) [ inl p ↦ (u, inl refl, p) | inr p ↦ (let (v, m, q) = ih.0 p in (v, inr m, q)) ]
+    there ih e =
+        elim ((or_iff (test u) (any test us)).0 e)
+        [ inl p ↦ (u, inl refl, p) | inr p ↦ (let (v, m, q) = ih.0 p in (v, inr m, q)) ]
 
     back : any test us ≡ true ↔ Some us → Some (u ∷ us) → (test u || any test us) ≡ true
     back ih (v, inl p, e) = (or_iff (test u) (any test us)).1 (inl (subst (λ (x : A). test x ≡ true) p e))

@@ -56,7 +56,9 @@ module _ (xs : List ℕ) (n t i : ℕ) (lt : i < n) (le : n ≤ length xs)
       (rw at (le-ltb (get_or xs i 0) t (omega arith)))
 
   pub more_in : get_or xs i 0 < t → from ltb (i + 1) t (take n xs) ≡ insert_n t (take n xs)
-  more_in q = rw add-one (from_more ltb i t 0 (take n xs) inside (rw at (le-ltb t (get_or xs i 0) (omega arith))) (rw at (lt-ltb _ _ q)) ∙ inv)
+  more_in q =
+      rw add-one (from_more ltb i t 0 (take n xs) inside (rw at (le-ltb t (get_or xs i 0) (omega arith)))
+      (rw at (lt-ltb _ _ q)) ∙ inv)
 
 pub end_in : (xs : List ℕ) (n t i : ℕ) → i ≡ n → n ≤ length xs → from ltb i t (take n xs) ≡ insert_n t (take n xs)
     → insert_n t (take n xs) ≡ insert_at n t (take n xs)
@@ -64,7 +66,14 @@ end_in xs n t i e le inv = sym inv ∙ rw e (from_end ltb n t (take n xs) (lengt
 
 -- a count above the room stays
 pub over_in : (xs : List ℕ) (n t : ℕ) → length xs < n → Updates xs n xs n (insert_n t)
-over_in xs n t lt = record { updates = λ ws i. record { count = omega (arith, insert_longer ltb t ws, i.count); items = λ le. absurd (omega (arith, insert_longer ltb t ws, i.count)) } }
+over_in xs n t lt =
+    record {
+      updates = λ ws i. record {
+        count = omega (arith, insert_longer ltb t ws, i.count);
+        items = λ le. absurd
+            (omega (arith, insert_longer ltb t ws, i.count));
+      };
+    }
 
 -- what is right of the list held is right of each list that xs is
 pub lift_in : (xs ys vs : List ℕ) (n r t : ℕ) → n ≤ length xs → insert_n t (take n xs) ≡ vs → Stores ys r vs

@@ -1,5 +1,6 @@
 -- Sets as rising lists with no repeats, and a slice whose first places store such a set.
-use Rattle.std.specs.Prelude.{ℕ, zero, suc, ◌≤◌, ◌/◌, ◌%◌, min, ◌≡◌, List, [], ◌∷◌, Bool, false, cond, ◌||◌, ◌⊎◌, length, take, eqb, ltb}
+use Rattle.std.specs.Prelude.{ℕ, zero, suc, ◌≤◌, ◌/◌, ◌%◌, min, ◌≡◌, List, [], ◌∷◌, Bool, false, cond, ◌||◌, ◌⊎◌}
+use Rattle.std.specs.Prelude.{length, take, eqb, ltb}
 use Rattle.std.specs.Int.Bits.{bit_and, bit_or}
 use Rattle.sets.specs.declared.Joined.{Joined}
 

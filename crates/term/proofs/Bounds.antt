@@ -12,7 +12,8 @@ use lib.Dec.{ltb}
 use lib.Bits.{bit_or}
 use borrow.Author.Count.{below_more}
 use Rattle.sets.proofs.Inserts.{union_shorter, product_shorter}
-use Rattle.formula.specs.Formula.{Formula, bottom, top, proposition, negatedProposition, conjunction, disjunction, next, until, release, build, tree}
+use Rattle.formula.specs.Formula.{Formula, bottom, top, proposition, negatedProposition, conjunction, disjunction, next}
+use Rattle.formula.specs.Formula.{until, release, build, tree}
 use Rattle.term.specs.Limits.{max_terms}
 use Rattle.term.specs.Term.{cover}
 use Rattle.term.specs.Memory.{cover_bound, BoundedBelow}
@@ -41,7 +42,12 @@ cover_bounded (proposition n p) le = omega arith
 cover_bounded (negatedProposition n p) le = omega arith
 cover_bounded (conjunction a b) le =
     let few = factors_few (cover_bound a) (cover_bound b) (bounds a).0 (bounds b).0 (omega arith) in
-    omega (arith, product_shorter ltb bit_or (λ _. true) (cover a) (cover b) [], mul-le-mul (cover_bounded a few.0) (cover_bounded b few.1))
+    omega (
+      arith,
+      product_shorter ltb bit_or (λ _. true) (cover a) (cover b) [],
+      mul-le-mul (cover_bounded a few.0)
+          (cover_bounded b few.1),
+    )
 cover_bounded (disjunction a b) le =
     let few = cover_bounded a (omega (arith, bounds b)) in
     omega (arith, union_shorter ltb (cover a) (cover b), few, cover_bounded b (omega (arith, bounds a)))

@@ -19,7 +19,8 @@ pub of_next : (n p : ℕ) (f g : Formula) (k : ℕ) → k ≡ 6 → map pack (te
 unfolding terms
 of_next n p f g k e = rw e (pack_owing (cover f))
 
-pub cover_own : (n p : ℕ) (f g : Formula) (k : ℕ) → (k ≡ 0 → ⊥) → (k ≡ 1 → ⊥) → (k ≡ 4 → ⊥) → (k ≡ 5 → ⊥) → k ≤ 8 → map pack_set (cover (build k n p f g)) ≡ pack_set (2 ^ n) ∷ []
+pub cover_own : (n p : ℕ) (f g : Formula) (k : ℕ) → (k ≡ 0 → ⊥) → (k ≡ 1 → ⊥) → (k ≡ 4 → ⊥) → (k ≡ 5 → ⊥) → k ≤ 8
+    → map pack_set (cover (build k n p f g)) ≡ pack_set (2 ^ n) ∷ []
 unfolding cover
 cover_own n p f g zero a b c d e = absurd (a refl)
 cover_own n p f g (suc zero) a b c d e = absurd (b refl)

@@ -19,7 +19,8 @@ pub carried : {capacity n : ℕ} {xs ws : List ℕ} → Carries capacity xs n ws
 carried h le = h.items (omega (arith, h.count))
 
 -- own with the first k of ys, at most max_terms of them, has its places
-module _ (xs ys : List ℕ) (n k own : ℕ) (is : Stores xs n (union_n (take k ys) (own ∷ []))) (le : k ≤ max_terms) (l : length xs ≡ suc max_terms) where
+module _ (xs ys : List ℕ) (n k own : ℕ) (is : Stores xs n (union_n (take k ys) (own ∷ []))) (le : k ≤ max_terms)
+    (l : length xs ≡ suc max_terms) where
   pub more_fits : n ≤ length xs
   more_fits = count_fits is (omega (arith, union_shorter ltb (take k ys) (own ∷ []), length-take k ys))
 

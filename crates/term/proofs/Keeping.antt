@@ -19,7 +19,8 @@ use Rattle.term.specs.declared.Terms.{Terms}
 use Rattle.term.specs.Limits.{max_terms, row_places}
 use Rattle.term.specs.Term
 use Rattle.term.specs.Size.{size_check}
-use Rattle.term.specs.Memory.{pack, TermRow, TableRoom, TermTable, Reaches, FoundTerms, FoundConflicts, Kept, StoresRow, Keeps}
+use Rattle.term.specs.Memory.{pack, TermRow, TableRoom, TermTable, Reaches, FoundTerms, FoundConflicts, Kept, StoresRow}
+use Rattle.term.specs.Memory.{Keeps}
 use Rattle.term.proofs.Carries.{carried}
 use Rattle.term.proofs.Reached.{below_leaf, below_next, below_pair}
 
@@ -120,7 +121,8 @@ module _ (before : List ℕ) (n : ℕ) (ts : Terms) (room : suc n * row_places �
         })
 
 -- another row stays
-module _ (rule before : List ℕ) (n : ℕ) (ts : Terms) (after : List ℕ) (stored : StoresRow before n ts after) (k : ℕ) (other : k ≡ n → ⊥) where
+module _ (rule before : List ℕ) (n : ℕ) (ts : Terms) (after : List ℕ) (stored : StoresRow before n ts after) (k : ℕ)
+    (other : k ≡ n → ⊥) where
   outside : (i : ℕ) → i < row_places → get_or after (k * row_places + i) 0 ≡ get_or before (k * row_places + i) 0
   outside i lt = pick (dec_lt k n)
     where
@@ -153,7 +155,8 @@ module _ (rule before : List ℕ) (n : ℕ) (ts : Terms) (after : List ℕ) (sto
   }
 
 -- the row of n itself
-own_kept : (rule before : List ℕ) (n : ℕ) (ts : Terms) (after : List ℕ) → StoresRow before n ts after → FoundTerms rule n ts → Kept rule after n
+own_kept : (rule before : List ℕ) (n : ℕ) (ts : Terms) (after : List ℕ) → StoresRow before n ts after
+    → FoundTerms rule n ts → Kept rule after n
 own_kept rule before n ts after stored found = record {
   within = λ le. row (omega (arith, stored.count));
   over = λ lt. found.over (omega (arith, stored.count));
@@ -162,15 +165,18 @@ own_kept rule before n ts after stored found = record {
     row : ts.count ≤ max_terms → TermRow rule after n
     row few =
         let is = found.within few in
-        let e : ts.count ≡ length (Term.terms (tree rule n)) = omega (arith, is.count, length-map (Term.terms (tree rule n)) pack) in
+        let e : ts.count ≡ length (Term.terms (tree rule n)) =
+        omega (arith, is.count, length-map (Term.terms (tree rule n)) pack) in
         record {
           count = stored.count ∙ e;
           terms = rw (← e) (stored.items few ∙ carried is few);
         }
 
 -- node n with r, whose row is stored last: into mid, that has the rows of the nodes below n
-keeps : (rule : List ℕ) (n : ℕ) (before mid : List ℕ) (r : Terms) (after : List ℕ) → FoundTerms rule n r → FoundConflicts rule n r.conflicts → StoresRow mid n r after
-    → ((k : ℕ) → Reaches rule n k → (k ≡ n → ⊥) → Kept rule mid k) → ((k : ℕ) → Kept rule before k → Kept rule mid k) → Keeps rule n before r after
+keeps : (rule : List ℕ) (n : ℕ) (before mid : List ℕ) (r : Terms) (after : List ℕ) → FoundTerms rule n r
+    → FoundConflicts rule n r.conflicts → StoresRow mid n r after
+    → ((k : ℕ) → Reaches rule n k → (k ≡ n → ⊥) → Kept rule mid k) → ((k : ℕ) → Kept rule before k → Kept rule mid k)
+    → Keeps rule n before r after
 keeps rule n before mid r after found dropped stored below stay = record {
   value = found;
   conflicts = dropped;
@@ -183,16 +189,25 @@ keeps rule n before mid r after found dropped stored below stay = record {
     pick k (no other) kept = kept_stays rule mid n r after stored k other (kept other)
 
 -- by the kind of n
-module _ (rule : List ℕ) (n : ℕ) {r : Terms} (found : FoundTerms rule n r) (dropped : FoundConflicts rule n r.conflicts) {before after : List ℕ} where
+module _ (rule : List ℕ) (n : ℕ) {r : Terms} (found : FoundTerms rule n r) (dropped : FoundConflicts rule n r.conflicts)
+    {before after : List ℕ} where
   pub keeps_leaf : kind_at rule n ≤ 3 → StoresRow before n r after → Keeps rule n before r after
-  keeps_leaf leaf stored = keeps rule n before before r after found dropped stored (λ k reaches other. absurd (other (below_leaf rule n k leaf reaches))) (λ k kept. kept)
+  keeps_leaf leaf stored =
+      keeps rule n before before r after found dropped stored
+      (λ k reaches other. absurd (other (below_leaf rule n k leaf reaches))) (λ k kept. kept)
 
   module _ (l : ℕ) (is_left : l ≡ left_at rule n) {mid : List ℕ} {a : Terms} (first : Keeps rule l before a mid) where
     pub keeps_next : kind_at rule n ≡ 6 → StoresRow mid n r after → Keeps rule n before r after
-    keeps_next next stored = keeps rule n before mid r after found dropped stored (λ k reaches other. first.reached k (below_next rule n k l is_left next reaches other)) first.stay
+    keeps_next next stored =
+        keeps rule n before mid r after found dropped stored
+        (λ k reaches other. first.reached k (below_next rule n k l is_left next reaches other)) first.stay
 
-    pub keeps_pair : (m : ℕ) → m ≡ right_at rule n → {last : List ℕ} {b : Terms} → Keeps rule m mid b last → StoresRow last n r after → Keeps rule n before r after
-    keeps_pair m is_right {last} {b} second stored = keeps rule n before last r after found dropped stored (λ k reaches other. pick k (below_pair rule n k l m is_left is_right reaches other)) (λ k kept. second.stay k (first.stay k kept))
+    pub keeps_pair : (m : ℕ) → m ≡ right_at rule n → {last : List ℕ} {b : Terms} → Keeps rule m mid b last
+        → StoresRow last n r after → Keeps rule n before r after
+    keeps_pair m is_right {last} {b} second stored =
+        keeps rule n before last r after found dropped stored
+        (λ k reaches other. pick k (below_pair rule n k l m is_left is_right reaches other))
+        (λ k kept. second.stay k (first.stay k kept))
       where
         pick : (k : ℕ) → Reaches rule l k ⊎ Reaches rule m k → Kept rule last k
         pick k (inl reaches) = second.stay k (first.reached k reaches)

@@ -10,22 +10,27 @@ use lib.Dec.{ltb}
 use lib.Bits.{bit_or, or_block, and_block, or_lt, and_zero_r}
 use lib.Pow.{pow-lt}
 use borrow.Author.Tests.{lt-ltb, le-ltb, ltb-true, ltb-false}
-use Rattle.sets.specs.Sets.{insert, union, insert_join, insert_joins, insert_product, conflict_n, consistent_n, insert_n, union_n, insert_join_n, insert_joins_n, insert_product_n}
+use Rattle.sets.specs.Sets.{insert, union, insert_join, insert_joins, insert_product, conflict_n, consistent_n}
+use Rattle.sets.specs.Sets.{insert_n, union_n, insert_join_n, insert_joins_n, insert_product_n}
 use Rattle.sets.specs.Sets.{join_conflicts, product_conflicts, join_conflicts_n, product_conflicts_n}
 use Rattle.sets.proofs.Members.{All}
 use Rattle.formula.specs.Limits.{propositions}
-use Rattle.formula.specs.Formula.{Formula, bottom, top, proposition, negatedProposition, conjunction, disjunction, next, until, release, InRange}
-use Rattle.term.specs.Term.{Term, term, less_then, less, joined, conflict, consistent, product, conflicts_between, unions, cover, terms}
+use Rattle.formula.specs.Formula.{Formula, bottom, top, proposition, negatedProposition, conjunction, disjunction, next}
+use Rattle.formula.specs.Formula.{until, release, InRange}
+use Rattle.term.specs.Term.{Term, term, less_then, less, joined, conflict, consistent, product, conflicts_between}
+use Rattle.term.specs.Term.{unions, cover, terms}
 use Rattle.term.specs.Memory.{pack, pack_set}
 
 -- what a number for each element of A keeps, on the elements that are Good
-pub record Packs {A : Type 0} (less : A → A → Bool) (joined : A → A → A) (consistent : A → Bool) (number : A → ℕ) (Good : A → Type 0) : Type 0 where
+pub record Packs {A : Type 0} (less : A → A → Bool) (joined : A → A → A) (consistent : A → Bool) (number : A → ℕ)
+    (Good : A → Type 0) : Type 0 where
   pub orders : (x y : A) → Good x → Good y → ltb (number x) (number y) ≡ less x y
   pub joins : (x y : A) → Good x → Good y → bit_or (number x) (number y) ≡ number (joined x y)
   pub drops : (x : A) → Good x → consistent_n (number x) ≡ consistent x
   pub good : (x y : A) → Good x → Good y → Good (joined x y)
 
-module _ {A : Type 0} {less : A → A → Bool} {joined : A → A → A} {consistent : A → Bool} {number : A → ℕ} {Good : A → Type 0} (packs : Packs less joined consistent number Good) where
+module _ {A : Type 0} {less : A → A → Bool} {joined : A → A → A} {consistent : A → Bool} {number : A → ℕ}
+    {Good : A → Type 0} (packs : Packs less joined consistent number Good) where
   -- ns are the numbers of xs, which are all good
   pub data Numbers : List A → List ℕ → Type 0 where
     none : Numbers [] []
@@ -38,7 +43,8 @@ module _ {A : Type 0} {less : A → A → Bool} {joined : A → A → A} {consis
   pub canonical : {xs : List A} {ns : List ℕ} → Numbers xs ns → Numbers xs (map number xs)
   canonical r = rw (numbers_are r) at r
 
-  insert_numbers : (x : A) {ys : List A} {ns : List ℕ} → Good x → Numbers ys ns → Numbers (insert less x ys) (insert_n (number x) ns)
+  insert_numbers : (x : A) {ys : List A} {ns : List ℕ} → Good x → Numbers ys ns
+      → Numbers (insert less x ys) (insert_n (number x) ns)
   unfolding insert
   insert_numbers x g none = more x g none
   insert_numbers x g (more y {xs} {ns} h r) =
@@ -50,26 +56,31 @@ module _ {A : Type 0} {less : A → A → Bool} {joined : A → A → A} {consis
       go false true ih = more y h ih
       go false false ih = more y h r
 
-  pub union_numbers : {xs ys : List A} {ms ns : List ℕ} → Numbers xs ms → Numbers ys ns → Numbers (union less xs ys) (union_n ms ns)
+  pub union_numbers : {xs ys : List A} {ms ns : List ℕ} → Numbers xs ms → Numbers ys ns
+      → Numbers (union less xs ys) (union_n ms ns)
   unfolding union
   union_numbers none s = s
   union_numbers (more x g r) s = insert_numbers x g (union_numbers r s)
 
-  join_numbers : (x y : A) {ws : List A} {ns : List ℕ} → Good x → Good y → Numbers ws ns → Numbers (insert_join less joined consistent x y ws) (insert_join_n (number x) (number y) ns)
+  join_numbers : (x y : A) {ws : List A} {ns : List ℕ} → Good x → Good y → Numbers ws ns
+      → Numbers (insert_join less joined consistent x y ws) (insert_join_n (number x) (number y) ns)
   unfolding insert_join
   join_numbers x y {ws} {ns} g h s =
       rw (packs.joins x y g h, packs.drops (joined x y) (packs.good x y g h)) (go (consistent (joined x y)))
     where
-      go : (b : Bool) → Numbers (cond b (insert less (joined x y) ws) ws) (cond b (insert_n (number (joined x y)) ns) ns)
+      go : (b : Bool)
+          → Numbers (cond b (insert less (joined x y) ws) ws) (cond b (insert_n (number (joined x y)) ns) ns)
       go true = insert_numbers (joined x y) (packs.good x y g h) s
       go false = s
 
-  joins_numbers : (x : A) {ys ws : List A} {ms ns : List ℕ} → Good x → Numbers ys ms → Numbers ws ns → Numbers (insert_joins less joined consistent x ys ws) (insert_joins_n (number x) ms ns)
+  joins_numbers : (x : A) {ys ws : List A} {ms ns : List ℕ} → Good x → Numbers ys ms → Numbers ws ns
+      → Numbers (insert_joins less joined consistent x ys ws) (insert_joins_n (number x) ms ns)
   unfolding insert_joins
   joins_numbers x g none s = s
   joins_numbers x g (more y h r) s = join_numbers x y g h (joins_numbers x g r s)
 
-  pub product_numbers : {xs ys : List A} {ms ns : List ℕ} → Numbers xs ms → Numbers ys ns → Numbers (insert_product less joined consistent xs ys []) (insert_product_n ms ns [])
+  pub product_numbers : {xs ys : List A} {ms ns : List ℕ} → Numbers xs ms → Numbers ys ns
+      → Numbers (insert_product less joined consistent xs ys []) (insert_product_n ms ns [])
   unfolding insert_product
   product_numbers none s = none
   product_numbers (more x g r) s = joins_numbers x g s (product_numbers r s)
@@ -96,8 +107,10 @@ same_test a b c d l m = go (ltb a b) refl
 
 pack_orders : (x y : Term) → Bytes x → Bytes y → ltb (pack x) (pack y) ≡ less x y
 pack_orders x y g h =
-    less_then_is x.obligations y.obligations _ _ (λ l. lt-ltb (pack x) (pack y) (omega arith)) (λ l. le-ltb (pack x) (pack y) (omega arith))
-    (λ e. less_then_is x.must y.must _ _ (λ l. lt-ltb (pack x) (pack y) (omega arith)) (λ l. le-ltb (pack x) (pack y) (omega arith))
+    less_then_is x.obligations y.obligations _ _ (λ l. lt-ltb (pack x) (pack y) (omega arith))
+    (λ l. le-ltb (pack x) (pack y) (omega arith))
+    (λ e. less_then_is x.must y.must _ _ (λ l. lt-ltb (pack x) (pack y) (omega arith))
+    (λ l. le-ltb (pack x) (pack y) (omega arith))
     (λ f. same_test x.must_not y.must_not (pack x) (pack y) (λ l. omega arith) (λ l. omega arith)))
 
 pack_blocks : (t : Term) → pack t ≡ (t.obligations * 256 + t.must) * 256 + t.must_not
@@ -105,7 +118,15 @@ pack_blocks t = omega arith
 
 pack_joins : (x y : Term) → Bytes x → Bytes y → bit_or (pack x) (pack y) ≡ pack (joined x y)
 pack_joins x y g h =
-    rw (pack_blocks x, pack_blocks y, pack_blocks (joined x y), or_block 8 (x.obligations * 256 + x.must) (y.obligations * 256 + y.must) x.must_not y.must_not g.must_not h.must_not, or_block 8 x.obligations y.obligations x.must y.must g.must h.must)
+    rw (
+      pack_blocks x,
+      pack_blocks y,
+      pack_blocks (joined x y),
+      or_block 8 (x.obligations * 256 + x.must)
+          (y.obligations * 256 + y.must) x.must_not y.must_not g.must_not h.must_not,
+      or_block 8 x.obligations y.obligations
+          x.must y.must g.must h.must,
+    )
 
 pack_conflict : (t : Term) → Bytes t → conflict_n (pack t) ≡ conflict t
 pack_conflict t g =
@@ -121,7 +142,11 @@ of_terms = record {
   orders = pack_orders;
   joins = pack_joins;
   drops = pack_drops;
-  good = λ x y g h. record { must = or_lt 8 x.must y.must g.must h.must; must_not = or_lt 8 x.must_not y.must_not g.must_not h.must_not };
+  good = λ x y g h. record {
+    must = or_lt 8 x.must y.must g.must h.must;
+    must_not = or_lt 8 x.must_not y.must_not
+        g.must_not h.must_not;
+  };
 }
 
 -- terms that have numbers are such
@@ -168,7 +193,8 @@ all_sets : (cs : List ℕ) → Numbers of_sets cs (map pack_set cs)
 all_sets [] = none
 all_sets (c ∷ cs) = more c tt (all_sets cs)
 
-pub pack_unions : (cs ds : List ℕ) → map pack_set (unions cs ds) ≡ insert_product_n (map pack_set cs) (map pack_set ds) []
+pub pack_unions : (cs ds : List ℕ)
+    → map pack_set (unions cs ds) ≡ insert_product_n (map pack_set cs) (map pack_set ds) []
 pack_unions cs ds = sym (numbers_are of_sets (product_numbers of_sets (all_sets cs) (all_sets ds)))
 
 pub pack_union : (cs ds : List ℕ) → map pack_set (union ltb cs ds) ≡ union_n (map pack_set cs) (map pack_set ds)
@@ -198,13 +224,21 @@ pub terms_numbers : (f : Formula) → InRange f → Numbers of_terms (terms f) (
 unfolding terms InRange
 terms_numbers bottom m = none
 terms_numbers top m = owing_numbers (0 ∷ [])
-terms_numbers (proposition n p) m = more (term (2 ^ p) 0 0) (record { must = omega (arith, pow-lt {j = propositions} m); must_not = omega arith }) none
-terms_numbers (negatedProposition n p) m = more (term 0 (2 ^ p) 0) (record { must = omega arith; must_not = omega (arith, pow-lt {j = propositions} m) }) none
-terms_numbers (conjunction a b) m = canonical of_terms (product_numbers of_terms (terms_numbers a m.0) (terms_numbers b m.1))
-terms_numbers (disjunction a b) m = canonical of_terms (union_numbers of_terms (terms_numbers a m.0) (terms_numbers b m.1))
+terms_numbers (proposition n p) m =
+    more (term (2 ^ p) 0 0) (record { must = omega (arith, pow-lt {j = propositions} m); must_not = omega arith }) none
+terms_numbers (negatedProposition n p) m =
+    more (term 0 (2 ^ p) 0) (record { must = omega arith; must_not = omega (arith, pow-lt {j = propositions} m) }) none
+terms_numbers (conjunction a b) m =
+    canonical of_terms (product_numbers of_terms (terms_numbers a m.0) (terms_numbers b m.1))
+terms_numbers (disjunction a b) m =
+    canonical of_terms (union_numbers of_terms (terms_numbers a m.0) (terms_numbers b m.1))
 terms_numbers (next n a) m = owing_numbers (cover a)
-terms_numbers (until n a b) m = canonical of_terms (union_numbers of_terms (terms_numbers b m.1) (product_numbers of_terms (terms_numbers a m.0) (own_numbers (2 ^ n))))
-terms_numbers (release n a b) m = canonical of_terms (product_numbers of_terms (terms_numbers b m.1) (union_numbers of_terms (terms_numbers a m.0) (own_numbers (2 ^ n))))
+terms_numbers (until n a b) m =
+    canonical of_terms (union_numbers of_terms (terms_numbers b m.1)
+    (product_numbers of_terms (terms_numbers a m.0) (own_numbers (2 ^ n))))
+terms_numbers (release n a b) m =
+    canonical of_terms (product_numbers of_terms (terms_numbers b m.1)
+    (union_numbers of_terms (terms_numbers a m.0) (own_numbers (2 ^ n))))
 
 module _ (n : ℕ) (a b : Formula) (ma : InRange a) (mb : InRange b) where
   pub pack_conjunction : map pack (product (terms a) (terms b)) ≡ insert_product_n (map pack (terms a)) (map pack (terms b)) []
@@ -214,10 +248,14 @@ module _ (n : ℕ) (a b : Formula) (ma : InRange a) (mb : InRange b) where
   pack_disjunction = sym (numbers_are of_terms (union_numbers of_terms (terms_numbers a ma) (terms_numbers b mb)))
 
   pub pack_until : map pack (union less (terms b) (product (terms a) (term 0 0 (2 ^ n) ∷ []))) ≡ union_n (map pack (terms b)) (insert_product_n (map pack (terms a)) (pack_set (2 ^ n) ∷ []) [])
-  pack_until = sym (numbers_are of_terms (union_numbers of_terms (terms_numbers b mb) (product_numbers of_terms (terms_numbers a ma) (own_numbers (2 ^ n)))))
+  pack_until =
+      sym (numbers_are of_terms (union_numbers of_terms (terms_numbers b mb)
+      (product_numbers of_terms (terms_numbers a ma) (own_numbers (2 ^ n)))))
 
   pub pack_release : map pack (product (terms b) (union less (terms a) (term 0 0 (2 ^ n) ∷ []))) ≡ insert_product_n (map pack (terms b)) (union_n (map pack (terms a)) (pack_set (2 ^ n) ∷ [])) []
-  pack_release = sym (numbers_are of_terms (product_numbers of_terms (terms_numbers b mb) (union_numbers of_terms (terms_numbers a ma) (own_numbers (2 ^ n)))))
+  pack_release =
+      sym (numbers_are of_terms (product_numbers of_terms (terms_numbers b mb)
+      (union_numbers of_terms (terms_numbers a ma) (own_numbers (2 ^ n)))))
 
   pub conflicts_conjunction : product_conflicts_n (map pack (terms a)) (map pack (terms b)) ≡ conflicts_between (terms a) (terms b)
   conflicts_conjunction = conflicts_numbers (terms_numbers a ma) (terms_numbers b mb)
@@ -226,4 +264,5 @@ module _ (n : ℕ) (a b : Formula) (ma : InRange a) (mb : InRange b) where
   conflicts_until = conflicts_numbers (terms_numbers a ma) (own_numbers (2 ^ n))
 
   pub conflicts_release : product_conflicts_n (map pack (terms b)) (union_n (map pack (terms a)) (pack_set (2 ^ n) ∷ [])) ≡ conflicts_between (terms b) (union less (terms a) (term 0 0 (2 ^ n) ∷ []))
-  conflicts_release = conflicts_numbers (terms_numbers b mb) (union_numbers of_terms (terms_numbers a ma) (own_numbers (2 ^ n)))
+  conflicts_release =
+      conflicts_numbers (terms_numbers b mb) (union_numbers of_terms (terms_numbers a ma) (own_numbers (2 ^ n)))

@@ -17,12 +17,14 @@ below_leaf rule n k leaf (here m) = refl
 below_leaf rule n k leaf (left m j inner r) = absurd (omega arith)
 below_leaf rule n k leaf (right m j inner pair r) = absurd (omega arith)
 
-pub below_next : (rule : List ℕ) (n k l : ℕ) → l ≡ left_at rule n → kind_at rule n ≡ 6 → Reaches rule n k → (k ≡ n → ⊥) → Reaches rule l k
+pub below_next : (rule : List ℕ) (n k l : ℕ) → l ≡ left_at rule n → kind_at rule n ≡ 6 → Reaches rule n k → (k ≡ n → ⊥)
+    → Reaches rule l k
 below_next rule n k l e next (here m) other = absurd (other refl)
 below_next rule n k l e next (left m j inner r) other = rw e r
 below_next rule n k l e next (right m j inner pair r) other = absurd (pair next)
 
-pub below_pair : (rule : List ℕ) (n k l r : ℕ) → l ≡ left_at rule n → r ≡ right_at rule n → Reaches rule n k → (k ≡ n → ⊥) → Reaches rule l k ⊎ Reaches rule r k
+pub below_pair : (rule : List ℕ) (n k l r : ℕ) → l ≡ left_at rule n → r ≡ right_at rule n → Reaches rule n k
+    → (k ≡ n → ⊥) → Reaches rule l k ⊎ Reaches rule r k
 below_pair rule n k l r e f (here m) other = absurd (other refl)
 below_pair rule n k l r e f (left m j inner s) other = inl (rw e s)
 below_pair rule n k l r e f (right m j inner pair s) other = inr (rw f s)
@@ -42,9 +44,11 @@ module _ (rule : List ℕ) (passed : checked rule ≡ fine) where
       rw e (here (root rule))
   reached_within (suc distance) k lt near = pick (ℕ_discrete k (root rule)) (reached_within distance)
     where
-      pick : Dec (k ≡ root rule) → ((p : ℕ) → p < node_count rule → root rule ≤ p + distance → Reaches rule (root rule) p) → Reaches rule (root rule) k
+      pick : Dec (k ≡ root rule) → ((p : ℕ) → p < node_count rule → root rule ≤ p + distance
+          → Reaches rule (root rule) p) → Reaches rule (root rule) k
       pick (yes e) ih = rw e (here (root rule))
-      pick (no other) ih = let (p, inside, above, is) = parent_of rule passed k lt other in step rule k (ih p inside (omega arith)) is
+      pick (no other) ih =
+          let (p, inside, above, is) = parent_of rule passed k lt other in step rule k (ih p inside (omega arith)) is
 
   pub reached_whole : (k : ℕ) → k < node_count rule → Reaches rule (root rule) k
   reached_whole k lt = reached_within (root rule) k lt (omega arith)

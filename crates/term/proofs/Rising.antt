@@ -10,7 +10,8 @@ use Rattle.sets.specs.Sets.{insert_product_n, product_conflicts_n}
 use Rattle.sets.proofs.Rising.{Rising, Consistent, union_rises, product_rises, product_zero}
 use Rattle.sets.proofs.Conflicts.{product_apart}
 use Rattle.formula.specs.Limits.{propositions}
-use Rattle.formula.specs.Formula.{Formula, bottom, top, proposition, negatedProposition, conjunction, disjunction, next, until, release, InRange}
+use Rattle.formula.specs.Formula.{Formula, bottom, top, proposition, negatedProposition, conjunction, disjunction, next}
+use Rattle.formula.specs.Formula.{until, release, InRange}
 use Rattle.term.specs.Term.{cover, terms}
 use Rattle.term.specs.Memory.{pack, pack_set}
 use Rattle.term.proofs.Packing.{set_drops, pack_must, pack_must_not, pack_unions, pack_union, pack_owing}
@@ -29,8 +30,10 @@ cover_rises bottom = tt
 cover_rises top = one_rises _ (set_drops 0)
 cover_rises (proposition n p) = one_rises _ (set_drops (2 ^ n))
 cover_rises (negatedProposition n p) = one_rises _ (set_drops (2 ^ n))
-cover_rises (conjunction a b) = rw (pack_unions (cover a) (cover b)) (product_rises Consistent kept 0 0 _ _ _ (cover_rises a) (cover_rises b) tt)
-cover_rises (disjunction a b) = rw (pack_union (cover a) (cover b)) (union_rises Consistent 0 _ _ (cover_rises a) (cover_rises b))
+cover_rises (conjunction a b) =
+    rw (pack_unions (cover a) (cover b)) (product_rises Consistent kept 0 0 _ _ _ (cover_rises a) (cover_rises b) tt)
+cover_rises (disjunction a b) =
+    rw (pack_union (cover a) (cover b)) (union_rises Consistent 0 _ _ (cover_rises a) (cover_rises b))
 cover_rises (next n a) = one_rises _ (set_drops (2 ^ n))
 cover_rises (until n a b) = one_rises _ (set_drops (2 ^ n))
 cover_rises (release n a b) = one_rises _ (set_drops (2 ^ n))
@@ -54,14 +57,18 @@ terms_rise (proposition n p) m = rw (pack_must (2 ^ p)) (one_rises _ (asking (2 
 terms_rise (negatedProposition n p) m =
     rw (pack_must_not (2 ^ p)) (one_rises _ (forbidding (2 ^ p) (omega (arith, pow-lt {j = propositions} m))))
 terms_rise (conjunction a b) m =
-    rw (pack_conjunction 0 a b m.0 m.1) (product_rises Consistent kept 0 0 _ _ _ (terms_rise a m.0) (terms_rise b m.1) tt)
+    rw (pack_conjunction 0 a b m.0 m.1)
+    (product_rises Consistent kept 0 0 _ _ _ (terms_rise a m.0) (terms_rise b m.1) tt)
 terms_rise (disjunction a b) m =
     rw (pack_disjunction 0 a b m.0 m.1) (union_rises Consistent 0 _ _ (terms_rise a m.0) (terms_rise b m.1))
 terms_rise (next n a) m = rw (pack_owing (cover a)) (cover_rises a)
 terms_rise (until n a b) m =
-    rw (pack_until n a b m.0 m.1) (union_rises Consistent 0 _ _ (terms_rise b m.1) (product_rises Consistent kept 0 0 _ _ _ (terms_rise a m.0) (one_rises _ (set_drops (2 ^ n))) tt))
+    rw (pack_until n a b m.0 m.1) (union_rises Consistent 0 _ _ (terms_rise b m.1)
+    (product_rises Consistent kept 0 0 _ _ _ (terms_rise a m.0) (one_rises _ (set_drops (2 ^ n))) tt))
 terms_rise (release n a b) m =
-    rw (pack_release n a b m.0 m.1) (product_rises Consistent kept 0 0 _ _ _ (terms_rise b m.1) (union_rises Consistent 0 _ _ (terms_rise a m.0) (one_rises _ (set_drops (2 ^ n)))) tt)
+    rw (pack_release n a b m.0 m.1)
+    (product_rises Consistent kept 0 0 _ _ _ (terms_rise b m.1)
+    (union_rises Consistent 0 _ _ (terms_rise a m.0) (one_rises _ (set_drops (2 ^ n)))) tt)
 
 -- a product begun with the term that asks nothing: no join is dropped
 pub product_one : (f : Formula) → InRange f → insert_product_n (0 ∷ []) (map pack (terms f)) [] ≡ map pack (terms f)

@@ -43,7 +43,12 @@ few_fine rule k e = go (few_terms rule k) (few_sets rule k) refl refl e
 
 pub fine_few : (rule : List ℕ) (k : ℕ) → Few rule k → fine ≡ size_check rule k
 unfolding size_check
-fine_few rule k few = rw (le-leb (length (terms (tree rule k))) max_terms few.terms, le-leb (length (cover (tree rule k))) max_terms few.cover)
+fine_few rule k few =
+    rw (
+      le-leb (length (terms (tree rule k))) max_terms few.terms,
+      le-leb (length (cover (tree rule k))) max_terms
+          few.cover,
+    )
 
 module _ {rule : List ℕ} {n : ℕ} (ready : Ready rule n) where
   ready_node : (k : ℕ) → k ≤ n → Node rule k

@@ -1,6 +1,7 @@
 -- How terms lie in memory: each as one number, those of a node as one value, those of all nodes in one table; and what
 -- the functions that fill the table find on their way.
-use Rattle.std.specs.Prelude.{ℕ, suc, ◌+◌, ◌*◌, ◌/◌, ◌%◌, ◌≤◌, min, ◌<◌, List, map, ◌⊎◌, ◌≡◌, take, length, get_or, drop}
+use Rattle.std.specs.Prelude.{ℕ, suc, ◌+◌, ◌*◌, ◌/◌, ◌%◌, ◌≤◌, min, ◌<◌, List, map, ◌⊎◌, ◌≡◌, take, length, get_or}
+use Rattle.std.specs.Prelude.{drop}
 use Rattle.answer.specs.Result.{fine, refused, lowest}
 use Rattle.formula.specs.Formula.{tree, formula, build, InRange, Formula, bottom, top, proposition}
 use Rattle.formula.specs.Formula.{negatedProposition, conjunction, disjunction, next, until, release}
@@ -97,7 +98,8 @@ pub record TermTable (rule table : List ℕ) : Type 0 where
 pub data Reaches (rule : List ℕ) : (n k : ℕ) → Type 0 where
   here : (n : ℕ) → Reaches rule n n
   left : (n k : ℕ) → 3 < kind_at rule n → Reaches rule (left_at rule n) k → Reaches rule n k
-  right : (n k : ℕ) → 3 < kind_at rule n → (kind_at rule n ≡ 6 → ⊥) → Reaches rule (right_at rule n) k → Reaches rule n k
+  right : (n k : ℕ) → 3 < kind_at rule n → (kind_at rule n ≡ 6 → ⊥) → Reaches rule (right_at rule n) k
+      → Reaches rule n k
 
 -- a node up to n is a 20
 abbrev pub Over : (rule : List ℕ) (n : ℕ) → Type 0

@@ -89,6 +89,8 @@ conflicts (negatedProposition n p) = 0
 conflicts (conjunction a b) = bit_or (conflicts_between (terms a) (terms b)) (bit_or (conflicts a) (conflicts b))
 conflicts (disjunction a b) = bit_or (conflicts a) (conflicts b)
 conflicts (next n a) = conflicts a
-conflicts (until n a b) = bit_or (conflicts_between (terms a) (term 0 0 (2 ^ n) ∷ [])) (bit_or (conflicts a) (conflicts b))
+conflicts (until n a b) =
+    bit_or (conflicts_between (terms a) (term 0 0 (2 ^ n) ∷ [])) (bit_or (conflicts a) (conflicts b))
 conflicts (release n a b) =
-    bit_or (conflicts_between (terms b) (union less (terms a) (term 0 0 (2 ^ n) ∷ []))) (bit_or (conflicts a) (conflicts b))
+    bit_or (conflicts_between (terms b) (union less (terms a) (term 0 0 (2 ^ n) ∷ [])))
+    (bit_or (conflicts a) (conflicts b))

@@ -29,7 +29,8 @@ pub starts_within : (n k : ℕ) → n ≤ k → Within k (starts n)
 unfolding numbers
 starts_within zero k le = λ c h. absurd h
 starts_within (suc n) k le =
-    rw (map-append (λ i. code_of i 0) (numbers n) (n ∷ [])) (all_last (λ c. c / level_places < k) (starts n) (code_of n 0) (starts_within n k (omega arith)) (omega arith))
+    rw (map-append (λ i. code_of i 0) (numbers n) (n ∷ []))
+    (all_last (λ c. c / level_places < k) (starts n) (code_of n 0) (starts_within n k (omega arith)) (omega arith))
 
 -- a code of a state from n on is not among them
 beyond : (n code : ℕ) → n ≤ code / level_places → n ≤ find eqb code (starts n)
@@ -67,7 +68,9 @@ module _ (n : ℕ) (pairs index : List ℕ) (i : ℕ) (inv : Starting n pairs in
       unmet pairs index i inv.numbered code (omega arith)
       (rw inv.listed (beyond i code (omega arith)))
 
-  pub start_steps : (code : ℕ) (pairs' index' : List ℕ) → i < n → code ≡ code_of i 0 → PairsNumbered pairs' index' (i + 1) × (take (i + 1) pairs' ≡ take i pairs ++ (code ∷ [])) → Starting n pairs' index' (i + 1)
+  pub start_steps : (code : ℕ) (pairs' index' : List ℕ) → i < n → code ≡ code_of i 0
+      → PairsNumbered pairs' index' (i + 1) × (take (i + 1) pairs' ≡ take i pairs ++ (code ∷ []))
+      → Starting n pairs' index' (i + 1)
   unfolding numbers
   start_steps code pairs' index' lt e added = record {
     within = omega arith;

@@ -20,7 +20,8 @@ transition_length must must_not target = refl
 -- ---- the front
 
 -- one record more
-pub front_record : {A : Type 0} (bytes_of : A → List ℕ) (xs : List A) (x : A) (table after : List ℕ) (at next : ℕ) → take at table ≡ records bytes_of xs → next ≡ at + length (bytes_of x) → next ≤ length table
+pub front_record : {A : Type 0} (bytes_of : A → List ℕ) (xs : List A) (x : A) (table after : List ℕ) (at next : ℕ)
+    → take at table ≡ records bytes_of xs → next ≡ at + length (bytes_of x) → next ≤ length table
     → after ≡ sets table at (bytes_of x) → take next after ≡ records bytes_of (xs ++ (x ∷ []))
 front_record bytes_of xs x table after at next front e fits put =
     front_more table after at next (bytes_of x) e fits put ∙ rw (front, records_last bytes_of xs x)
@@ -35,14 +36,18 @@ state_stores table after at count f g accepting rests e ef eg =
     let three : at + 3 ≡ suc (suc (suc at)) = omega arith in
     rw (e, ef, eg, two, three)
 
-pub transition_stores : (table after : List ℕ) (at a b must must_not target : ℕ) → a ≡ must → b ≡ must_not → after ≡ sets (set (set table at a) (at + 1) b) (at + 2) (two_bytes target) → after ≡ sets table at (transition_bytes must must_not target)
+pub transition_stores : (table after : List ℕ) (at a b must must_not target : ℕ) → a ≡ must → b ≡ must_not
+    → after ≡ sets (set (set table at a) (at + 1) b) (at + 2) (two_bytes target)
+    → after ≡ sets table at (transition_bytes must must_not target)
 unfolding two_bytes
 transition_stores table after at a b must must_not target ea eb e =
     let two : at + 2 ≡ suc (suc at) = omega arith in
     e ∙ rw (ea, eb, two, add-one at)
 
 -- records added after others
-pub adds_more : (before : List ℕ) (k : ℕ) (bytes table : List ℕ) (m : ℕ) (more after : List ℕ) (n : ℕ) → AddsRecords before k bytes table m → AddsRecords table m more after n → AddsRecords before k (bytes ++ more) after n
+pub adds_more : (before : List ℕ) (k : ℕ) (bytes table : List ℕ) (m : ℕ) (more after : List ℕ) (n : ℕ)
+    → AddsRecords before k bytes table m → AddsRecords table m more after n
+    → AddsRecords before k (bytes ++ more) after n
 adds_more before k bytes table m more after n a b = record {
   count = rw length-append (omega (arith, a.count, b.count));
   front = b.front ∙ rw a.front (append_assoc (take (k * 4) before) bytes more);

@@ -47,7 +47,8 @@ part_is xs pre mid post e =
 -- ---- the tables that the walk leaves
 
 -- what the walk's tables hand over
-pub handed : {rule : List ℕ} {initial n m dropped : ℕ} {states kepts ends : List ℕ} → length states ≡ max_generalized_states
+pub handed : {rule : List ℕ} {initial n m dropped : ℕ} {states kepts ends : List ℕ}
+    → length states ≡ max_generalized_states
     → length kepts ≡ max_generalized_transitions → length ends ≡ max_generalized_states
     → Tables rule initial n m dropped states kepts ends → FirstWalk rule initial kepts ends
 handed {rule} {n = n} {states = states} size room ends_room t =

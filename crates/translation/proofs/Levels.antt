@@ -52,7 +52,8 @@ unfolding climb_n
 climb_most untils zero j = omega arith
 climb_most untils (suc left) j = go (has untils j) (climb_most untils left (suc j))
   where
-    go : (b : Bool) → climb_n untils left (suc j) ≤ suc j + left → elim b [ true ↦ climb_n untils left (suc j) | false ↦ j ] ≤ j + suc left
+    go : (b : Bool) → climb_n untils left (suc j) ≤ suc j + left
+        → elim b [ true ↦ climb_n untils left (suc j) | false ↦ j ] ≤ j + suc left
     go true le = omega arith
     go false le = omega arith
 
@@ -85,7 +86,9 @@ module _ (rule : List ℕ) (t : Term) where
   climb_is : (left j : ℕ) → j + left ≤ until_count rule → climb_n (fulfilment rule t) left j ≡ climb rule left j t
   unfolding climb_n climb
   climb_is zero j le = refl
-  climb_is (suc left) j le = rw (fulfilment_has rule t j (omega arith), climb_n, climb) (go (fulfils_next rule j t) (climb_is left (suc j) (omega arith)))
+  climb_is (suc left) j le =
+      rw (fulfilment_has rule t j (omega arith), climb_n, climb)
+      (go (fulfils_next rule j t) (climb_is left (suc j) (omega arith)))
     where
       go : (b : Bool) → climb_n (fulfilment rule t) left (suc j) ≡ climb rule left (suc j) t
           → ◌≡◌ {A = ℕ} (elim b [ true ↦ climb_n (fulfilment rule t) left (suc j) | false ↦ j ]) (elim b [ true ↦ climb rule left (suc j) t | false ↦ j ])

@@ -22,7 +22,8 @@ use Rattle.automaton.proofs.Records.{records_last}
 use Rattle.translation.specs.declared.StateNumber.{StateNumber}
 use Rattle.translation.specs.declared.Met.{Met}
 use Rattle.translation.specs.declared.Met.TheVariants.{Number, Full}
-use Rattle.translation.specs.Memory.{code_places, target_n, code_numbering, number_n, transition_n, PairsNumbered, NumberedPair, MeetsPair, AddsRecords, AddedRows}
+use Rattle.translation.specs.Memory.{code_places, target_n, code_numbering, number_n, transition_n, PairsNumbered}
+use Rattle.translation.specs.Memory.{NumberedPair, MeetsPair, AddsRecords, AddedRows}
 use Rattle.translation.proofs.Numbering.{seen, unseen, number_is}
 use Rattle.translation.proofs.Filling.{transition_length, adds_more}
 use Rattle.answer.proofs.Filling.{front_more}
@@ -157,53 +158,54 @@ module _ {row : List ℕ} {r level place : ℕ} where
           number_small = omega (arith, m.inside, m.numbered.few)
 
           module _ (table' : List ℕ) (same : length table' ≡ length table) (room : (w + length row) * 4 ≤ length before)
-              (put : table' ≡ sets table ((w + i) * 4) (transition_bytes (kept_must x) (kept_must_not x) number.0)) where
-            -- the pairs that are numbered then
-            abbrev codes' : List ℕ
-            codes' = take n pairs'
+              (put : table' ≡ sets table ((w + i) * 4) (transition_bytes (kept_must x) (kept_must_not x) number.0))
+            where
+              -- the pairs that are numbered then
+              abbrev codes' : List ℕ
+              codes' = take n pairs'
 
-            rest : List ℕ
-            rest = drop (length codes) codes'
+              rest : List ℕ
+              rest = drop (length codes) codes'
 
-            grown : codes' ≡ codes ++ rest
-            unfolding rest
-            grown = sym (take-append-drop (length codes) codes') ∙ rw m.first
+              grown : codes' ≡ codes ++ rest
+              unfolding rest
+              grown = sym (take-append-drop (length codes) codes') ∙ rw m.first
 
-            size' : length codes' ≡ n
-            size' = length-take-le n pairs' (omega (arith, m.numbered.room, m.numbered.few))
+              size' : length codes' ≡ n
+              size' = length-take-le n pairs' (omega (arith, m.numbered.room, m.numbered.few))
 
-            -- the number stays, whatever pairs come after
-            stays : (more : List ℕ) → number.0 ≡ find eqb to (codes' ++ more)
-            stays more = m.found ∙ sym (find_stays eqb to codes' more (omega (arith, size', m.found, m.inside)))
+              -- the number stays, whatever pairs come after
+              stays : (more : List ℕ) → number.0 ≡ find eqb to (codes' ++ more)
+              stays more = m.found ∙ sym (find_stays eqb to codes' more (omega (arith, size', m.found, m.inside)))
 
-            one : (more : List ℕ)
-                → AddsRecords table (w + i) (transition_n (codes' ++ more) r level x) table' (w + i + 1)
-            one more =
-                let four = transition_length (kept_must x) (kept_must_not x) in
-                record {
-                  count = rw (four (find eqb to (codes' ++ more))) (omega arith);
-                  front = rw (← stays more)
-                      (front_more table table' ((w + i) * 4) ((w + i + 1) * 4) _
-                      (rw (four number.0) (omega arith)) (omega (arith, record_room room)) put);
-                }
+              one : (more : List ℕ)
+                  → AddsRecords table (w + i) (transition_n (codes' ++ more) r level x) table' (w + i + 1)
+              one more =
+                  let four = transition_length (kept_must x) (kept_must_not x) in
+                  record {
+                    count = rw (four (find eqb to (codes' ++ more))) (omega arith);
+                    front = rw (← stays more)
+                        (front_more table table' ((w + i) * 4) ((w + i + 1) * 4) _
+                        (rw (four number.0) (omega arith)) (omega (arith, record_room room)) put);
+                  }
 
-            earlier : (more : List ℕ)
-                → AddsRecords before w (records (transition_n (codes' ++ more) r level) (take i row)) table (w + i)
-            earlier more = rw (grown, append_assoc codes rest more) (inv.written (rest ++ more))
+              earlier : (more : List ℕ)
+                  → AddsRecords before w (records (transition_n (codes' ++ more) r level) (take i row)) table (w + i)
+              earlier more = rw (grown, append_assoc codes rest more) (inv.written (rest ++ more))
 
-            pub meeting_steps : Meeting row r level place all before w pairs' index' table' n (i + 1)
-            meeting_steps =
-                let up : w + (i + 1) ≡ w + i + 1 = omega arith in
-                record {
-                  within = omega arith;
-                  numbered = m.numbered;
-                  size = same ∙ inv.size;
-                  left = λ count.
-                      let next : count + (i + 1) ≡ suc (count + i) = omega arith in
-                      let met_next = all_next code_numbering place _ _ (count + i) codes refl m.are in
-                      rw (next, add-one) (sym met_next ∙ left_is count);
-                  written = λ more.
-                      let bytes = transition_n (codes' ++ more) r level in
-                      rw (up, add-one i, take-suc row i 0 lt, records_last bytes (take i row) x)
-                      (adds_more before w _ table (w + i) _ table' (w + i + 1) (earlier more) (one more));
-                }
+              pub meeting_steps : Meeting row r level place all before w pairs' index' table' n (i + 1)
+              meeting_steps =
+                  let up : w + (i + 1) ≡ w + i + 1 = omega arith in
+                  record {
+                    within = omega arith;
+                    numbered = m.numbered;
+                    size = same ∙ inv.size;
+                    left = λ count.
+                        let next : count + (i + 1) ≡ suc (count + i) = omega arith in
+                        let met_next = all_next code_numbering place _ _ (count + i) codes refl m.are in
+                        rw (next, add-one) (sym met_next ∙ left_is count);
+                    written = λ more.
+                        let bytes = transition_n (codes' ++ more) r level in
+                        rw (up, add-one i, take-suc row i 0 lt, records_last bytes (take i row) x)
+                        (adds_more before w _ table (w + i) _ table' (w + i + 1) (earlier more) (one more));
+                  }

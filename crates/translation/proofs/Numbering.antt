@@ -21,12 +21,14 @@ use Rattle.translation.specs.Memory.{code_places, PairsNumbered, number_n}
 -- ---- places of one more
 
 module _ {A : Type 0} (same : A → A → Bool) where
-  pub find_behind : (x : A) (xs ys : List A) → length xs ≤ find same x xs → find same x (xs ++ ys) ≡ length xs + find same x ys
+  pub find_behind : (x : A) (xs ys : List A) → length xs ≤ find same x xs
+      → find same x (xs ++ ys) ≡ length xs + find same x ys
   unfolding find
   find_behind x [] ys le = omega arith
   find_behind x (y ∷ xs) ys le = go (same x y) le (λ l. find_behind x xs ys l)
     where
-      go : (b : Bool) → suc (length xs) ≤ elim b [ true ↦ 0 | false ↦ suc (find same x xs) ] → (length xs ≤ find same x xs → find same x (xs ++ ys) ≡ length xs + find same x ys)
+      go : (b : Bool) → suc (length xs) ≤ elim b [ true ↦ 0 | false ↦ suc (find same x xs) ]
+          → (length xs ≤ find same x xs → find same x (xs ++ ys) ≡ length xs + find same x ys)
           → elim b [ true ↦ 0 | false ↦ suc (find same x (xs ++ ys)) ] ≡ suc (length xs) + find same x ys
       go true l ih = absurd (omega arith)
       go false l ih = omega (arith, ih (omega arith))
@@ -37,18 +39,25 @@ unfolding find
 find_none x [] other = omega arith
 find_none x (y ∷ xs) other = go (eqb x y) refl (find_none x xs (λ z h. other z (inr h)))
   where
-    go : (b : Bool) → eqb x y ≡ b → length xs ≤ find eqb x xs → suc (length xs) ≤ elim b [ true ↦ 0 | false ↦ suc (find eqb x xs) ]
+    go : (b : Bool) → eqb x y ≡ b → length xs ≤ find eqb x xs
+        → suc (length xs) ≤ elim b [ true ↦ 0 | false ↦ suc (find eqb x xs) ]
     go true e le = absurd (other y (inl refl) (eqb-true x y e))
     go false e le = omega arith
 
 -- ---- the tables
 
-pub numbered_begins : (pairs index : List ℕ) → length pairs ≡ max_states → index ≡ replicate code_places 0 → PairsNumbered pairs index 0
+pub numbered_begins : (pairs index : List ℕ) → length pairs ≡ max_states → index ≡ replicate code_places 0
+    → PairsNumbered pairs index 0
 numbered_begins pairs index room e = record {
   room = room;
   size = rw e (length-replicate {A = ℕ} code_places 0);
   few = omega arith;
-  number = λ code lt. rw (e, get_or-replicate {A = ℕ} code_places code 0 0 lt, le-ltb (find eqb code (take 0 pairs)) 0 (omega arith));
+  number = λ code lt. rw (
+    e,
+    get_or-replicate {A = ℕ} code_places code 0 0 lt,
+    le-ltb (find eqb code (take 0 pairs)) 0
+        (omega arith),
+  );
 }
 
 module _ (pairs index : List ℕ) (n : ℕ) (inv : PairsNumbered pairs index n) (code : ℕ) (lt : code < code_places) where
@@ -91,22 +100,45 @@ module _ (pairs index : List ℕ) (n : ℕ) (inv : PairsNumbered pairs index n) 
       room = length-set pairs n code ∙ inv.room;
       size = length-set index code (n + 1) ∙ inv.size;
       few = omega arith;
-      number = λ other l. rw pairs_more (each other l (ℕ_discrete other code) (dec_lt (find eqb other (take n pairs)) n));
+      number = λ other l. rw pairs_more
+          (each other l (ℕ_discrete other code) (dec_lt (find eqb other (take n pairs)) n));
     }
       where
         each : (other : ℕ) → other < code_places → Dec (other ≡ code) → Dec (find eqb other (take n pairs) < n)
             → get_or (set index code (n + 1)) other 0 ≡ cond (ltb (find eqb other (take n pairs ++ (code ∷ []))) (n + 1)) (suc (find eqb other (take n pairs ++ (code ∷ [])))) 0
         each other l (yes e) d =
             let last : find eqb code (take n pairs ++ (code ∷ [])) ≡ n =
-            find_behind eqb code (take n pairs) (code ∷ []) (omega (arith, before, unseen new)) ∙ rw (before, find, eq-eqb code code refl) (omega arith) in
-            rw (e, get_or-set_same index code (n + 1) 0 (omega (arith, inv.size)), last, lt-ltb n (n + 1) (omega arith), add-one)
+            find_behind eqb code (take n pairs) (code ∷ []) (omega (arith, before, unseen new)) ∙ rw
+            (before, find, eq-eqb code code refl) (omega arith) in
+            rw (
+              e,
+              get_or-set_same index code (n + 1) 0 (omega (arith, inv.size)),
+              last,
+              lt-ltb n (n + 1) (omega arith),
+              add-one,
+            )
         each other l (no ne) (yes f) =
-            let same : find eqb other (take n pairs ++ (code ∷ [])) ≡ find eqb other (take n pairs) = find_stays eqb other (take n pairs) (code ∷ []) (omega (arith, before)) in
-            rw (get_or-set_other index code other (n + 1) 0 ne, same, lt-ltb (find eqb other (take n pairs)) (n + 1) (omega arith), inv.number other l, lt-ltb (find eqb other (take n pairs)) n f)
+            let same : find eqb other (take n pairs ++ (code ∷ [])) ≡ find eqb other (take n pairs) =
+            find_stays eqb other (take n pairs) (code ∷ []) (omega (arith, before)) in
+            rw (
+              get_or-set_other index code other (n + 1) 0 ne,
+              same,
+              lt-ltb (find eqb other (take n pairs)) (n + 1)
+                  (omega arith),
+              inv.number other l,
+              lt-ltb (find eqb other (take n pairs)) n f,
+            )
         each other l (no ne) (no ge) =
             let most : n + 1 ≤ find eqb other (take n pairs ++ (code ∷ [])) =
-            rw (find_behind eqb other (take n pairs) (code ∷ []) (omega (arith, before))) (omega (arith, before, find_none other (code ∷ []) (λ y h. absurd_other y h))) in
-            rw (get_or-set_other index code other (n + 1) 0 ne, le-ltb (find eqb other (take n pairs ++ (code ∷ []))) (n + 1) most, inv.number other l, le-ltb (find eqb other (take n pairs)) n (omega arith))
+            rw (find_behind eqb other (take n pairs) (code ∷ []) (omega (arith, before)))
+            (omega (arith, before, find_none other (code ∷ []) (λ y h. absurd_other y h))) in
+            rw (
+              get_or-set_other index code other (n + 1) 0 ne,
+              le-ltb (find eqb other (take n pairs ++ (code ∷ [])))
+                  (n + 1) most,
+              inv.number other l,
+              le-ltb (find eqb other (take n pairs)) n (omega arith),
+            )
           where
             absurd_other : (y : ℕ) → In y (code ∷ []) → other ≡ y → ⊥
             absurd_other y (inl e) f = ne (f ∙ e)

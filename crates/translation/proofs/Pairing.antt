@@ -22,7 +22,9 @@ use Rattle.automaton.proofs.Records.{records_last, records_length}
 use Rattle.translation.specs.declared.StateNumber.{StateNumber}
 use Rattle.translation.specs.declared.Paired.{Paired}
 use Rattle.translation.specs.declared.Paired.TheVariants.{Count, Stop}
-use Rattle.translation.specs.Memory.{row_start, row_count, row, level_places, target_n, targets_n, code_numbering, code_walk, transition_n, row_n, rows_n, Within, Leads, PairRows, PairsNumbered, AddsRecords, AddedRows, AddsRows}
+use Rattle.translation.specs.Memory.{row_start, row_count, row, level_places, target_n, targets_n, code_numbering}
+use Rattle.translation.specs.Memory.{code_walk, transition_n, row_n, rows_n, Within, Leads, PairRows, PairsNumbered}
+use Rattle.translation.specs.Memory.{AddsRecords, AddedRows, AddsRows}
 use Rattle.translation.proofs.Levels.{target_state}
 use Rattle.translation.proofs.Within.{state_within, row_rises, row_inside, row_few}
 use Rattle.translation.proofs.Within.{OwnRow, own_is, own_begins, own_fits, own_leads}
@@ -207,7 +209,8 @@ module _ {ends transitions : List ℕ} {r : ℕ} where
                 ∙ take-take (suc place) k pairs (omega arith)
                 ∙ take-suc pairs place 0 (omega (arith, inv.numbered.room, inv.numbered.few))
 
-            earlier : (more : List ℕ) → AddsRecords before 0 (rows_n ends transitions r (take place pairs) (codes' ++ more)) table m
+            earlier : (more : List ℕ)
+                → AddsRecords before 0 (rows_n ends transitions r (take place pairs) (codes' ++ more)) table m
             earlier more = rw (grown_is, append_assoc codes rest more) (inv.written (rest ++ more))
 
             left_now : explore walk (max_states - suc place) (suc place) (inv.count + length targets) codes' ≡ all
@@ -219,7 +222,8 @@ module _ {ends transitions : List ℕ} {r : ℕ} where
             pub pairing_steps : Pairing ends transitions r all before pairs' index' table' n after (place + 1)
             unfolding two_bytes
             pairing_steps =
-                let bytes-many = records_length (transition_n (codes' ++ []) r (code % level_places)) 4 (λ x. refl) own in
+                let bytes-many =
+                records_length (transition_n (codes' ++ []) r (code % level_places)) 4 (λ x. refl) own in
                 record {
                   count = inv.count + length targets;
                   numbered = counted.numbered;

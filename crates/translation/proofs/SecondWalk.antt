@@ -26,14 +26,18 @@ use Rattle.translation.specs.declared.Paired.{Paired}
 use Rattle.translation.specs.declared.Paired.TheVariants.{Count, Stop}
 use Rattle.automaton.specs.Automaton.{Transition, State, Automaton, free_to, at_rest}
 use Rattle.automaton.specs.Limits.{max_states}
-use Rattle.automaton.specs.Records.{records, numbered, numbered_records, state_bytes, state_record, transition_record, state_records, transition_records, initial_records}
+use Rattle.automaton.specs.Records.{records, numbered, numbered_records, state_bytes, state_record, transition_record}
+use Rattle.automaton.specs.Records.{state_records, transition_records, initial_records}
 use Rattle.automaton.specs.Tables.{transition_count, counts, outcome, Outcome}
 use Rattle.automaton.proofs.Records.{transitions_count}
-use Rattle.translation.specs.Degeneralized.{Pair, pair, same_pair, numbers, initial_numbers, next_level, pair_transitions, target, pair_walk, degeneralized, transition_of, state_of, translation}
+use Rattle.translation.specs.Degeneralized.{Pair, pair, same_pair, numbers, initial_numbers, next_level}
+use Rattle.translation.specs.Degeneralized.{pair_transitions, target, pair_walk, degeneralized, transition_of, state_of}
+use Rattle.translation.specs.Degeneralized.{translation}
 use Rattle.translation.specs.Translate.{stored}
 use Rattle.generalized.specs.Memory.{kept, kept_target}
 use Rattle.generalized.proofs.Kept.{Parts}
-use Rattle.translation.specs.Memory.{row, level_places, code_of, pair_of, target_n, targets_n, code_numbering, code_walk}
+use Rattle.translation.specs.Memory.{row, level_places, code_of, pair_of, target_n, targets_n, code_numbering}
+use Rattle.translation.specs.Memory.{code_walk}
 use Rattle.translation.specs.Memory.{stays_n, pair_bytes, transition_n, row_n, rows_n, FirstWalk, Within, PairRows}
 use Rattle.translation.specs.Memory.{PairsNumbered, AddsRecords, AddedRows, AddsRows, WalksPairs}
 use Rattle.translation.proofs.Levels.{target_state, target_level, next_level_is}
@@ -190,7 +194,8 @@ module _ {rule : List ℕ} {initial : ℕ} {kepts ends : List ℕ} {r : ℕ} {pa
   -- the walk is done: count pairs are numbered, and the records of written transitions are in the table that was t
   abbrev pub Done : (t : List ℕ) (count written : ℕ) (pairs index table : List ℕ) → Type 0
   Done t count written pairs index table =
-      AddedRows (walked (code_walk ends kepts r) (starts initial)) (rows_n ends kepts r) t 0 count written pairs index table
+      AddedRows (walked (code_walk ends kepts r) (starts initial)) (rows_n ends kepts r) t 0 count written pairs index
+      table
 
   module _ (t : List ℕ) (met : Paired) (pairs index table : List ℕ)
       (comes : WalksPairs ends kepts r initial pairs₀ t met pairs index table) where
@@ -255,7 +260,8 @@ module _ {rule : List ℕ} {initial : ℕ} {kepts ends : List ℕ} {r : ℕ} {pa
     unfolding state_of pair_transitions transition_record
     row_bytes code m =
         ap (records (transition_n codes r (level_n code))) (own_row code inside)
-        ∙ sym (records_same (bytes code) (transition_n codes r (level_n code)) (kept rule states) own_terms (λ u _. refl))
+        ∙ sym (records_same (bytes code) (transition_n codes r (level_n code)) (kept rule states) own_terms
+        (λ u _. refl))
         ∙ records_same (bytes code) transition_record (moved code) own_terms each
       where
         inside : state_n code < n
@@ -310,7 +316,8 @@ module _ {rule : List ℕ} {initial : ℕ} {kepts ends : List ℕ} {r : ℕ} {pa
           length-map,
           stays,
           frees,
-        ) (ap (λ (q : ℕ). state_bytes (length own_terms) (eqb (level_n code) q) (eqb (level_n code) q && any free own_terms))
+        ) (ap (λ (q : ℕ). state_bytes (length own_terms) (eqb (level_n code) q)
+        (eqb (level_n code) q && any free own_terms))
         b.levels)
 
     abbrev automaton : Automaton
@@ -347,7 +354,8 @@ module _ {rule : List ℕ} {initial : ℕ} {kepts ends : List ℕ} {r : ℕ} {pa
     counted : record { states = count; transitions = written; initial = initial } ≡ counts automaton
     unfolding initial_numbers
     counted =
-        let states-many = length-map pairs_are (state_of rule states pairs_are) ∙ length-map codes pair_of ∙ codes_count in
+        let states-many =
+        length-map pairs_are (state_of rule states pairs_are) ∙ length-map codes pair_of ∙ codes_count in
         let many : written ≡ transition_count automaton.states =
         omega (arith, rows_written.count, transitions_total) in
         let initial-many : initial ≡ length automaton.initial =

@@ -29,27 +29,33 @@ use Rattle.translation.specs.declared.Translated.{Translated}
 use Rattle.translation.specs.declared.Translated.TheVariants.{Refused as Turned}
 use Rattle.translation.specs.Degeneralized.{translation}
 use Rattle.translation.specs.Translate.{written_translation, stored, translated}
-use Rattle.translation.specs.Conflicts.{rule_conflicts, written_conflicts, translated_conflicts, carried, told_with, translates}
+use Rattle.translation.specs.Conflicts.{rule_conflicts, written_conflicts, translated_conflicts, carried, told_with}
+use Rattle.translation.specs.Conflicts.{translates}
 use Rattle.translation.specs.Memory.{Leaves, carrying, Builds}
 
-pub sizes_are : (rule : List ℕ) {a : Result (Unit {0})} → Rule.checked rule ≡ fine → a ≡ lowest (size_check rule) (node_count rule) → sizes_checked rule ≡ a
+pub sizes_are : (rule : List ℕ) {a : Result (Unit {0})} → Rule.checked rule ≡ fine
+    → a ≡ lowest (size_check rule) (node_count rule) → sizes_checked rule ≡ a
 unfolding sizes_checked
 sizes_are rule bytes e = rw bytes (sym e)
 
-pub tabulates_as : (rule table : List ℕ) {r told : Tabulated} → r ≡ told → Tabulates rule r table → Tabulates rule told table
+pub tabulates_as : (rule table : List ℕ) {r told : Tabulated} → r ≡ told → Tabulates rule r table
+    → Tabulates rule told table
 tabulates_as rule table e = subst (λ (t : Tabulated). Tabulates rule t table) e
 
-pub walks_as : (rule states kepts ends : List ℕ) {r told : Walked} → r ≡ told → Walks rule r states kepts ends → Walks rule told states kepts ends
+pub walks_as : (rule states kepts ends : List ℕ) {r told : Walked} → r ≡ told → Walks rule r states kepts ends
+    → Walks rule told states kepts ends
 walks_as rule states kepts ends e = subst (λ (w : Walked). Walks rule w states kepts ends) e
 
 -- ---- a rule that 1 to 7 let pass
 
 module _ (rule : List ℕ) where
-  pub size_refused : {number place : ℕ} → sizes_checked rule ≡ refused number place → translation rule ≡ refused number place
+  pub size_refused : {number place : ℕ} → sizes_checked rule ≡ refused number place
+      → translation rule ≡ refused number place
   unfolding translation
   size_refused e = rw e
 
-  pub first_refused : {number place : ℕ} → sizes_checked rule ≡ fine → generalized rule ≡ refused number place → translation rule ≡ refused number place
+  pub first_refused : {number place : ℕ} → sizes_checked rule ≡ fine → generalized rule ≡ refused number place
+      → translation rule ≡ refused number place
   unfolding translation
   first_refused passed e = rw (passed, e)
 
@@ -63,10 +69,12 @@ module _ (rule : List ℕ) where
         go : (r : Counted) (made : Result Automaton) → translation rule ≡ made
             → outcome (told r) s' t' i' ≡ stored made s t i → Builds rule (carrying r dropped) s t i s' t' i'
         go (Accepted c) (accepted a) known is = record { tables = rw known is; conflicts = own a known }
-        go (Accepted c) (refused number place) known is = unfold stored in never_both (sym (ap (λ (o : Outcome). o.answer) is))
+        go (Accepted c) (refused number place) known is =
+            unfold stored in never_both (sym (ap (λ (o : Outcome). o.answer) is))
         go (Refused n p) (accepted a) known is = unfold stored in never_both (ap (λ (o : Outcome). o.answer) is)
         go (Refused n p) (refused number place) known is = unfold stored rule_conflicts in
-            let same : ◌≡◌ {A = Result Counts} (refused n p) (refused number place) = ap (λ (o : Outcome). o.answer) is in
+            let same : ◌≡◌ {A = Result Counts} (refused n p) (refused number place) =
+            ap (λ (o : Outcome). o.answer) is in
             let same_number : n ≡ number = cc in
             let same_place : p ≡ place = cc in
             record { tables = rw known is; conflicts = rw (known, same_number, same_place) }

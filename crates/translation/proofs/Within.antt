@@ -12,7 +12,8 @@ use Rattle.generalized.specs.Limits.{max_generalized_transitions}
 use Rattle.translation.specs.Memory.{row_start, row_count, row, level_places, InRows, PairRows, Leads}
 
 -- the pair of a code, with its state's number as it is read of the code
-module _ (ends codes : List ℕ) (code : ℕ) (listed : InRows ends codes) (among : In code codes) (s : ℕ) (is : s ≡ code / level_places) where
+module _ (ends codes : List ℕ) (code : ℕ) (listed : InRows ends codes) (among : In code codes) (s : ℕ)
+    (is : s ≡ code / level_places) where
   pub state_within : s < listed.states
   state_within = omega (arith, listed.within code among)
 

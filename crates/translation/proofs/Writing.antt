@@ -31,15 +31,19 @@ pub initials_begin : (before : List ℕ) (n : ℕ) → Initials before n before 
 unfolding numbers records
 initials_begin before n = record { within = omega arith; size = refl; front = refl }
 
-pub initials_step : (before : List ℕ) (n : ℕ) (table after : List ℕ) (i : ℕ) → n * 2 ≤ length before → i < n → Initials before n table i → length after ≡ length table → after ≡ sets table (i * 2) (two_bytes i) → Initials before n after (i + 1)
+pub initials_step : (before : List ℕ) (n : ℕ) (table after : List ℕ) (i : ℕ) → n * 2 ≤ length before → i < n
+    → Initials before n table i → length after ≡ length table → after ≡ sets table (i * 2) (two_bytes i)
+    → Initials before n after (i + 1)
 unfolding numbers
 initials_step before n table after i room lt inv same e = record {
   within = omega arith;
   size = same ∙ inv.size;
-  front = rw (add-one i) (front_record two_bytes (numbers i) i table after (i * 2) (suc i * 2) inv.front (rw (number_length i) (omega arith)) (omega (arith, inv.size)) e);
+  front = rw (add-one i) (front_record two_bytes (numbers i) i table after (i * 2) (suc i * 2) inv.front
+      (rw (number_length i) (omega arith)) (omega (arith, inv.size)) e);
 }
 
-pub initials_end : (before : List ℕ) (n : ℕ) (table after : List ℕ) (i : ℕ) → n ≤ i → Initials before n table i → after ≡ filled table (take (n * 2) table) → after ≡ filled before (records two_bytes (numbers n))
+pub initials_end : (before : List ℕ) (n : ℕ) (table after : List ℕ) (i : ℕ) → n ≤ i → Initials before n table i
+    → after ≡ filled table (take (n * 2) table) → after ≡ filled before (records two_bytes (numbers n))
 initials_end before n table after i ge inv e =
     let last : i ≡ n = omega (arith, inv.within) in
     filled_as before table after _ (n * 2) (rw last at inv.front) inv.size e

@@ -1,5 +1,6 @@
 -- The second walk: the automaton of a rule (01, First walk and second walk).
-use Rattle.std.specs.Prelude.{ℕ, zero, suc, ◌-◌, List, [], ◌∷◌, ◌++◌, map, Bool, true, false, cond, ◌&&◌, get_or, length, eqb, ltb}
+use Rattle.std.specs.Prelude.{ℕ, zero, suc, ◌-◌, List, [], ◌∷◌, ◌++◌, map, Bool, true, false, cond, ◌&&◌, get_or}
+use Rattle.std.specs.Prelude.{length, eqb, ltb}
 use Rattle.answer.specs.Result.{Result, accepted, and_then, fine}
 use Rattle.formula.specs.Formula.{formula}
 use Rattle.term.specs.Term.{Term, cover}

@@ -1,6 +1,7 @@
 -- How the second walk lies in memory: the first walk's transitions by state, a pair as one number, and what the walk
 -- and the records come to over these.
-use Rattle.std.specs.Prelude.{ℕ, zero, suc, ◌+◌, ◌-◌, ◌*◌, ◌/◌, ◌%◌, ◌<◌, ◌≤◌, ◌≡◌, List, ◌++◌, map, Bool, true, false, cond, ◌&&◌, length, get_or, take, drop, eqb, ltb}
+use Rattle.std.specs.Prelude.{ℕ, zero, suc, ◌+◌, ◌-◌, ◌*◌, ◌/◌, ◌%◌, ◌<◌, ◌≤◌, ◌≡◌, List, ◌++◌, map, Bool, true, false}
+use Rattle.std.specs.Prelude.{cond, ◌&&◌, length, get_or, take, drop, eqb, ltb}
 use Rattle.answer.specs.Result.{Result, accepted, refused, fine}
 use Rattle.sets.specs.Sets.{In, any}
 use Rattle.sets.specs.Bits.{has}

@@ -15,7 +15,8 @@ module _ (kind i : ℕ) (nodes : List ℕ) (count : ℕ) where
   place : count + length (own_until kind i) ≤ length nodes → kind ≡ 7 → count < length nodes
   place room e = let h : count + 1 ≤ length nodes = rw (eq-eqb kind 7 e) at room in omega arith
 
-  stored : count + length (own_until kind i) ≤ length nodes → kind ≡ 7 → take (count + 1) (set nodes count i) ≡ take count nodes ++ own_until kind i
+  stored : count + length (own_until kind i) ≤ length nodes → kind ≡ 7
+      → take (count + 1) (set nodes count i) ≡ take count nodes ++ own_until kind i
   stored room e = rw (eq-eqb kind 7 e, add-one count) (take-suc-set nodes count i (place room e))
 
   unchanged : (kind ≡ 7 → ⊥) → take count nodes ≡ take count nodes ++ own_until kind i

@@ -21,15 +21,25 @@ module _ (rule ts : List ℕ) (n : ℕ) (before : List ℕ) where
   pub fill_begins : Filling before 0
   fill_begins = record { within = omega arith; size = refl; done = refl }
 
-  pub fill_steps : n ≤ length ts → n ≤ length before → (bytes : List ℕ) (i : ℕ) {b : ℕ} → i < n → Filling bytes i → b ≡ fulfilment rule (unpack (get_or ts i 0)) → Filling (set bytes i b) (i + 1)
+  pub fill_steps : n ≤ length ts → n ≤ length before → (bytes : List ℕ) (i : ℕ) {b : ℕ} → i < n → Filling bytes i
+      → b ≡ fulfilment rule (unpack (get_or ts i 0)) → Filling (set bytes i b) (i + 1)
   fill_steps some room bytes i {b} lt inv e = record {
     within = omega arith;
     size = length-set bytes i b ∙ inv.size;
-    done = rw (add-one, take-suc-set bytes i b (omega (arith, inv.size)), inv.done, e, take-suc ts i 0 (omega arith), map-append unpack (take i ts) (get_or ts i 0 ∷ []))
+    done =
+        rw (
+          add-one,
+          take-suc-set bytes i b (omega (arith, inv.size)),
+          inv.done,
+          e,
+          take-suc ts i 0 (omega arith),
+          map-append unpack (take i ts) (get_or ts i 0 ∷ []),
+        )
         (sym (map-append (fulfilment rule) (map unpack (take i ts)) (unpack (get_or ts i 0) ∷ [])));
   }
 
-  pub fill_ends : (bytes : List ℕ) (i : ℕ) → n ≤ i → Filling bytes i → take n bytes ≡ map (fulfilment rule) (map unpack (take n ts))
+  pub fill_ends : (bytes : List ℕ) (i : ℕ) → n ≤ i → Filling bytes i
+      → take n bytes ≡ map (fulfilment rule) (map unpack (take n ts))
   fill_ends bytes i ge inv =
       let e : i ≡ n = omega (arith, inv.within) in
       rw e at inv.done

@@ -53,13 +53,22 @@ module _ {rule table nodes : List ℕ} {count : ℕ} (known : Known rule table n
     row_inside : get_or nodes k 0 * row_places + 1 + get_or table (get_or nodes k 0 * row_places) 0 ≤ length table
     row_inside = omega (arith, row_fits known.terms (get_or nodes k 0) inside)
 
-    next : {b : Bool} (t : ℕ) → b ≡ fulfils_n (get_or nodes k 0) (row_of table (get_or nodes k 0)) t → b ≡ fulfils_next rule k (unpack t)
+    next : {b : Bool} (t : ℕ) → b ≡ fulfils_n (get_or nodes k 0) (row_of table (get_or nodes k 0)) t
+        → b ≡ fulfils_next rule k (unpack t)
     next t is =
-        is ∙ rw (row_is (known.terms.rows (get_or nodes k 0) inside), fulfils_number rule (get_or nodes k 0) t (accepted_in_range rule known.accepted (get_or nodes k 0) inside), node_is)
+        is ∙ rw (
+          row_is (known.terms.rows (get_or nodes k 0) inside),
+          fulfils_number rule (get_or nodes k 0) t
+              (accepted_in_range rule known.accepted (get_or nodes k 0) inside),
+          node_is,
+        )
 
-    fulfil_steps : {t byte after : ℕ} {b : Bool} → Fulfilling rule count t byte k → b ≡ fulfils_n (get_or nodes k 0) (row_of table (get_or nodes k 0)) t → after ≡ byte + cond b (2 ^ k) 0 → Fulfilling rule count t after (k + 1)
+    fulfil_steps : {t byte after : ℕ} {b : Bool} → Fulfilling rule count t byte k
+        → b ≡ fulfils_n (get_or nodes k 0) (row_of table (get_or nodes k 0)) t → after ≡ byte + cond b (2 ^ k) 0
+        → Fulfilling rule count t after (k + 1)
     unfolding bits_of
-    fulfil_steps {t} inv is e = record { within = omega arith; done = rw (add-one, ← next t is) (omega (arith, e, inv.done)) }
+    fulfil_steps {t} inv is e =
+        record { within = omega arith; done = rw (add-one, ← next t is) (omega (arith, e, inv.done)) }
 
 pub loop-k-init : goal.loop-k-init
 loop-k-init c = fulfil_begins _ _ _
@@ -80,7 +89,8 @@ with_bit-byte-requires c =
 
 pub loop-k-preserved : goal.loop-k-preserved
 loop-k-preserved c =
-    fulfil_steps c.requires c.loop-k.k c.loop-k-test.true c.loop-k.invariant c.fulfils_node.ensures c.with_bit-byte.ensures
+    fulfil_steps c.requires c.loop-k.k c.loop-k-test.true c.loop-k.invariant c.fulfils_node.ensures
+    c.with_bit-byte.ensures
 
 pub returns : goal.returns
 returns c = fulfil_ends c.requires c.loop-k.k c.loop-k-test.false c.loop-k.invariant

@@ -11,7 +11,8 @@ use Rattle.term.specs.Memory.{row_of}
 use Rattle.acceptance.specs.Memory.{fulfils_n}
 use Rattle.acceptance.proofs.fulfils_node.Goals as goal
 
-part : (table : List ℕ) (f t n : ℕ) {b : Bool} → b ≡ fulfils_n f (take (f * row_places + 1 + n - (f * row_places + 1)) (drop (f * row_places + 1) table)) t
+part : (table : List ℕ) (f t n : ℕ) {b : Bool}
+    → b ≡ fulfils_n f (take (f * row_places + 1 + n - (f * row_places + 1)) (drop (f * row_places + 1) table)) t
     → n ≡ get_or table (f * row_places) 0 → b ≡ fulfils_n f (row_of table f) t
 part table f t n is e =
     let from : f * row_places + 1 ≡ suc (f * row_places) = omega arith in

@@ -14,7 +14,8 @@ add_until-count-requires c =
 
 pub loop-i-preserved : goal.loop-i-preserved
 loop-i-preserved c =
-    gather_steps _ _ _ _ c.loop-i.i _ (omega arith) c.kind_of.ensures c.loop-i.invariant _ _ c.add_until-count.auto.nodes c.add_until-count.ensures.nodes_after c.add_until-count.ensures.value
+    gather_steps _ _ _ _ c.loop-i.i _ (omega arith) c.kind_of.ensures c.loop-i.invariant _ _
+    c.add_until-count.auto.nodes c.add_until-count.ensures.nodes_after c.add_until-count.ensures.value
 
 pub returns : goal.returns
 returns c = gather_ends _ _ _ _ c.loop-i.i refl c.loop-i-test.false c.loop-i.invariant

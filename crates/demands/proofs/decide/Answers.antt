@@ -16,7 +16,13 @@ tables c = tables_room _ _ _ c.tables_fit.ensures c.if-not-tables_fit.false-raw
 
 room : (c : Else-work-lt-WORK_BYTES)
     → Room c.args.states.now c.args.transitions.now c.args.initial.now c.args.image.now c.args.work.now
-room c = record { tables = tables (goal.at.Else-work-lt-WORK_BYTES c).Else-not-tables_fit; buffer = c.if-image-lt-IMAGE_BYTES.false; working = c.if-work-lt-WORK_BYTES.false }
+room c =
+    record {
+      tables = tables (goal.at.Else-work-lt-WORK_BYTES c).Else-not-tables_fit;
+      buffer =
+          c.if-image-lt-IMAGE_BYTES.false;
+      working = c.if-work-lt-WORK_BYTES.false;
+    }
 
 pub returns-then-not-tables_fit : goal.returns-then-not-tables_fit
 returns-then-not-tables_fit c =
@@ -24,11 +30,13 @@ returns-then-not-tables_fit c =
 
 pub returns-then-image-lt-IMAGE_BYTES : goal.returns-then-image-lt-IMAGE_BYTES
 returns-then-image-lt-IMAGE_BYTES c =
-    buffer_refused _ _ _ _ _ _ _ _ (tables (goal.at.returns-then-image-lt-IMAGE_BYTES c).Else-not-tables_fit) c.if-image-lt-IMAGE_BYTES.true
+    buffer_refused _ _ _ _ _ _ _ _ (tables (goal.at.returns-then-image-lt-IMAGE_BYTES c).Else-not-tables_fit)
+    c.if-image-lt-IMAGE_BYTES.true
 
 pub returns-then-work-lt-WORK_BYTES : goal.returns-then-work-lt-WORK_BYTES
 returns-then-work-lt-WORK_BYTES c =
-    work_refused _ _ _ _ _ _ _ _ (tables (goal.at.returns-then-work-lt-WORK_BYTES c).Else-not-tables_fit) c.if-image-lt-IMAGE_BYTES.false c.if-work-lt-WORK_BYTES.true
+    work_refused _ _ _ _ _ _ _ _ (tables (goal.at.returns-then-work-lt-WORK_BYTES c).Else-not-tables_fit)
+    c.if-image-lt-IMAGE_BYTES.false c.if-work-lt-WORK_BYTES.true
 
 pub returns-in-Refused : goal.returns-in-Refused
 returns-in-Refused c =

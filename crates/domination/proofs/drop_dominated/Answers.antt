@@ -29,7 +29,8 @@ slice_bounds-dominated-end-in-loop-i-2 c =
 
 pub slice_bounds-dominated-end-in-loop-i-3 : goal.slice_bounds-dominated-end-in-loop-i-3
 slice_bounds-dominated-end-in-loop-i-3 c =
-    sym (length-take-le _ _ (omega (arith, c.loop-i.invariant.few, c.loop-i.invariant.bytes_size, c.requires.bytes_inside)))
+    sym (length-take-le _ _ (omega
+    (arith, c.loop-i.invariant.few, c.loop-i.invariant.bytes_size, c.requires.bytes_inside)))
 
 pub dominated-dropped-requires : goal.dominated-dropped-requires
 dominated-dropped-requires c =

@@ -67,7 +67,8 @@ module _ (ts₀ bytes₀ : List ℕ) (count : ℕ) where
 
       -- what the test of the term at i says
       abbrev pub Tested : Bool → Type 0
-      Tested b = (untils : ℕ → ℕ) → take kept bytes ≡ map untils (take kept ts) → get_or bytes i 0 ≡ untils (get_or ts i 0)
+      Tested b =
+          (untils : ℕ → ℕ) → take kept bytes ≡ map untils (take kept ts) → get_or bytes i 0 ≡ untils (get_or ts i 0)
           → b ≡ any (λ u. dominates_n untils u (get_or ts i 0)) (take kept ts)
 
       module _ (untils : ℕ → ℕ) (s : Sifting untils ts bytes kept i) where
@@ -114,7 +115,8 @@ module _ (ts₀ bytes₀ : List ℕ) (count : ℕ) where
             (take n ts_after ≡ sift (stays (dominates_n untils) xs) (take (suc i) xs))
             × (take n bytes_after ≡ map untils (take n ts_after))
 
-        pub fronts : (b : Bool) → any (λ u. dominates_n untils u (get_or xs i 0)) xs ≡ b → Front (cond b kept (suc kept))
+        pub fronts : (b : Bool) → any (λ u. dominates_n untils u (get_or xs i 0)) xs ≡ b
+            → Front (cond b kept (suc kept))
         unfolding Front
         fronts true q =
             let same = take-set-le kept ts kept (get_or ts i 0) (omega arith) in

@@ -15,7 +15,11 @@ fill_node-requires c =
     let inv = c.loop-k.invariant in (
       c.requires.0,
       omega arith,
-      record { some = c.requires.1.some; few = c.requires.1.few; places = omega (arith, c.requires.1.places, inv.size) },
+      record {
+        some = c.requires.1.some;
+        few = c.requires.1.few;
+        places = omega (arith, c.requires.1.places, inv.size);
+      },
       inv.done,
     )
 

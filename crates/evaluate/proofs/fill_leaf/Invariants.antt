@@ -6,7 +6,8 @@ use Rattle.evaluate.specs.Memory.{leaf_step, Swept}
 use Rattle.evaluate.proofs.fill_leaf.Given as goal
 
 abbrev pub invariant-loop-i : goal.invariant-loop-i
-invariant-loop-i l = Swept (leaf_step l.kind l.p l.stem l.cycle) l.at (length l.stem + length l.cycle) false l.initial.table l.table l.i
+invariant-loop-i l =
+    Swept (leaf_step l.kind l.p l.stem l.cycle) l.at (length l.stem + length l.cycle) false l.initial.table l.table l.i
 
 abbrev pub decreases-loop-i : goal.decreases-loop-i
 decreases-loop-i l = l.i

@@ -33,11 +33,21 @@ returns-then-kind-lt-AND c =
 
 pub overflow_mul-a : goal.overflow_mul-a
 overflow_mul-a c =
-    omega (arith, few (node (goal.at.overflow_mul-a c).After-left_of-left), left_low (node (goal.at.overflow_mul-a c).After-left_of-left) (omega arith))
+    omega (
+      arith,
+      few (node (goal.at.overflow_mul-a c).After-left_of-left),
+      left_low
+          (node (goal.at.overflow_mul-a c).After-left_of-left) (omega arith),
+    )
 
 pub overflow_mul-b : goal.overflow_mul-b
 overflow_mul-b c =
-    omega (arith, few (node (goal.at.overflow_mul-b c).After-left_of-left), right_low (node (goal.at.overflow_mul-b c).After-left_of-left) c.right_of-b.ensures (omega arith))
+    omega (
+      arith,
+      few (node (goal.at.overflow_mul-b c).After-left_of-left),
+      right_low
+          (node (goal.at.overflow_mul-b c).After-left_of-left) c.right_of-b.ensures (omega arith),
+    )
 
 pub fill_pair-requires : goal.fill_pair-requires
 fill_pair-requires c =

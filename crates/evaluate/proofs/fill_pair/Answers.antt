@@ -54,7 +54,8 @@ bounds-table-at c = let i = c.loop-i.invariant in omega (arith, i.within, i.size
 pub loop-i-preserved : goal.loop-i-preserved
 loop-i-preserved c =
     sweep_steps _ _ _ _ _ _ c.loop-i.i (c.loop-i.i - 1) _ (omega arith) (omega arith)
-    (pair_flag c.args.kind c.args.a c.args.b c.args.at (length c.args.stem.now + length c.args.cycle.now) false _ c.args.table.now
+    (pair_flag c.args.kind c.args.a c.args.b c.args.at (length c.args.stem.now + length c.args.cycle.now) false _
+    c.args.table.now
     c.loop-i.table
     (omega arith) (omega arith) c.args.stem.now c.args.cycle.now refl c.requires.0 (c.loop-i.i - 1) c.loop-i.i _ _
     false

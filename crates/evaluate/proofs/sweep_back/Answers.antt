@@ -30,7 +30,8 @@ pub loop-i-preserved : goal.loop-i-preserved
 loop-i-preserved c =
     carry_steps _ _ _ _ _ _ _ c.loop-i.i (c.loop-i.i - 1) c.round_here-next.result c.loop-i.next (omega arith)
     (omega arith) (omega arith)
-    (round_flag c.args.kind c.args.a c.args.b c.args.at c.args.total c.args.behind _ c.args.table.now c.loop-i.table (omega arith)
+    (round_flag c.args.kind c.args.a c.args.b c.args.at c.args.total c.args.behind _ c.args.table.now c.loop-i.table
+    (omega arith)
     (omega arith) (c.loop-i.i - 1) c.loop-i.i c.round_here-next.result c.loop-i.next (omega arith)
     c.loop-i.invariant.swept c.round_here-next.ensures) c.loop-i.invariant
 

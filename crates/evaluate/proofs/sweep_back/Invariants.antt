@@ -4,7 +4,8 @@ use Rattle.evaluate.proofs.Sweeping.{Carrying}
 use Rattle.evaluate.proofs.sweep_back.Given as goal
 
 abbrev pub invariant-loop-i : goal.invariant-loop-i
-invariant-loop-i l = Carrying (round_step l.kind l.initial.table l.a l.b) l.at l.total l.behind l.initial.table l.table l.from l.i l.next
+invariant-loop-i l =
+    Carrying (round_step l.kind l.initial.table l.a l.b) l.at l.total l.behind l.initial.table l.table l.from l.i l.next
 
 abbrev pub decreases-loop-i : goal.decreases-loop-i
 decreases-loop-i l = l.i

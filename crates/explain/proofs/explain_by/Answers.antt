@@ -28,7 +28,8 @@ known c = record {
 -- the clause that is named, where there is one
 is_named : (c : After-first_broken-c) → c.first_broken-c.result < max_nodes
     → first_broken c.args.rule.now c.args.stem.now c.args.cycle.now ≡ some c.first_broken-c.result
-is_named c l = some_named (known (goal.at.After-first_broken-c c).After-fill) c.first_broken-c.result l c.first_broken-c.ensures
+is_named c l =
+    some_named (known (goal.at.After-first_broken-c c).After-fill) c.first_broken-c.result l c.first_broken-c.ensures
 
 pub overflow_sub-rule : goal.overflow_sub-rule
 overflow_sub-rule c = omega (arith, (accepted_fine c.args.rule.now c.requires.0).some)

@@ -16,7 +16,8 @@ few : (c : After-none_skipped)
 few c = lasso_few _ _ (sym c.requires.1)
 
 -- ---- no letter is skipped
-whole : (c : Then-none_skipped) → (c.args.stem.now ≡ remaining c.args.stem.now) × (c.args.cycle.now ≡ remaining c.args.cycle.now)
+whole : (c : Then-none_skipped)
+    → (c.args.stem.now ≡ remaining c.args.stem.now) × (c.args.cycle.now ≡ remaining c.args.cycle.now)
 whole c =
     let w = c.none_skipped.ensures.0 c.if-none_skipped.true in
     (sym w.0, sym w.1)
@@ -25,12 +26,16 @@ pub explain_letters-requires : goal.explain_letters-requires
 explain_letters-requires c = letters_fit _ _ _ c.requires.0 c.requires.1 (whole c).0 (whole c).1
 
 pub as_lent-requires : goal.as_lent-requires
-as_lent-requires c =
-    (ap length (whole (goal.at.as_lent-requires c).Then-none_skipped).0, few (goal.at.as_lent-requires c).After-none_skipped)
+as_lent-requires c = (
+  ap length (whole (goal.at.as_lent-requires c).Then-none_skipped).0,
+  few
+      (goal.at.as_lent-requires c).After-none_skipped,
+)
 
 pub returns-then-none_skipped : goal.returns-then-none_skipped
 returns-then-none_skipped c =
-    letters_told _ _ _ c.requires.0 c.requires.1 (whole (goal.at.returns-then-none_skipped c).Then-none_skipped).0 (whole (goal.at.returns-then-none_skipped c).Then-none_skipped).1
+    letters_told _ _ _ c.requires.0 c.requires.1 (whole (goal.at.returns-then-none_skipped c).Then-none_skipped).0
+    (whole (goal.at.returns-then-none_skipped c).Then-none_skipped).1
     (λ x told. c.as_lent.ensures x (c.explain_letters.ensures ∙ told))
 
 -- ---- what remains is gathered in the first places

@@ -9,7 +9,8 @@ loop-i-init c = hold_begins _ _ _ _
 
 pub returns-then-both_fail : goal.returns-then-both_fail
 returns-then-both_fail c =
-    hold_finds _ _ _ _ c.loop-i.i c.loop-i.held _ (omega arith) c.both_fail.ensures c.if-both_fail.true c.loop-i.invariant
+    hold_finds _ _ _ _ c.loop-i.i c.loop-i.held _ (omega arith) c.both_fail.ensures c.if-both_fail.true
+    c.loop-i.invariant
 
 pub loop-i-preserved : goal.loop-i-preserved
 loop-i-preserved c =

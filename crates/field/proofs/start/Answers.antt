@@ -23,5 +23,6 @@ returns-in-Refused c =
 pub returns-in-Accepted : goal.returns-in-Accepted
 unfolding started
 returns-in-Accepted c =
-    lent_watched c.args.image.now c.args.set.now (passes (goal.at.returns-in-Accepted c).In-Accepted) (λ a. begins a c.args.set.now)
+    lent_watched c.args.image.now c.args.set.now (passes (goal.at.returns-in-Accepted c).In-Accepted)
+    (λ a. begins a c.args.set.now)
     (ap (λ (r : Result Bool). watch r c.begin.new.set) c.alarm_answer.ensures ∙ c.begin.ensures)

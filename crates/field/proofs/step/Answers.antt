@@ -23,5 +23,6 @@ returns-in-Refused c =
 pub returns-in-Accepted : goal.returns-in-Accepted
 unfolding stepped
 returns-in-Accepted c =
-    lent_watched c.args.image.now c.args.set.now (passes (goal.at.returns-in-Accepted c).In-Accepted) (λ a. advances a c.args.set.now c.args.letter)
+    lent_watched c.args.image.now c.args.set.now (passes (goal.at.returns-in-Accepted c).In-Accepted)
+    (λ a. advances a c.args.set.now c.args.letter)
     (ap (λ (r : Result Bool). watch r c.advance.new.set) c.alarm_answer.ensures ∙ c.advance.ensures)

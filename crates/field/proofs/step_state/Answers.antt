@@ -11,7 +11,8 @@ use Rattle.field.proofs.step_state.Goals.{In-loop-i}
 
 -- where the record that is looked at lies, and where it leads
 fits : (c : In-loop-i) → let i = c.loop-i.i in
-    (c.args.at + 4 * i + 3 < length c.args.image.now) × (number_at c.args.image.now (c.args.at + 4 * i + 2) < max_states)
+    (c.args.at + 4 * i + 3 < length c.args.image.now) ×
+    (number_at c.args.image.now (c.args.at + 4 * i + 2) < max_states)
 fits c =
     record_fits c.args.image.now c.requires.0 c.args.p c.args.at c.number_at-count.result
     c.loop-i.i c.requires.1 c.requires.2 c.number_at-count.ensures (omega arith)

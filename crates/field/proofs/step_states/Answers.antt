@@ -32,8 +32,14 @@ loop-p-init c =
     }
 
 pub step_from-requires : goal.step_from-requires
-step_from-requires c =
-    (c.requires.0, omega arith, c.loop-p.invariant.here, c.requires.2, omega (arith, c.loop-p.invariant.adding.so_far.size))
+step_from-requires c = (
+  c.requires.0,
+  omega arith,
+  c.loop-p.invariant.here,
+  c.requires.2,
+  omega
+      (arith, c.loop-p.invariant.adding.so_far.size),
+)
 
 pub overflow_mul-p : goal.overflow_mul-p
 overflow_mul-p c = omega (arith, c.requires.0.few)

@@ -6,7 +6,8 @@ use Rattle.generalized.proofs.meet_all.Given as goal
 
 abbrev pub invariant-loop-i : goal.invariant-loop-i
 invariant-loop-i l =
-    Meeting l.ts l.bytes l.count l.state.0 (record { states = l.initial.seen; transitions = l.total }) l.initial.states l.initial.transitions
+    Meeting l.ts l.bytes l.count l.state.0 (record { states = l.initial.seen; transitions = l.total }) l.initial.states
+    l.initial.transitions
     l.states l.transitions l.seen l.last l.i
 
 abbrev pub decreases-loop-i : goal.decreases-loop-i

@@ -42,14 +42,20 @@ state_terms-terms-requires c = (c.requires.0, c.requires.1, c.loop-state.invaria
 
 pub returns-then-many-gt-MAX_PRODUCT : goal.returns-then-many-gt-MAX_PRODUCT
 returns-then-many-gt-MAX_PRODUCT c =
-    walk_over c.loop-state.invariant.0 c.loop-state-test.true c.state_terms-terms.ensures.product c.if-many-gt-MAX_PRODUCT.true
+    walk_over c.loop-state.invariant.0 c.loop-state-test.true c.state_terms-terms.ensures.product
+    c.if-many-gt-MAX_PRODUCT.true
 
 pub slice_bounds-fulfil-end-in-loop-state : goal.slice_bounds-fulfil-end-in-loop-state
 slice_bounds-fulfil-end-in-loop-state c = sym c.loop-state.invariant.1.bytes_room
 
 pub fulfil-requires : goal.fulfil-requires
 fulfil-requires c = (
-  omega (arith, c.if-many-gt-MAX_PRODUCT.false, c.state_terms-terms.auto.product, c.loop-state.invariant.1.products.room),
+  omega (
+    arith,
+    c.if-many-gt-MAX_PRODUCT.false,
+    c.state_terms-terms.auto.product,
+    c.loop-state.invariant.1.products.room,
+  ),
   omega (arith, c.if-many-gt-MAX_PRODUCT.false, c.loop-state.invariant.1.bytes_room),
   record { accepted = bytes_fine _ c.requires.0; terms = c.requires.1; untils = c.untils_of-untils.ensures },
 )
@@ -65,7 +71,12 @@ slice_bounds-drop_dominated-end-in-loop-state c =
 pub drop_dominated-few-requires : goal.drop_dominated-few-requires
 drop_dominated-few-requires c =
     terms_sorted _ c.requires.0 _ c.state_terms-terms.ensures.product c.if-many-gt-MAX_PRODUCT.false
-    (omega (arith, c.if-many-gt-MAX_PRODUCT.false, sym (c.state_terms-terms.auto.product ∙ c.loop-state.invariant.1.products.room)))
+    (omega (
+      arith,
+      c.if-many-gt-MAX_PRODUCT.false,
+      sym
+          (c.state_terms-terms.auto.product ∙ c.loop-state.invariant.1.products.room),
+    ))
     (omega (arith, c.if-many-gt-MAX_PRODUCT.false, sym (c.fulfil.auto.bytes ∙ c.loop-state.invariant.1.bytes_room)))
 
 pub slice_bounds-meet_all-end : goal.slice_bounds-meet_all-end
@@ -80,8 +91,20 @@ pub meet_all-step-requires : goal.meet_all-step-requires
 meet_all-step-requires c =
     let few = c.drop_dominated-few.ensures.few in
     let most = c.if-many-gt-MAX_PRODUCT.false in (
-      omega (arith, few, most, sym (c.state_terms-terms.auto.product ∙ c.loop-state.invariant.1.products.room) ∙ sym c.drop_dominated-few.auto.ts),
-      omega (arith, few, most, sym (c.fulfil.auto.bytes ∙ c.loop-state.invariant.1.bytes_room) ∙ sym c.drop_dominated-few.auto.bytes),
+      omega (
+        arith,
+        few,
+        most,
+        sym (c.state_terms-terms.auto.product ∙ c.loop-state.invariant.1.products.room) ∙ sym
+            c.drop_dominated-few.auto.ts,
+      ),
+      omega (
+        arith,
+        few,
+        most,
+        sym (c.fulfil.auto.bytes ∙ c.loop-state.invariant.1.bytes_room) ∙ sym
+            c.drop_dominated-few.auto.bytes,
+      ),
       c.loop-state.invariant.0.room,
     )
 
@@ -105,10 +128,12 @@ loop-state-preserved c = (
       (c.state_terms-terms.ensures.conflicts c.if-many-gt-MAX_PRODUCT.false),
   record {
     products = record {
-      room = sym (sym (c.state_terms-terms.auto.product ∙ c.loop-state.invariant.1.products.room) ∙ sym c.drop_dominated-few.auto.ts);
+      room = sym (sym (c.state_terms-terms.auto.product ∙ c.loop-state.invariant.1.products.room) ∙ sym
+          c.drop_dominated-few.auto.ts);
       beside = c.state_terms-terms.auto.next ∙ c.loop-state.invariant.1.products.beside;
     };
-    bytes_room = sym (sym (c.fulfil.auto.bytes ∙ c.loop-state.invariant.1.bytes_room) ∙ sym c.drop_dominated-few.auto.bytes);
+    bytes_room = sym (sym (c.fulfil.auto.bytes ∙ c.loop-state.invariant.1.bytes_room) ∙ sym
+        c.drop_dominated-few.auto.bytes);
   },
 )
 

@@ -39,7 +39,8 @@ returns-then-not-entries_have c =
 
 pub returns-then-not-counts_fit : goal.returns-then-not-counts_fit
 returns-then-not-counts_fit c =
-    counts_wrong (opened (goal.at.returns-then-not-counts_fit c).After-number_at-3) c.counts_fit.ensures c.if-not-counts_fit.true-raw
+    counts_wrong (opened (goal.at.returns-then-not-counts_fit c).After-number_at-3) c.counts_fit.ensures
+    c.if-not-counts_fit.true-raw
 
 pub overflow_mul-transitions_at : goal.overflow_mul-transitions_at
 overflow_mul-transitions_at c =
@@ -57,7 +58,8 @@ overflow_add-initial_at c = omega (arith, small (goal.at.overflow_add-initial_at
 
 pub returns-then-not-entries_have-2 : goal.returns-then-not-entries_have-2
 returns-then-not-entries_have-2 c =
-    offsets_wrong (opened (goal.at.returns-then-not-entries_have-2 c).After-number_at-3) c.counts_fit.ensures c.if-not-counts_fit.false-raw
+    offsets_wrong (opened (goal.at.returns-then-not-entries_have-2 c).After-number_at-3) c.counts_fit.ensures
+    c.if-not-counts_fit.false-raw
     c.entries_have-2.ensures c.if-not-entries_have-2.true-raw
 
 pub overflow_mul-counts : goal.overflow_mul-counts
@@ -69,7 +71,8 @@ overflow_add-initial_at-2 c =
 
 pub returns-then-image-initial_at : goal.returns-then-image-initial_at
 returns-then-image-initial_at c =
-    length_wrong (opened (goal.at.returns-then-image-initial_at c).After-number_at-3) c.counts_fit.ensures c.if-not-counts_fit.false-raw
+    length_wrong (opened (goal.at.returns-then-image-initial_at c).After-number_at-3) c.counts_fit.ensures
+    c.if-not-counts_fit.false-raw
     c.entries_have-2.ensures c.if-not-entries_have-2.false-raw c.if-image-initial_at.true
 
 pub returns : goal.returns

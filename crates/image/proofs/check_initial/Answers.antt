@@ -14,11 +14,13 @@ returns-then-state_count-number c =
 
 pub returns-then-number-least : goal.returns-then-number-least
 returns-then-number-least c =
-    rise_fails _ _ _ _ c.loop-i.i _ (omega arith) c.loop-i.invariant c.number_at-number.ensures (omega arith) (omega arith)
+    rise_fails _ _ _ _ c.loop-i.i _ (omega arith) c.loop-i.invariant c.number_at-number.ensures (omega arith)
+    (omega arith)
 
 pub loop-i-preserved : goal.loop-i-preserved
 loop-i-preserved c =
-    rise_steps _ _ _ _ c.loop-i.i _ (omega arith) c.loop-i.invariant c.number_at-number.ensures (omega arith) (omega arith)
+    rise_steps _ _ _ _ c.loop-i.i _ (omega arith) c.loop-i.invariant c.number_at-number.ensures (omega arith)
+    (omega arith)
 
 pub returns : goal.returns
 returns c = pass_ends _ _ c.loop-i.i (omega arith) c.loop-i.invariant.passing

@@ -9,8 +9,10 @@ returns-then-transitions-at-ne0 c =
 
 pub returns-then-transitions-at-ne0-2 : goal.returns-then-transitions-at-ne0-2
 returns-then-transitions-at-ne0-2 c =
-    forbids_something c.args.transitions.now c.args.at c.args.q c.if-transitions-at-ne0.false c.if-transitions-at-ne0-2.true
+    forbids_something c.args.transitions.now c.args.at c.args.q c.if-transitions-at-ne0.false
+    c.if-transitions-at-ne0-2.true
 
 pub returns : goal.returns
 returns c =
-    leads_there c.args.transitions.now c.args.at c.args.q c.if-transitions-at-ne0.false c.if-transitions-at-ne0-2.false c.number_at.ensures
+    leads_there c.args.transitions.now c.args.at c.args.q c.if-transitions-at-ne0.false c.if-transitions-at-ne0-2.false
+    c.number_at.ensures

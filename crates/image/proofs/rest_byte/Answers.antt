@@ -9,10 +9,11 @@ returns-then-states-q-ne1 c =
 
 pub returns-then-some_free_to : goal.returns-then-some_free_to
 returns-then-some_free_to c =
-    by_transitions c.args.states.now c.args.transitions.now c.args.q c.if-states-q-ne1.false _ _ c.requires.2 c.requires.3
-    c.some_free_to.ensures c.if-some_free_to.true
+    by_transitions c.args.states.now c.args.transitions.now c.args.q c.if-states-q-ne1.false _ _ c.requires.2
+    c.requires.3 c.some_free_to.ensures c.if-some_free_to.true
 
 pub returns : goal.returns
 returns c =
-    by_transitions c.args.states.now c.args.transitions.now c.args.q c.if-states-q-ne1.false _ _ c.requires.2 c.requires.3
+    by_transitions c.args.states.now c.args.transitions.now c.args.q
+    c.if-states-q-ne1.false _ _ c.requires.2 c.requires.3
     c.some_free_to.ensures c.if-some_free_to.false

@@ -34,7 +34,8 @@ returns-then-image-lt-IMAGE_BYTES c =
 
 pub returns-then-not-counts_fit : goal.returns-then-not-counts_fit
 returns-then-not-counts_fit c =
-    counts_refused _ _ _ _ _ (tables (goal.at.returns-then-not-counts_fit c).Else-not-tables_fit) (omega arith) c.counts_fit.ensures
+    counts_refused _ _ _ _ _ (tables (goal.at.returns-then-not-counts_fit c).Else-not-tables_fit) (omega arith)
+    c.counts_fit.ensures
     c.if-not-counts_fit.true-raw
 
 pub check_records-records-requires : goal.check_records-records-requires

@@ -7,7 +7,8 @@ use Rattle.judge.proofs.Gathers.{Gathering}
 use Rattle.judge.proofs.begin_passes.Given as goal
 
 abbrev pub invariant-loop-q : goal.invariant-loop-q
-invariant-loop-q l = Gathering l.initial.rows (λ p r k. (r ≡ p) × ((get_or l.work (l.at + p) 0 ≡ 1) × (k ≡ p))) l.n l.rows l.q
+invariant-loop-q l =
+    Gathering l.initial.rows (λ p r k. (r ≡ p) × ((get_or l.work (l.at + p) 0 ≡ 1) × (k ≡ p))) l.n l.rows l.q
 
 abbrev pub decreases-loop-q : goal.decreases-loop-q
 decreases-loop-q l = l.n - l.q

@@ -13,7 +13,9 @@ loop-i-init c = store_begins _ _ _
 
 pub loop-i-preserved : goal.loop-i-preserved
 loop-i-preserved c =
-    rw (zeros_at c.args.n c.loop-i.i) at (store_steps _ _ _ _ c.loop-i.i c.loop-i-test.true c.requires (omega (arith, length-replicate {A = ℕ} c.args.n 0)) c.loop-i.invariant)
+    rw (zeros_at c.args.n c.loop-i.i) at
+    (store_steps _ _ _ _ c.loop-i.i c.loop-i-test.true c.requires (omega (arith, length-replicate {A = ℕ} c.args.n 0))
+    c.loop-i.invariant)
 
 pub shape_of-rows : goal.shape_of-rows
 shape_of-rows c = c.loop-i.invariant.size
@@ -21,4 +23,5 @@ shape_of-rows c = c.loop-i.invariant.size
 pub returns : goal.returns
 returns c =
     let n = c.args.n in
-    rw (take_all n (replicate {A = ℕ} n 0) (omega (arith, length-replicate {A = ℕ} n 0))) at (store_ends _ _ _ _ c.loop-i.i c.loop-i-test.false c.loop-i.invariant)
+    rw (take_all n (replicate {A = ℕ} n 0) (omega (arith, length-replicate {A = ℕ} n 0))) at
+    (store_ends _ _ _ _ c.loop-i.i c.loop-i-test.false c.loop-i.invariant)

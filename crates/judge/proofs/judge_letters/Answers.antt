@@ -4,8 +4,13 @@ use Rattle.judge.proofs.Judgements.{letters_kept, letters_broken}
 use Rattle.judge.proofs.judge_letters.Goals as goal
 
 pub is_kept-kept-requires : goal.is_kept-kept-requires
-is_kept-kept-requires c =
-    (c.requires.0, c.requires.1, c.requires.2, rw c.take_pairs-taken.auto.work c.requires.3, c.take_pairs-taken.ensures.2)
+is_kept-kept-requires c = (
+  c.requires.0,
+  c.requires.1,
+  c.requires.2,
+  rw c.take_pairs-taken.auto.work c.requires.3,
+  c.take_pairs-taken.ensures.2,
+)
 
 pub returns-then-kept : goal.returns-then-kept
 returns-then-kept c =
@@ -14,5 +19,6 @@ returns-then-kept c =
 
 pub returns : goal.returns
 returns c =
-    letters_broken _ _ _ c.args.work.now c.take_pairs-taken.ensures.0 c.take_pairs-taken.ensures.1 c.is_kept-kept.ensures
+    letters_broken _ _ _ c.args.work.now c.take_pairs-taken.ensures.0 c.take_pairs-taken.ensures.1
+    c.is_kept-kept.ensures
     (c.zero.ensures ∙ rw c.take_pairs-taken.auto.work) c.if-kept.false

@@ -22,8 +22,13 @@ enough c few = omega (arith, mul-le-mul_left max_states few, c.requires.3)
 pub judge_letters-requires : goal.judge_letters-requires
 judge_letters-requires c =
     let some = lasso_some _ _ c.requires.2 in
-    let cycle = c.args.cycle.now in
-    (c.requires.0, c.requires.1, omega (arith, some, remaining_fewer cycle), enough (goal.at.judge_letters-requires c).After-none_skipped (lasso_few _ _ c.requires.2))
+    let cycle = c.args.cycle.now in (
+      c.requires.0,
+      c.requires.1,
+      omega (arith, some, remaining_fewer cycle),
+      enough
+          (goal.at.judge_letters-requires c).After-none_skipped (lasso_few _ _ c.requires.2),
+    )
 
 pub returns-then-none_skipped : goal.returns-then-none_skipped
 returns-then-none_skipped c =
@@ -50,7 +55,8 @@ judge_letters-requires-2 c = (
   c.requires.1,
   rw c.keep_remaining-c.ensures.1 (lasso_some _ _ c.requires.2),
   rw (c.keep_remaining-s.ensures.1, c.keep_remaining-c.ensures.1)
-      (enough (goal.at.judge_letters-requires-2 c).After-none_skipped (remaining_few c.args.stem.now c.args.cycle.now (lasso_few _ _ c.requires.2))),
+      (enough (goal.at.judge_letters-requires-2 c).After-none_skipped
+      (remaining_few c.args.stem.now c.args.cycle.now (lasso_few _ _ c.requires.2))),
 )
 
 pub returns : goal.returns

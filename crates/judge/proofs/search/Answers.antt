@@ -33,8 +33,12 @@ begin_passes-requires c =
 
 pub run-requires : goal.run-requires
 run-requires c =
-    let begun = c.begin_passes.ensures in
-    (c.requires.0, c.requires.1, begun_confined (counted (goal.at.run-requires c).Start) _ _ c.requires.2 c.requires.4 begun)
+    let begun = c.begin_passes.ensures in (
+      c.requires.0,
+      c.requires.1,
+      begun_confined (counted (goal.at.run-requires c).Start) _ _ c.requires.2 c.requires.4
+          begun,
+    )
 
 pub returns-then-not-run : goal.returns-then-not-run
 returns-then-not-run c =
@@ -45,8 +49,11 @@ returns-then-not-run c =
 pub close-requires : goal.close-requires
 close-requires c =
     let passed = c.run.ensures.on (not-false _ c.if-not-run.false-raw) in
-    let begun = c.begin_passes.ensures in
-    ((counted (goal.at.close-requires c).Start).few, rows_covered (counted (goal.at.close-requires c).Start) _ _ c.requires.2 c.requires.4 begun passed)
+    let begun = c.begin_passes.ensures in (
+      (counted (goal.at.close-requires c).Start).few,
+      rows_covered (counted (goal.at.close-requires c).Start) _ _
+          c.requires.2 c.requires.4 begun passed,
+    )
 
 pub returns : goal.returns
 returns c =

@@ -27,8 +27,11 @@ overflow_add-end c = omega (arith, records_inside c)
 
 pub returns-then-row_empty : goal.returns-then-row_empty
 returns-then-row_empty c =
-    let none = c.row_empty.ensures c.if-row_empty.true in
-    (next (goal.at.returns-then-row_empty c).After-number_at-count, adds_none (λ t k h. none k (c.row_of-row.ensures.all 0 k (refl, h.1))))
+    let none = c.row_empty.ensures c.if-row_empty.true in (
+      next (goal.at.returns-then-row_empty c).After-number_at-count,
+      adds_none
+          (λ t k h. none k (c.row_of-row.ensures.all 0 k (refl, h.1))),
+    )
 
 pub returns : goal.returns
 returns c =

@@ -32,14 +32,17 @@ overflow_add-untils c =
 
 pub returns-then-count-gt-MAX_NODES : goal.returns-then-count-gt-MAX_NODES
 returns-then-count-gt-MAX_NODES c =
-    too_large _ _ (passes (goal.at.returns-then-count-gt-MAX_NODES c).In_default) (passes_too (goal.at.returns-then-count-gt-MAX_NODES c).In_default-two) c.if-count-gt-MAX_NODES.true
+    too_large _ _ (passes (goal.at.returns-then-count-gt-MAX_NODES c).In_default)
+    (passes_too (goal.at.returns-then-count-gt-MAX_NODES c).In_default-two) c.if-count-gt-MAX_NODES.true
 
 pub returns-then-untils-gt-MAX_UNTILS : goal.returns-then-untils-gt-MAX_UNTILS
 returns-then-untils-gt-MAX_UNTILS c =
-    too_many _ _ (passes (goal.at.returns-then-untils-gt-MAX_UNTILS c).In_default) (passes_too (goal.at.returns-then-untils-gt-MAX_UNTILS c).In_default-two) c.if-count-gt-MAX_NODES.false
+    too_many _ _ (passes (goal.at.returns-then-untils-gt-MAX_UNTILS c).In_default)
+    (passes_too (goal.at.returns-then-untils-gt-MAX_UNTILS c).In_default-two) c.if-count-gt-MAX_NODES.false
     c.count_untils.ensures c.count_untils-2.ensures c.if-untils-gt-MAX_UNTILS.true
 
 pub returns : goal.returns
 returns c =
-    mergeable _ _ (passes (goal.at.returns c).In_default) (passes_too (goal.at.returns c).In_default-two) c.if-count-gt-MAX_NODES.false
+    mergeable _ _ (passes (goal.at.returns c).In_default) (passes_too (goal.at.returns c).In_default-two)
+    c.if-count-gt-MAX_NODES.false
     c.count_untils.ensures c.count_untils-2.ensures c.if-untils-gt-MAX_UNTILS.false

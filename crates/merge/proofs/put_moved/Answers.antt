@@ -13,5 +13,6 @@ moved-right-requires c = omega (arith, right_small _ _ c.requires.1 (omega arith
 
 pub returns : goal.returns
 returns c =
-    node_moved c.args.rule.now c.args.up c.args.n c.args.merged.now _ ((c.args.up + c.args.n) * 3) c.kind_of-kind.ensures c.left_operand.ensures
+    node_moved c.args.rule.now c.args.up c.args.n c.args.merged.now _ ((c.args.up + c.args.n) * 3)
+    c.kind_of-kind.ensures c.left_operand.ensures
     c.moved-left.ensures c.right_operand.ensures c.moved-right.ensures c.put_node.ensures

@@ -21,11 +21,13 @@ number_codes-count-requires c =
 
 pub returns-then-count-gt-MAX_NODES : goal.returns-then-count-gt-MAX_NODES
 returns-then-count-gt-MAX_NODES c =
-    too_large _ c.requires.0 c.walk_plain.ensures c.number_codes-count.ensures _ c.requires.1 c.if-count-gt-MAX_NODES.true
+    too_large _ c.requires.0 c.walk_plain.ensures c.number_codes-count.ensures _ c.requires.1
+    c.if-count-gt-MAX_NODES.true
 
 pub write_codes-requires : goal.write_codes-requires
 write_codes-requires c =
-    readied _ c.requires.0 c.walk_plain.ensures c.number_codes-count.ensures _ c.requires.1 c.if-count-gt-MAX_NODES.false
+    readied _ c.requires.0 c.walk_plain.ensures c.number_codes-count.ensures _ c.requires.1
+    c.if-count-gt-MAX_NODES.false
     c.number_codes-count.auto.numbers
 
 pub returns : goal.returns

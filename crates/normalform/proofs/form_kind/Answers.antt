@@ -40,9 +40,11 @@ right_at s table (suc n) e kind lt = go (ℕ_discrete kind n) (right_at s table 
 pub returns-then-negated : goal.returns-then-negated
 unfolding right entry negatedKinds
 returns-then-negated c =
-    rw (c.wide-i.ensures, c.if-negated.true) (right_at true negatedKinds 13 refl c.args.kind (omega (arith, c.requires)))
+    rw (c.wide-i.ensures, c.if-negated.true)
+    (right_at true negatedKinds 13 refl c.args.kind (omega (arith, c.requires)))
 
 pub returns : goal.returns
 unfolding right entry plainKinds
 returns c =
-    rw (c.wide-i.ensures, c.if-negated.false) (right_at false plainKinds 13 refl c.args.kind (omega (arith, c.requires)))
+    rw (c.wide-i.ensures, c.if-negated.false)
+    (right_at false plainKinds 13 refl c.args.kind (omega (arith, c.requires)))

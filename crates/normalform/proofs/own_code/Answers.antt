@@ -9,7 +9,8 @@ returns-then-kind-eq-TRUE c =
 
 pub returns-then-kind-lt-PROPOSITION : goal.returns-then-kind-lt-PROPOSITION
 returns-then-kind-lt-PROPOSITION c =
-    own_false c.args.kind _ c.args.negated c.args.n c.if-kind-lt-PROPOSITION.true c.if-kind-eq-TRUE.false c.bit_of-then-kind-lt-PROPOSITION.ensures.0
+    own_false c.args.kind _ c.args.negated c.args.n c.if-kind-lt-PROPOSITION.true c.if-kind-eq-TRUE.false
+    c.bit_of-then-kind-lt-PROPOSITION.ensures.0
 
 pub returns : goal.returns
 returns c =

@@ -64,5 +64,6 @@ pub returns : goal.returns
 returns c =
     pair_put (number_in c.args.numbers.now) _ _ c.requires.0 _ _ c.kind_of-kind.ensures c.requires.1 _ _ _
     c.form_kind-new.ensures c.left_of-left.ensures c.right_of.ensures c.form_node-right.ensures
-    c.if-kind-lt-AND.false c.if-kind-eq-NEXT.false c.if-kind-gt-IMPLIES.false c.if-kind-eq-IMPLIES.false c.form_node-2.ensures
+    c.if-kind-lt-AND.false c.if-kind-eq-NEXT.false c.if-kind-gt-IMPLIES.false c.if-kind-eq-IMPLIES.false
+    c.form_node-2.ensures
     c.put_node-2.ensures

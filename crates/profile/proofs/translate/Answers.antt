@@ -31,8 +31,11 @@ slice_bounds-translate_form-end c =
     sym (length-take-le _ _ (forms (goal.at.slice_bounds-translate_form-end c).In-Accepted).2)
 
 pub translate_form-requires : goal.translate_form-requires
-translate_form-requires c =
-    ((forms (goal.at.translate_form-requires c).In-Accepted).1, tables (goal.at.translate_form-requires c).Else-not-tables_fit)
+translate_form-requires c = (
+  (forms (goal.at.translate_form-requires c).In-Accepted).1,
+  tables
+      (goal.at.translate_form-requires c).Else-not-tables_fit,
+)
 
 pub returns-in-Refused : goal.returns-in-Refused
 returns-in-Refused c =
@@ -41,4 +44,6 @@ returns-in-Refused c =
 
 pub returns-in-Accepted : goal.returns-in-Accepted
 returns-in-Accepted c =
-    form_translated _ _ _ _ (tables (goal.at.returns-in-Accepted c).Else-not-tables_fit) _ (forms (goal.at.returns-in-Accepted c).In-Accepted).0 (forms (goal.at.returns-in-Accepted c).In-Accepted).1 c.translate_form.ensures
+    form_translated _ _ _ _ (tables (goal.at.returns-in-Accepted c).Else-not-tables_fit) _
+    (forms (goal.at.returns-in-Accepted c).In-Accepted).0 (forms (goal.at.returns-in-Accepted c).In-Accepted).1
+    c.translate_form.ensures

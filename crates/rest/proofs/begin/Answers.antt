@@ -30,7 +30,8 @@ visit-count-requires c =
 pub loop-i-preserved : goal.loop-i-preserved
 loop-i-preserved c =
     begin_steps c.args.image.now _ c.loop-i.i (omega arith) c.loop-i.invariant
-    (search rules) (rw c.number_at.ensures at (c.visit-count.ensures _ (state (goal.at.loop-i-preserved c).After-number_at)))
+    (search rules) (rw c.number_at.ensures at
+    (c.visit-count.ensures _ (state (goal.at.loop-i-preserved c).After-number_at)))
 
 pub shape_of-work : goal.shape_of-work
 shape_of-work c = c.loop-i.invariant.works

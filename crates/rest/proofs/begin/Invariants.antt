@@ -6,7 +6,9 @@ use Rattle.rest.proofs.Filling.{Filling, numbered}
 use Rattle.rest.proofs.begin.Given as goal
 
 abbrev pub invariant-loop-i : goal.invariant-loop-i
-invariant-loop-i l = Filling (counts_at l.image).states 0 l.records (buffers l.initial.work l.initial.list 0) (buffers l.work l.list l.count) (numbered l.image l.at l.i) l.i
+invariant-loop-i l =
+    Filling (counts_at l.image).states 0 l.records (buffers l.initial.work l.initial.list 0)
+    (buffers l.work l.list l.count) (numbered l.image l.at l.i) l.i
 
 abbrev pub decreases-loop-i : goal.decreases-loop-i
 decreases-loop-i l = l.records - l.i

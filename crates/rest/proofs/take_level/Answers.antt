@@ -66,7 +66,8 @@ shape_of-work-then-image-q-eq1 c = c.loop-i.invariant.works
 pub returns-then-image-q-eq1 : goal.returns-then-image-q-eq1
 returns-then-image-q-eq1 c =
     taking_rests _ _ _ (readable_in_range _ c.requires.0) c.requires.3 c.loop-i.i c.loop-i.invariant (omega arith) _
-    c.wide-q.ensures (byte_rests _ c.requires.0 _ (below (goal.at.returns-then-image-q-eq1 c).After-wide-q) c.if-image-q-eq1.true)
+    c.wide-q.ensures (byte_rests _ c.requires.0 _ (below (goal.at.returns-then-image-q-eq1 c).After-wide-q)
+    c.if-image-q-eq1.true)
 
 pub take_state-more-requires : goal.take_state-more-requires
 take_state-more-requires c = (
@@ -81,7 +82,8 @@ take_state-more-requires c = (
 pub loop-i-preserved : goal.loop-i-preserved
 loop-i-preserved c =
     taking_steps _ _ _ (readable_in_range _ c.requires.0) c.requires.3 c.loop-i.i c.loop-i.invariant (omega arith) _
-    c.wide-q.ensures (byte_calm _ c.requires.0 _ (below (goal.at.loop-i-preserved c).After-wide-q) c.if-image-q-eq1.false) (search rules)
+    c.wide-q.ensures (byte_calm _ c.requires.0 _ (below (goal.at.loop-i-preserved c).After-wide-q)
+    c.if-image-q-eq1.false) (search rules)
     c.letter_at-letter.ensures c.position_after-onward.ensures c.take_state-more.ensures
 
 pub overflow_add-result-2 : goal.overflow_add-result-2

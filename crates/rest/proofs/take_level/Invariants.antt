@@ -6,7 +6,9 @@ use Rattle.rest.proofs.Levels.{Taking}
 use Rattle.rest.proofs.take_level.Given as goal
 
 abbrev pub invariant-loop-i : goal.invariant-loop-i
-invariant-loop-i l = Taking (image_automaton l.image) l.stem l.cycle l.n l.position l.taken l.level l.count l.initial.work (buffers l.work l.next l.more) l.i
+invariant-loop-i l =
+    Taking (image_automaton l.image) l.stem l.cycle l.n l.position l.taken l.level l.count l.initial.work
+    (buffers l.work l.next l.more) l.i
 
 abbrev pub decreases-loop-i : goal.decreases-loop-i
 decreases-loop-i l = l.count - l.i

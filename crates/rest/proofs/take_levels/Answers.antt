@@ -75,7 +75,12 @@ position_after-position-requires c =
 
 pub loop-count-smaller : goal.loop-count-smaller
 loop-count-smaller c =
-    omega (arith, few (goal.at.loop-count-smaller c).At-loop-count, same (goal.at.loop-count-smaller c).At-loop-count, c.loop-count.invariant.works)
+    omega (
+      arith,
+      few (goal.at.loop-count-smaller c).At-loop-count,
+      same (goal.at.loop-count-smaller c).At-loop-count,
+      c.loop-count.invariant.works,
+    )
 
 pub loop-count-preserved : goal.loop-count-preserved
 loop-count-preserved c =
@@ -86,5 +91,6 @@ shape_of-work c = c.loop-count.invariant.works ∙ c.begin-count.auto.work
 
 pub returns : goal.returns
 returns c =
-    let (rests, pairs, marked) = before_none _ _ _ c.loop-count.invariant.before (omega arith) (bytes (goal.at.returns c).At-loop-count) in
+    let (rests, pairs, marked) =
+    before_none _ _ _ c.loop-count.invariant.before (omega arith) (bytes (goal.at.returns c).At-loop-count) in
     (rests, pairs, λ e. marked)

@@ -7,7 +7,8 @@ use Rattle.rest.proofs.Levels.{Turning}
 use Rattle.rest.proofs.take_levels.Given as goal
 
 abbrev pub invariant-loop-count : goal.invariant-loop-count
-invariant-loop-count l = Turning (image_automaton l.image) l.stem l.cycle l.n l.initial.work l.work l.level l.next l.count l.position l.taken
+invariant-loop-count l =
+    Turning (image_automaton l.image) l.stem l.cycle l.n l.initial.work l.work l.level l.next l.count l.position l.taken
 
 abbrev pub decreases-loop-count : goal.decreases-loop-count
 decreases-loop-count l = length l.initial.work - l.taken

@@ -32,8 +32,14 @@ pub slice_bounds-take_levels-end-2 : goal.slice_bounds-take_levels-end-2
 slice_bounds-take_levels-end-2 c = long (goal.at.slice_bounds-take_levels-end-2 c).After-zero
 
 pub take_levels-requires : goal.take_levels-requires
-take_levels-requires c =
-    (c.requires.0, c.requires.1, c.requires.2, omega (arith, long (goal.at.take_levels-requires c).After-zero), zeros (goal.at.take_levels-requires c).After-zero)
+take_levels-requires c = (
+  c.requires.0,
+  c.requires.1,
+  c.requires.2,
+  omega (arith, long (goal.at.take_levels-requires c).After-zero),
+  zeros
+      (goal.at.take_levels-requires c).After-zero,
+)
 
 pub returns : goal.returns
 returns c =

@@ -46,8 +46,10 @@ overflow_add-at c = omega (arith, inside (goal.at.overflow_add-at c).After-numbe
 
 pub follow-more-requires : goal.follow-more-requires
 follow-more-requires c =
-    let ready = fills_ready c.loop-i.invariant.met c.requires.4 in
-    (omega (arith, inside (goal.at.follow-more-requires c).After-number_at-records), (_, below (goal.at.follow-more-requires c).After-number_at-records c.loop-i.i (omega arith), ready))
+    let ready = fills_ready c.loop-i.invariant.met c.requires.4 in (
+      omega (arith, inside (goal.at.follow-more-requires c).After-number_at-records),
+      (_, below (goal.at.follow-more-requires c).After-number_at-records c.loop-i.i (omega arith), ready),
+    )
 
 pub loop-i-preserved : goal.loop-i-preserved
 loop-i-preserved c =
@@ -59,5 +61,6 @@ shape_of-work c = c.loop-i.invariant.works
 
 pub returns : goal.returns
 returns c =
-    follows_end c.args.image.now c.args.q c.args.letter c.loop-i.i (state (goal.at.returns c).After-number_at-records) (begins (goal.at.returns c).After-number_at-records)
+    follows_end c.args.image.now c.args.q c.args.letter c.loop-i.i (state (goal.at.returns c).After-number_at-records)
+    (begins (goal.at.returns c).After-number_at-records)
     c.number_at-records.ensures (omega arith) c.loop-i.invariant

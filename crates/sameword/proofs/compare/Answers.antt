@@ -28,10 +28,12 @@ same_word-requires c = (first_fine (goal.at.same_word-requires c).In_default, se
 
 pub returns-then-same_word : goal.returns-then-same_word
 returns-then-same_word c =
-    told_same _ _ _ _ (first_fine (goal.at.returns-then-same_word c).In_default) (second_fine (goal.at.returns-then-same_word c).In_default-second)
+    told_same _ _ _ _ (first_fine (goal.at.returns-then-same_word c).In_default)
+    (second_fine (goal.at.returns-then-same_word c).In_default-second)
     c.same_word.ensures c.if-same_word.true
 
 pub returns : goal.returns
 returns c =
-    told_different _ _ _ _ (first_fine (goal.at.returns c).In_default) (second_fine (goal.at.returns c).In_default-second)
+    told_different _ _ _ _ (first_fine (goal.at.returns c).In_default)
+    (second_fine (goal.at.returns c).In_default-second)
     c.same_word.ensures c.if-same_word.false

@@ -12,7 +12,8 @@ first_read : (c : After-letter_at-in-loop-i) → c.letter_at.result ≡ letter c
 first_read c =
     stands_letter _ _ c.loop-i.i c.loop-i.invariant.first c.requires.0 c.letter_at.ensures
 
-second_read : (c : After-letter_at-in-loop-i) → c.letter_at-in-loop-i.result ≡ letter c.args.other_stem.now c.args.other_cycle.now c.loop-i.i
+second_read : (c : After-letter_at-in-loop-i)
+    → c.letter_at-in-loop-i.result ≡ letter c.args.other_stem.now c.args.other_cycle.now c.loop-i.i
 second_read c =
     stands_letter _ _ c.loop-i.i c.loop-i.invariant.second c.requires.1 c.letter_at-in-loop-i.ensures
 
@@ -28,7 +29,8 @@ letter_at-requires-in-loop-i c = stands_within _ _ c.loop-i.i c.loop-i.invariant
 pub returns-then-letter_at : goal.returns-then-letter_at
 returns-then-letter_at c =
     agree_not _ _ _ c.loop-i.i (omega arith)
-    (λ same. c.if-letter_at.true (first_read (goal.at.returns-then-letter_at c).After-letter_at-in-loop-i ∙ same ∙ sym (second_read (goal.at.returns-then-letter_at c).After-letter_at-in-loop-i)))
+    (λ same. c.if-letter_at.true (first_read (goal.at.returns-then-letter_at c).After-letter_at-in-loop-i ∙ same ∙ sym
+    (second_read (goal.at.returns-then-letter_at c).After-letter_at-in-loop-i)))
 
 pub position_after-at-requires : goal.position_after-at-requires
 position_after-at-requires c =
@@ -41,7 +43,8 @@ position_after-other_at-requires c =
 pub loop-i-preserved : goal.loop-i-preserved
 loop-i-preserved c =
     follow_steps _ _ _ _ _ c.loop-i.i (omega arith) c.loop-i.invariant
-    (sym (first_read (goal.at.loop-i-preserved c).After-letter_at-in-loop-i) ∙ c.if-letter_at.false ∙ second_read (goal.at.loop-i-preserved c).After-letter_at-in-loop-i) c.position_after-at.ensures
+    (sym (first_read (goal.at.loop-i-preserved c).After-letter_at-in-loop-i) ∙ c.if-letter_at.false ∙ second_read
+    (goal.at.loop-i-preserved c).After-letter_at-in-loop-i) c.position_after-at.ensures
     c.position_after-other_at.ensures
 
 pub returns : goal.returns

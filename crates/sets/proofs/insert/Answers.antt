@@ -20,7 +20,8 @@ shape_of-items-then-t-y c = omega (arith, ap length c.loop-i.invariant.same)
 pub returns-then-t-y : goal.returns-then-t-y
 returns-then-t-y c =
     let inv = c.loop-i.invariant in
-    rw (← inv.same) (lift_in _ _ _ _ _ _ inv.fits (less_in _ _ _ c.loop-i.i (omega arith) inv.fits inv.place c.if-t-y.true) c.insert_at.ensures)
+    rw (← inv.same) (lift_in _ _ _ _ _ _ inv.fits
+    (less_in _ _ _ c.loop-i.i (omega arith) inv.fits inv.place c.if-t-y.true) c.insert_at.ensures)
 
 pub shape_of-items-then-t-y-2 : goal.shape_of-items-then-t-y-2
 shape_of-items-then-t-y-2 c = ap length c.loop-i.invariant.same
@@ -28,7 +29,8 @@ shape_of-items-then-t-y-2 c = ap length c.loop-i.invariant.same
 pub returns-then-t-y-2 : goal.returns-then-t-y-2
 returns-then-t-y-2 c =
     let inv = c.loop-i.invariant in
-    rw (← inv.same) (lift_in _ _ _ _ _ _ inv.fits (same_in _ _ _ c.loop-i.i (omega arith) inv.fits inv.place c.if-t-y-2.true) (self _ _ inv.fits))
+    rw (← inv.same) (lift_in _ _ _ _ _ _ inv.fits
+    (same_in _ _ _ c.loop-i.i (omega arith) inv.fits inv.place c.if-t-y-2.true) (self _ _ inv.fits))
 
 pub loop-i-preserved : goal.loop-i-preserved
 loop-i-preserved c =
@@ -46,4 +48,5 @@ shape_of-items c = omega (arith, ap length c.loop-i.invariant.same)
 pub returns : goal.returns
 returns c =
     let inv = c.loop-i.invariant in
-    rw (← inv.same) (lift_in _ _ _ _ _ _ inv.fits (end_in _ _ _ c.loop-i.i (omega arith) inv.fits inv.place) c.insert_at-2.ensures)
+    rw (← inv.same) (lift_in _ _ _ _ _ _ inv.fits (end_in _ _ _ c.loop-i.i (omega arith) inv.fits inv.place)
+    c.insert_at-2.ensures)

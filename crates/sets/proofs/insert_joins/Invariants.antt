@@ -4,7 +4,8 @@ use Rattle.sets.proofs.Folds.{Joining}
 use Rattle.sets.proofs.insert_joins.Given as goal
 
 abbrev pub invariant-loop-j : goal.invariant-loop-j
-invariant-loop-j l = Joining (insert_joins_n l.x) (join_conflicts_n l.x) l.ys l.ny l.initial.items l.count l.items l.n l.conflicts l.j
+invariant-loop-j l =
+    Joining (insert_joins_n l.x) (join_conflicts_n l.x) l.ys l.ny l.initial.items l.count l.items l.n l.conflicts l.j
 
 abbrev pub decreases-loop-j : goal.decreases-loop-j
 decreases-loop-j l = l.j

@@ -6,7 +6,8 @@ use Rattle.sets.proofs.product.Given as goal
 
 abbrev pub invariant-loop-i : goal.invariant-loop-i
 invariant-loop-i l =
-    Joining (λ ts. insert_product_n ts (take l.ny l.ys)) (λ ts. product_conflicts_n ts (take l.ny l.ys)) l.xs l.nx l.initial.items l.count l.items l.n
+    Joining (λ ts. insert_product_n ts (take l.ny l.ys)) (λ ts. product_conflicts_n ts (take l.ny l.ys)) l.xs l.nx
+    l.initial.items l.count l.items l.n
     l.conflicts l.i
 
 abbrev pub decreases-loop-i : goal.decreases-loop-i

@@ -8,7 +8,8 @@ use Rattle.term.proofs.Sizes.{ready_small, ready_below, left_lower, right_lower,
 use Rattle.term.proofs.Descending.{found_cover, cover_pair}
 use borrow.Author.Rules.{rules}
 use Rattle.term.proofs.+cover_of.Goals as goal
-use Rattle.term.proofs.+cover_of.Goals.{then-kind-lt-AND-via-then-kind-lt-AND, then-kind-lt-AND-via-else-kind-lt-AND+then-kind-gt-OR}
+use Rattle.term.proofs.+cover_of.Goals.{then-kind-lt-AND-via-then-kind-lt-AND}
+use Rattle.term.proofs.+cover_of.Goals.{then-kind-lt-AND-via-else-kind-lt-AND+then-kind-gt-OR}
 
 pub cover_leaf-requires : goal.cover_leaf-requires
 cover_leaf-requires t c =

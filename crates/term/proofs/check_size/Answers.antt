@@ -25,7 +25,11 @@ pub returns-then-bound-le-MAX_TERMS : goal.returns-then-bound-le-MAX_TERMS
 returns-then-bound-le-MAX_TERMS c =
     let row = c.requires.3.within (omega arith) in
     let f = tree c.args.rule.now c.args.n in
-    fine_few _ _ (record { terms = omega (arith, row.count); cover = omega (arith, c.requires.4, cover_bounded f (omega (arith, c.requires.4))) })
+    fine_few _ _ (record {
+      terms = omega (arith, row.count);
+      cover = omega
+          (arith, c.requires.4, cover_bounded f (omega (arith, c.requires.4)));
+    })
 
 pub returns-then-sets-gt-MAX_TERMS : goal.returns-then-sets-gt-MAX_TERMS
 returns-then-sets-gt-MAX_TERMS c =
@@ -36,4 +40,8 @@ returns c =
     let row = c.requires.3.within (omega arith) in
     let is = c.cover_of-cover.ensures.within (omega arith) in
     let f = tree c.args.rule.now c.args.n in
-    fine_few _ _ (record { terms = omega (arith, row.count); cover = omega (arith, is.count, length-map (cover f) pack_set) })
+    fine_few _ _ (record {
+      terms = omega (arith, row.count);
+      cover = omega
+          (arith, is.count, length-map (cover f) pack_set);
+    })

@@ -21,4 +21,8 @@ returns-then-kind-gt-RELEASE c =
 pub returns : goal.returns
 returns c =
     λ m f g.
-    rw (cover_own _ m f g c.args.kind c.if-kind-eq-FALSE.false c.if-kind-eq-TRUE.false c.requires.1 c.requires.2 (omega arith), ← c.owe.ensures) c.one-2.ensures.packed
+    rw (
+      cover_own _ m f g c.args.kind c.if-kind-eq-FALSE.false c.if-kind-eq-TRUE.false c.requires.1 c.requires.2
+          (omega arith),
+      ← c.owe.ensures,
+    ) c.one-2.ensures.packed

@@ -80,7 +80,14 @@ returns-then-kind-eq-RELEASE c =
           rw (c.if-kind-eq-RELEASE.true, pack_release _ f g mf mg, ← c.owe-then-kind-eq-RELEASE.ensures)
           (c.release.ensures _ _ a b).packed;
       has_conflicts = λ p q m f g mf mg a b.
-          rw (c.if-kind-eq-RELEASE.true, ← conflicts_release _ f g mf mg, ← c.owe-then-kind-eq-RELEASE.ensures, ← a.conflicts, ← b.conflicts)
+          rw (
+            c.if-kind-eq-RELEASE.true,
+            ← conflicts_release _ f g mf mg,
+            ← c.owe-then-kind-eq-RELEASE.ensures,
+            ←
+                a.conflicts,
+            ← b.conflicts,
+          )
           (c.release.ensures _ _ a.packed b.packed).conflicts;
       is_cover = λ p q low. absurd (omega arith);
     }
@@ -88,7 +95,9 @@ returns-then-kind-eq-RELEASE c =
 pub returns-else-kind-eq-RELEASE : goal.returns-else-kind-eq-RELEASE
 unfolding terms conflicts
 returns-else-kind-eq-RELEASE c =
-    let k = no_kind c.requires.1 c.if-kind-eq-AND.false c.if-kind-eq-OR.false c.requires.2 c.if-kind-eq-UNTIL.false c.if-kind-eq-RELEASE.false in
+    let k =
+    no_kind c.requires.1 c.if-kind-eq-AND.false c.if-kind-eq-OR.false c.requires.2 c.if-kind-eq-UNTIL.false
+    c.if-kind-eq-RELEASE.false in
     record {
       handed_on = λ le. (c.if-na-gt-MAX_TERMS.false, c.if-nb-gt-MAX_TERMS.false);
       has_terms = λ p q m f g mf mg a b. rw (above _ m f g _ k) c.none.ensures.packed;

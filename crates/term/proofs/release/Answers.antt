@@ -8,12 +8,20 @@ use Rattle.term.proofs.release.Goals as goal
 
 pub product-joined-requires : goal.product-joined-requires
 product-joined-requires c =
-    let a = c.args.a in
-    (search rules, more_fits _ a.items _ a.count _ (c.union-n.ensures.updates _ (single _ _)) (omega arith) (search rules))
+    let a = c.args.a in (
+      search rules,
+      more_fits _ a.items _ a.count _ (c.union-n.ensures.updates _ (single _ _)) (omega arith)
+          (search rules),
+    )
 
 pub returns : goal.returns
 returns c us vs ia ib =
     let joined = c.product-joined.ensures in
     let a = c.args.a in
-    rw (← carried ia (omega arith), ← carried ib (omega arith), ← more_is _ a.items _ a.count _ (c.union-n.ensures.updates _ (single _ _)) (omega arith) (search rules))
+    rw (
+      ← carried ia (omega arith),
+      ← carried ib (omega arith),
+      ← more_is _ a.items _ a.count _
+          (c.union-n.ensures.updates _ (single _ _)) (omega arith) (search rules),
+    )
     (record { packed = carries_of (search rules) (joined.updates _ (empty _)); conflicts = rw joined.conflicts })

@@ -9,4 +9,9 @@ use Rattle.term.proofs.union.Goals as goal
 
 pub returns : goal.returns
 returns c us vs ia ib =
-    rw (← carried ia (omega arith), ← carried ib (omega arith)) (record { packed = carries_of (search rules) (c.union-n.ensures.updates _ (self _ _ (search rules))); conflicts = refl })
+    rw (← carried ia (omega arith), ← carried ib (omega arith))
+    (record {
+      packed = carries_of (search rules) (c.union-n.ensures.updates _ (self _ _ (search rules)));
+      conflicts =
+          refl;
+    })

@@ -21,4 +21,5 @@ pub returns-in-Refused : goal.returns-in-Refused
 returns-in-Refused c =
     rw c.carry.ensures
     (builds_none _ _ _ _ c.refuse.result
-    (size_refused _ (sizes_are _ c.requires.0 (sym (tabled (goal.at.returns-in-Refused c).After-tabulate-sizes c.in-Refused.is)))) c.refuse.ensures)
+    (size_refused _ (sizes_are _ c.requires.0
+    (sym (tabled (goal.at.returns-in-Refused c).After-tabulate-sizes c.in-Refused.is)))) c.refuse.ensures)

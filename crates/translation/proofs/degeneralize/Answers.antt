@@ -28,7 +28,8 @@ done : (c : In-Count)
     c.in-Count.count c.in-Count.written
     c.explore_pairs-walked.new.pairs c.explore_pairs-walked.new.index c.explore_pairs-walked.new.table
 done c =
-    walk_done (begun (goal.at.In-Count c).After-start_pairs) _ c.explore_pairs-walked.result c.explore_pairs-walked.new.pairs c.explore_pairs-walked.new.index
+    walk_done (begun (goal.at.In-Count c).After-start_pairs) _ c.explore_pairs-walked.result
+    c.explore_pairs-walked.new.pairs c.explore_pairs-walked.new.index
     c.explore_pairs-walked.new.table c.explore_pairs-walked.ensures c.in-Count.is
 
 pub untils_of-untils-requires : goal.untils_of-untils-requires
@@ -39,21 +40,31 @@ start_pairs-requires c =
     (numbered_begins _ _ refl refl, omega (arith, initial_few _ c.requires.0, c.requires.1.begun))
 
 pub explore_pairs-walked-requires : goal.explore_pairs-walked-requires
-explore_pairs-walked-requires c =
-    (first_rows (begun (goal.at.explore_pairs-walked-requires c).After-start_pairs), (begun (goal.at.explore_pairs-walked-requires c).After-start_pairs).numbered, c.requires.2.transitions)
+explore_pairs-walked-requires c = (
+  first_rows (begun (goal.at.explore_pairs-walked-requires c).After-start_pairs),
+  (begun (goal.at.explore_pairs-walked-requires c).After-start_pairs).numbered,
+  c.requires.2.transitions,
+)
 
 pub slice_bounds-pairs-end : goal.slice_bounds-pairs-end
 slice_bounds-pairs-end c =
-    count_inside (begun (goal.at.slice_bounds-pairs-end c).After-start_pairs) (done (goal.at.slice_bounds-pairs-end c).In-Count)
+    count_inside (begun (goal.at.slice_bounds-pairs-end c).After-start_pairs)
+    (done (goal.at.slice_bounds-pairs-end c).In-Count)
 
 pub slice_bounds-write_states-end : goal.slice_bounds-write_states-end
 slice_bounds-write_states-end c =
-    sym (codes_count (begun (goal.at.slice_bounds-write_states-end c).After-start_pairs) (done (goal.at.slice_bounds-write_states-end c).In-Count))
+    sym (codes_count (begun (goal.at.slice_bounds-write_states-end c).After-start_pairs)
+    (done (goal.at.slice_bounds-write_states-end c).In-Count))
 
 pub write_states-requires : goal.write_states-requires
 write_states-requires c =
-    let few = codes_few (begun (goal.at.write_states-requires c).After-start_pairs) (done (goal.at.write_states-requires c).In-Count) in
-    (all_rows (begun (goal.at.write_states-requires c).After-start_pairs) (done (goal.at.write_states-requires c).In-Count), omega (arith, few, c.requires.2.states))
+    let few =
+    codes_few (begun (goal.at.write_states-requires c).After-start_pairs)
+    (done (goal.at.write_states-requires c).In-Count) in (
+      all_rows (begun (goal.at.write_states-requires c).After-start_pairs)
+          (done (goal.at.write_states-requires c).In-Count),
+      omega (arith, few, c.requires.2.states),
+    )
 
 pub overflow_mul-written : goal.overflow_mul-written
 overflow_mul-written c =
@@ -69,7 +80,8 @@ write_initial-requires c =
 
 pub returns-in-Stop : goal.returns-in-Stop
 returns-in-Stop c =
-    walk_stopped (begun (goal.at.returns-in-Stop c).After-start_pairs) _ c.explore_pairs-walked.result c.explore_pairs-walked.new.pairs c.explore_pairs-walked.new.index
+    walk_stopped (begun (goal.at.returns-in-Stop c).After-start_pairs) _ c.explore_pairs-walked.result
+    c.explore_pairs-walked.new.pairs c.explore_pairs-walked.new.index
     c.explore_pairs-walked.new.table c.explore_pairs-walked.ensures c.in-Stop.is c.explore_pairs-walked.auto.table _ _
     c.refuse.ensures
 

@@ -86,7 +86,8 @@ shape_of-table-in_default c = c.meet_row-met.auto.table ∙ c.loop-pair.invarian
 
 pub returns-in_default : goal.returns-in_default
 returns-in_default c =
-    pairing_stops c.loop-pair.invariant c.requires.2 c.loop-pair-test.true (own (goal.at.returns-in_default c).After-row_end-end)
+    pairing_stops c.loop-pair.invariant c.requires.2 c.loop-pair-test.true
+    (own (goal.at.returns-in_default c).After-row_end-end)
     c.level_of.ensures c.meet_row-met.result c.meet_row-met.new.pairs c.meet_row-met.new.index
     c.meet_row-met.new.table c.meet_row-met.ensures c.in_default.is
 
@@ -98,7 +99,8 @@ loop-pair-smaller c = omega (arith, c.loop-pair.invariant.numbered.few)
 
 pub loop-pair-preserved : goal.loop-pair-preserved
 loop-pair-preserved c =
-    pairing_steps c.loop-pair.invariant c.requires.2 c.loop-pair-test.true (own (goal.at.loop-pair-preserved c).After-row_end-end)
+    pairing_steps c.loop-pair.invariant c.requires.2 c.loop-pair-test.true
+    (own (goal.at.loop-pair-preserved c).After-row_end-end)
     c.level_of.ensures c.meet_row-met.result c.meet_row-met.new.pairs c.meet_row-met.new.index
     c.meet_row-met.new.table c.meet_row-met.ensures c.in-Count.is c.meet_row-met.auto.table
 

@@ -9,7 +9,9 @@ use Rattle.translation.proofs.Pairing.{Pairing}
 use Rattle.translation.proofs.explore_pairs.Given as goal
 
 abbrev pub invariant-loop-pair : goal.invariant-loop-pair
-invariant-loop-pair l = Pairing l.ends l.kept l.r (walked (code_walk l.ends l.kept l.r) (take l.n l.initial.pairs)) l.initial.table l.pairs l.index l.table l.k l.m l.pair
+invariant-loop-pair l =
+    Pairing l.ends l.kept l.r (walked (code_walk l.ends l.kept l.r) (take l.n l.initial.pairs)) l.initial.table l.pairs
+    l.index l.table l.k l.m l.pair
 
 abbrev pub decreases-loop-pair : goal.decreases-loop-pair
 decreases-loop-pair l = max_states - l.pair

@@ -11,7 +11,8 @@ use Rattle.translation.proofs.meet_row.Given as goal
 abbrev pub invariant-loop-i : goal.invariant-loop-i
 invariant-loop-i l =
     Meeting l.row l.r l.level l.before.walked
-    (λ count. meet_all code_numbering l.before.walked (map (target_n l.r l.level) l.row) count (take l.before.pairs l.initial.pairs))
+    (λ count. meet_all code_numbering l.before.walked (map (target_n l.r l.level) l.row) count
+    (take l.before.pairs l.initial.pairs))
     l.initial.table l.before.transitions l.pairs l.index l.table l.k l.i
 
 abbrev pub decreases-loop-i : goal.decreases-loop-i

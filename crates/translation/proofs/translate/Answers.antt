@@ -31,12 +31,16 @@ slice_bounds-build_tabled-end c =
     sym (length-take-le _ _ (forms (goal.at.slice_bounds-build_tabled-end c).In-Accepted).2)
 
 pub build_tabled-requires : goal.build_tabled-requires
-build_tabled-requires c =
-    ((forms (goal.at.build_tabled-requires c).In-Accepted).1, tables (goal.at.build_tabled-requires c).Else-not-tables_fit)
+build_tabled-requires c = (
+  (forms (goal.at.build_tabled-requires c).In-Accepted).1,
+  tables
+      (goal.at.build_tabled-requires c).Else-not-tables_fit,
+)
 
 pub returns-in-Refused : goal.returns-in-Refused
 returns-in-Refused c =
-    form_refused _ _ _ _ (tables (goal.at.returns-in-Refused c).Else-not-tables_fit) (forms_as _ _ c.in-Refused.is c.check_form.ensures)
+    form_refused _ _ _ _ (tables (goal.at.returns-in-Refused c).Else-not-tables_fit)
+    (forms_as _ _ c.in-Refused.is c.check_form.ensures)
 
 pub returns-in-Accepted : goal.returns-in-Accepted
 returns-in-Accepted c =

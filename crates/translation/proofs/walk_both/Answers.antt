@@ -19,14 +19,16 @@ walks c e =
 pub degeneralize-requires : goal.degeneralize-requires
 degeneralize-requires c = (
   c.requires.0,
-  handed c.walk-walked.auto.states c.walk-walked.auto.transitions c.walk-walked.auto.ends (walks (goal.at.degeneralize-requires c).After-walk-walked c.in-Accepted.is),
+  handed c.walk-walked.auto.states c.walk-walked.auto.transitions c.walk-walked.auto.ends
+      (walks (goal.at.degeneralize-requires c).After-walk-walked c.in-Accepted.is),
   c.requires.3,
 )
 
 pub returns-in-Refused : goal.returns-in-Refused
 returns-in-Refused c =
     rw c.carry.ensures
-    (builds_none _ _ _ _ c.refuse.result (first_refused _ c.requires.0 (walks (goal.at.returns-in-Refused c).After-walk-walked c.in-Refused.is))
+    (builds_none _ _ _ _ c.refuse.result
+    (first_refused _ c.requires.0 (walks (goal.at.returns-in-Refused c).After-walk-walked c.in-Refused.is))
     c.refuse.ensures)
 
 pub returns-in-Accepted : goal.returns-in-Accepted

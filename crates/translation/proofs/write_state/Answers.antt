@@ -46,8 +46,14 @@ overflow_sub-end c =
     own_begins c.requires.0 (inl refl) (own (goal.at.overflow_sub-end c).After-row_end-end)
 
 pub put_state-requires : goal.put_state-requires
-put_state-requires c =
-    (c.requires.1, omega (arith, own_few c.requires.0 (inl refl) (own (goal.at.put_state-requires c).After-row_end-end)))
+put_state-requires c = (
+  c.requires.1,
+  omega (
+    arith,
+    own_few c.requires.0 (inl refl)
+        (own (goal.at.put_state-requires c).After-row_end-end),
+  ),
+)
 
 pub returns : goal.returns
 returns c =
