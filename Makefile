@@ -7,6 +7,7 @@ test:
 # Proves and builds what there is, crate by crate, and shows it on an example.
 run:
 	@tests/prove
+	@tests/build showwatch judgeplan
 	@tests/example
 
 # The C functions against the second translator for as long as is asked: make soak SECONDS=600 SEED=7
