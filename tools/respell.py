@@ -12,7 +12,7 @@ import pathlib
 import re
 import sys
 
-DECLARED = re.compile(r"^(\s*)(?:(?:abbrev|unfoldable|pub|opaque)\s+)*([a-z][\w\-'\u2080-\u2089]*)\s+:(?:\s|$)")
+DECLARED = re.compile(r"^(\s*)(?:(?:abbrev|unfoldable|pub|opaque)\s+)*((?:[a-z][\w\-'\u2080-\u2089]*\s+)+):(?:\s|$)")
 NAME = re.compile(r"(?<![\w\-'.])[A-Za-z][\w\-'\u2080-\u2089]*")
 FIELD = re.compile(r"(?<=\.)[A-Za-z][\w\-'\u2080-\u2089]*")
 RECORD = re.compile(r"^(\s*)(?:pub\s+)?record\s")
@@ -52,9 +52,9 @@ def declared():
                 record = len(opened.group(1))
             found = DECLARED.match(line)
             if found:
-                names.add(found.group(2))
+                names.update(found.group(2).split())
                 if record is not None:
-                    fields.add(found.group(2))
+                    fields.update(found.group(2).split())
     return names, fields
 
 

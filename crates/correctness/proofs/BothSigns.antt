@@ -15,7 +15,8 @@ use Rattle.sets.proofs.Bits.{zero_has, has_pow, or_has, and_has, bits_below}
 use Rattle.sets.proofs.Members.{All, all_one, map_in}
 use Rattle.formula.specs.Rule.{node_count, kind_at, left_at, right_at}
 use Rattle.formula.specs.Rule
-use Rattle.formula.specs.Formula.{Formula, bottom, top, proposition, negatedProposition, conjunction, disjunction, next}
+use Rattle.formula.specs.Formula.{Formula, bottom, top, proposition, negated_proposition, conjunction, disjunction}
+use Rattle.formula.specs.Formula.{next}
 use Rattle.formula.specs.Formula.{until, release, build, tree}
 use Rattle.formula.proofs.Accepted.{Node, accepted_fine}
 use Rattle.formula.proofs.Trees.{leaf_in, pair_in}
@@ -43,7 +44,7 @@ module _ (P Q : ℕ → Type 0) where
   Signs bottom = Unit {0}
   Signs top = Unit {0}
   Signs (proposition n p) = P p
-  Signs (negatedProposition n p) = Q p
+  Signs (negated_proposition n p) = Q p
   Signs (conjunction a b) = Signs a × Signs b
   Signs (disjunction a b) = Signs a × Signs b
   Signs (next n a) = Signs a
@@ -77,7 +78,7 @@ module _ (P Q : ℕ → Type 0) where
   terms_signed (proposition n q) s =
       all_one Signed (term (2 ^ q) 0 0)
       (record { plain = λ p h. subst P (sym (has_pow q p h)) s; negated = λ p h. absurd (zero_has h) })
-  terms_signed (negatedProposition n q) s =
+  terms_signed (negated_proposition n q) s =
       all_one Signed (term 0 (2 ^ q) 0)
       (record { plain = λ p h. absurd (zero_has h); negated = λ p h. subst Q (sym (has_pow q p h)) s })
   terms_signed (conjunction a b) (s, r) = product_signed (terms a) (terms b) (terms_signed a s) (terms_signed b r)
@@ -98,7 +99,7 @@ module _ (P Q : ℕ → Type 0) where
   first_signed bottom s = λ t h. absurd h
   first_signed top s = λ t h. absurd h
   first_signed (proposition n q) s = λ t h. absurd h
-  first_signed (negatedProposition n q) s = λ t h. absurd h
+  first_signed (negated_proposition n q) s = λ t h. absurd h
   first_signed (conjunction a b) (s, r) = terms_signed a s
   first_signed (disjunction a b) s = λ t h. absurd h
   first_signed (next n a) s = λ t h. absurd h
@@ -110,7 +111,7 @@ module _ (P Q : ℕ → Type 0) where
   second_signed bottom s = λ t h. absurd h
   second_signed top s = λ t h. absurd h
   second_signed (proposition n q) s = λ t h. absurd h
-  second_signed (negatedProposition n q) s = λ t h. absurd h
+  second_signed (negated_proposition n q) s = λ t h. absurd h
   second_signed (conjunction a b) (s, r) = terms_signed b r
   second_signed (disjunction a b) s = λ t h. absurd h
   second_signed (next n a) s = λ t h. absurd h

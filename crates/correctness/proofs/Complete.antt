@@ -13,7 +13,8 @@ use lib.Dec.{ltb}
 use borrow.Author.Tests.{eq-eqb}
 use Rattle.sets.specs.Sets.{union, In}
 use Rattle.formula.specs.Rule.{root, node_count}
-use Rattle.formula.specs.Formula.{Formula, bottom, top, proposition, negatedProposition, conjunction, disjunction, next}
+use Rattle.formula.specs.Formula.{Formula, bottom, top, proposition, negated_proposition, conjunction, disjunction}
+use Rattle.formula.specs.Formula.{next}
 use Rattle.formula.specs.Formula.{until, release, tree, formula}
 use Rattle.formula.specs.Satisfaction.{Holds}
 use Rattle.sets.specs.Bits.{has, Has}
@@ -91,7 +92,7 @@ module _ (rule : List ℕ) (w : ℕ → ℕ) (decide : (g : Formula) (i : ℕ) �
   choose bottom f i h = absurd h
   choose top f i h = (0, inl refl, owes_none i)
   choose (proposition n m) f i h = (2 ^ n, inl refl, owes_one n (proposition n m) f i h)
-  choose (negatedProposition n m) f i h = (2 ^ n, inl refl, owes_one n (negatedProposition n m) f i h)
+  choose (negated_proposition n m) f i h = (2 ^ n, inl refl, owes_one n (negated_proposition n m) f i h)
   choose (conjunction a b) (fa, fb) i (ha, hb) =
       let (c, mc, oc) = choose a fa i ha in
       let (d, md, od) = choose b fb i hb in
@@ -151,7 +152,7 @@ module _ (rule : List ℕ) (w : ℕ → ℕ) (decide : (g : Formula) (i : ℕ) �
   Prompt bottom u i = Unit {0}
   Prompt top u i = Unit {0}
   Prompt (proposition n p) u i = Unit {0}
-  Prompt (negatedProposition n p) u i = Unit {0}
+  Prompt (negated_proposition n p) u i = Unit {0}
   Prompt (conjunction a b) u i = Unit {0}
   Prompt (disjunction a b) u i = Unit {0}
   Prompt (next n a) u i = Unit {0}
@@ -172,7 +173,7 @@ module _ (rule : List ℕ) (w : ℕ → ℕ) (decide : (g : Formula) (i : ℕ) �
             clear = λ k b s. zero_has
                 b;
           }
-  pick (negatedProposition n p) f i h =
+  pick (negated_proposition n p) f i h =
       (record { choice = term 0 (2 ^ p) 0; listed = inl refl; reads = r; owes = owes_none (suc i) }, tt)
     where
       r : Reads (term 0 (2 ^ p) 0) (w i)

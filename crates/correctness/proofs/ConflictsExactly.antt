@@ -17,7 +17,8 @@ use Rattle.sets.specs.Sets.{In, union, join_conflicts, product_conflicts}
 use Rattle.sets.proofs.Bits.{Sub, zero_has, has_true, has_false, or_has, has_or_l, has_or_r, some_bit}
 use Rattle.formula.specs.Rule.{node_count, root, kind_at, left_at, right_at, release_kind, syntax_check}
 use Rattle.formula.specs.Rule
-use Rattle.formula.specs.Formula.{Formula, bottom, top, proposition, negatedProposition, conjunction, disjunction, next}
+use Rattle.formula.specs.Formula.{Formula, bottom, top, proposition, negated_proposition, conjunction, disjunction}
+use Rattle.formula.specs.Formula.{next}
 use Rattle.formula.specs.Formula.{until, release, build, tree, formula}
 use Rattle.formula.proofs.Accepted.{Node, accepted_fine, formed_fine, kind_known}
 use Rattle.formula.proofs.Trees.{leaf_in, pair_in}
@@ -38,7 +39,7 @@ unfoldable pub first_factor : Formula → List Term
 first_factor bottom = []
 first_factor top = []
 first_factor (proposition n p) = []
-first_factor (negatedProposition n p) = []
+first_factor (negated_proposition n p) = []
 first_factor (conjunction a b) = terms a
 first_factor (disjunction a b) = []
 first_factor (next n a) = []
@@ -49,7 +50,7 @@ unfoldable pub second_factor : Formula → List Term
 second_factor bottom = []
 second_factor top = []
 second_factor (proposition n p) = []
-second_factor (negatedProposition n p) = []
+second_factor (negated_proposition n p) = []
 second_factor (conjunction a b) = terms b
 second_factor (disjunction a b) = []
 second_factor (next n a) = []
@@ -126,7 +127,7 @@ unfolding conflicts first_factor second_factor product_conflicts
 own_counts bottom p h = h
 own_counts top p h = h
 own_counts (proposition n q) p h = h
-own_counts (negatedProposition n q) p h = h
+own_counts (negated_proposition n q) p h = h
 own_counts (conjunction a b) p h =
     has_or_l (conflicts_between (terms a) (terms b)) (bit_or (conflicts a) (conflicts b)) p h
 own_counts (disjunction a b) p h = absurd (zero_has h)

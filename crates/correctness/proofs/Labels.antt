@@ -12,7 +12,8 @@ use Rattle.lasso.specs.Lasso.{skipped}
 use Rattle.sets.specs.Sets.{union}
 use Rattle.formula.specs.Limits.{propositions}
 use Rattle.formula.specs.Rule.{node_count}
-use Rattle.formula.specs.Formula.{Formula, bottom, top, proposition, negatedProposition, conjunction, disjunction, next}
+use Rattle.formula.specs.Formula.{Formula, bottom, top, proposition, negated_proposition, conjunction, disjunction}
+use Rattle.formula.specs.Formula.{next}
 use Rattle.formula.specs.Formula.{until, release, tree, InRange}
 use Rattle.sets.specs.Bits.{has}
 use Rattle.term.specs.Term.{Term, term, less, joined, consistent, product, cover, terms}
@@ -51,7 +52,7 @@ terms_labelled top m = all_one Labelled (term 0 0 0) (owing_labelled 0)
 terms_labelled (proposition n p) m =
     all_one Labelled (term (2 ^ p) 0 0)
     (record { must_small = pow-lt {j = propositions} m; not_small = omega arith; disjoint = and_zero_r (2 ^ p) })
-terms_labelled (negatedProposition n p) m =
+terms_labelled (negated_proposition n p) m =
     all_one Labelled (term 0 (2 ^ p) 0)
     (record { must_small = omega arith; not_small = pow-lt {j = propositions} m; disjoint = and_zero_l (2 ^ p) })
 terms_labelled (conjunction a b) (p, q) = product_labelled (terms a) (terms b) (terms_labelled a p) (terms_labelled b q)

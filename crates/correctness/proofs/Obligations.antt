@@ -9,7 +9,8 @@ use native.Mathlib.Omega.{arith}
 use lib.Bits.{bit_or}
 use lib.Dec.{ltb}
 use Rattle.sets.specs.Sets.{union, In}
-use Rattle.formula.specs.Formula.{Formula, bottom, top, proposition, negatedProposition, conjunction, disjunction, next}
+use Rattle.formula.specs.Formula.{Formula, bottom, top, proposition, negated_proposition, conjunction, disjunction}
+use Rattle.formula.specs.Formula.{next}
 use Rattle.formula.specs.Formula.{until, release}
 use Rattle.term.specs.Term.{Term, term, less, joined, consistent, product, cover, terms}
 use Rattle.sets.specs.Bits.{Has}
@@ -36,7 +37,7 @@ unfolding cover
 cover_low k bottom l = λ c h. absurd h
 cover_low k top l = all_one (Low k) 0 (low_none k)
 cover_low k (proposition n p) l = all_one (Low k) (2 ^ n) (low_one k n l)
-cover_low k (negatedProposition n p) l = all_one (Low k) (2 ^ n) (low_one k n l)
+cover_low k (negated_proposition n p) l = all_one (Low k) (2 ^ n) (low_one k n l)
 cover_low k (conjunction a b) (p, q) =
     all_product ltb bit_or (λ _. true) (Low k) (low_or k) (cover a) (cover b) (cover_low k a p) (cover_low k b q)
 cover_low k (disjunction a b) (p, q) = all_union ltb (Low k) (cover a) (cover b) (cover_low k a p) (cover_low k b q)
@@ -55,7 +56,7 @@ unfolding terms
 terms_low k bottom l = λ u h. absurd h
 terms_low k top l = all_one (LowTerm k) (term 0 0 0) (low_none k)
 terms_low k (proposition n p) l = all_one (LowTerm k) (term (2 ^ p) 0 0) (low_none k)
-terms_low k (negatedProposition n p) l = all_one (LowTerm k) (term 0 (2 ^ p) 0) (low_none k)
+terms_low k (negated_proposition n p) l = all_one (LowTerm k) (term 0 (2 ^ p) 0) (low_none k)
 terms_low k (conjunction a b) (p, q) =
     all_product less joined consistent (LowTerm k) (low_joined k) (terms a) (terms b) (terms_low k a p)
     (terms_low k b q)

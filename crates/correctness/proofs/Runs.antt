@@ -8,7 +8,8 @@ use mathlib.Core.Bool.{Bool, true, false}
 use native.Mathlib.Omega.{arith}
 use native.Mathlib.Decide.{ℕ_discrete}
 use Rattle.formula.specs.Rule.{node_count}
-use Rattle.formula.specs.Formula.{Formula, bottom, top, proposition, negatedProposition, conjunction, disjunction, next}
+use Rattle.formula.specs.Formula.{Formula, bottom, top, proposition, negated_proposition, conjunction, disjunction}
+use Rattle.formula.specs.Formula.{next}
 use Rattle.formula.specs.Formula.{until, release, tree, formula}
 use Rattle.sets.specs.Bits.{has, Has}
 use Rattle.term.specs.Term.{Term, less, joined, consistent, cover, terms}
@@ -62,7 +63,7 @@ abbrev pub Below : ℕ → Formula → Type 0
 Below k bottom = Unit {0}
 Below k top = Unit {0}
 Below k (proposition n p) = n < k
-Below k (negatedProposition n p) = n < k
+Below k (negated_proposition n p) = n < k
 Below k (conjunction a b) = Below k a × Below k b
 Below k (disjunction a b) = Below k a × Below k b
 Below k (next n a) = (n < k) × Below k a
@@ -79,7 +80,7 @@ module _ (rule : List ℕ) where
   Fits bottom = Unit {0}
   Fits top = Unit {0}
   Fits (proposition n p) = Known n (proposition n p)
-  Fits (negatedProposition n p) = Known n (negatedProposition n p)
+  Fits (negated_proposition n p) = Known n (negated_proposition n p)
   Fits (conjunction a b) = Fits a × Fits b
   Fits (disjunction a b) = Fits a × Fits b
   Fits (next n a) = Known n (next n a) × Fits a

@@ -11,7 +11,8 @@ use lib.Bits.{bit_or}
 use lib.Dec.{ltb}
 use Rattle.sets.specs.Sets.{union, In}
 use Rattle.formula.specs.Rule.{root, node_count}
-use Rattle.formula.specs.Formula.{Formula, bottom, top, proposition, negatedProposition, conjunction, disjunction, next}
+use Rattle.formula.specs.Formula.{Formula, bottom, top, proposition, negated_proposition, conjunction, disjunction}
+use Rattle.formula.specs.Formula.{next}
 use Rattle.formula.specs.Formula.{until, release, formula}
 use Rattle.formula.specs.Satisfaction.{Holds}
 use Rattle.term.specs.Term.{Term, term, less, joined, consistent, product, cover, terms}
@@ -199,10 +200,11 @@ module _ (rule : List ℕ) (Move : ℕ → Term → Type 0) (listed : (d : ℕ) 
       one : Terms-say (proposition n m)
       one i u (inl q) r s = (r.set m (subst (λ (v : Term). Has v.must m) (sym q) (pow_has m))).set
       one i u (inr q) r s = absurd q
-  says (negatedProposition n m) f =
-      let say : Terms-say (negatedProposition n m) = one in (say, obligation_says n (negatedProposition n m) f refl say)
+  says (negated_proposition n m) f =
+      let say : Terms-say (negated_proposition n m) = one in
+      (say, obligation_says n (negated_proposition n m) f refl say)
     where
-      one : Terms-say (negatedProposition n m)
+      one : Terms-say (negated_proposition n m)
       one i u (inl q) r s = has_zero (w i) m (r.clear m (subst (λ (v : Term). Has v.must_not m) (sym q) (pow_has m)))
       one i u (inr q) r s = absurd q
   says (conjunction a b) (fa, fb) = go (says a fa) (says b fb)

@@ -11,7 +11,8 @@ use lib.Seq.{get_or-append_seam}
 use lib.Dec.{ltb}
 use borrow.Author.Tests.{ltb-true, ltb-false}
 use Rattle.formula.specs.Rule.{node_count, kind_at, left_at, right_at}
-use Rattle.formula.specs.Formula.{Formula, bottom, top, proposition, negatedProposition, conjunction, disjunction, next}
+use Rattle.formula.specs.Formula.{Formula, bottom, top, proposition, negated_proposition, conjunction, disjunction}
+use Rattle.formula.specs.Formula.{next}
 use Rattle.formula.specs.Formula.{until, release, build, trees, tree}
 use Rattle.correctness.proofs.Runs.{Below, Known, Fits}
 
@@ -95,7 +96,7 @@ below_more : (j k : ℕ) → j ≤ k → (g : Formula) → Below j g → Below k
 below_more j k l bottom b = tt
 below_more j k l top b = tt
 below_more j k l (proposition n p) b = omega arith
-below_more j k l (negatedProposition n p) b = omega arith
+below_more j k l (negated_proposition n p) b = omega arith
 below_more j k l (conjunction f g) (p, q) = (below_more j k l f p, below_more j k l g q)
 below_more j k l (disjunction f g) (p, q) = (below_more j k l f p, below_more j k l g q)
 below_more j k l (next n f) (b, p) = (omega arith, below_more j k l f p)

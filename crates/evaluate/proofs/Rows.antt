@@ -12,7 +12,8 @@ use lib.Seq.{get_or-append_seam}
 use lib.Dec.{eqb}
 use borrow.Author.Tests.{eqb-true, eq-eqb}
 use Rattle.formula.specs.Rule.{root}
-use Rattle.formula.specs.Formula.{Formula, bottom, top, proposition, negatedProposition, conjunction, disjunction, next}
+use Rattle.formula.specs.Formula.{Formula, bottom, top, proposition, negated_proposition, conjunction, disjunction}
+use Rattle.formula.specs.Formula.{next}
 use Rattle.formula.specs.Formula.{until, release, build, trees, tree, formula}
 use Rattle.sets.proofs.Members.{or_iff}
 use Rattle.lasso.specs.Lasso.{letter, after}
@@ -232,7 +233,7 @@ module _ (stem cycle : List ℕ) (pos : 0 < length cycle) where
         plain_tells (proposition c left) (λ i. eqb (letter stem cycle i / 2 ^ left % 2) 1)
         (λ i l. (eqb-true (w i / 2 ^ left % 2) 1, eq-eqb (w i / 2 ^ left % 2) 1))
     row_tells (suc (suc (suc zero))) c left =
-        plain_tells (negatedProposition c left) (λ i. eqb (letter stem cycle i / 2 ^ left % 2) 0)
+        plain_tells (negated_proposition c left) (λ i. eqb (letter stem cycle i / 2 ^ left % 2) 0)
         (λ i l. (eqb-true (w i / 2 ^ left % 2) 0, eq-eqb (w i / 2 ^ left % 2) 0))
     row_tells (suc (suc (suc (suc zero)))) c left = plain_tells (conjunction f g) (λ i. at a i && at b i) (λ i l. (
       λ e. let (x, y) = (and-eq-true_iff (at a i) (at b i)).0 e in ((ta.is i l).0 x, (tb.is i l).0 y),

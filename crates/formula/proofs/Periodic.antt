@@ -6,7 +6,8 @@ use mathlib.Core.Logic.Dec
 use mathlib.Core.Logic.{◌⊎◌, inl, inr}
 use native.Mathlib.Omega.{arith}
 use native.Mathlib.Decide.{ℕ_discrete, dec_le}
-use Rattle.formula.specs.Formula.{Formula, bottom, top, proposition, negatedProposition, conjunction, disjunction, next}
+use Rattle.formula.specs.Formula.{Formula, bottom, top, proposition, negated_proposition, conjunction, disjunction}
+use Rattle.formula.specs.Formula.{next}
 use Rattle.formula.specs.Formula.{until, release}
 use Rattle.formula.specs.Satisfaction.{Holds}
 use Rattle.lasso.proofs.Positions.{Decided, some_dec}
@@ -137,7 +138,7 @@ module _ (s n : ℕ) (pos : 0 < n) where
       λ h. subst (λ (x : ℕ). x / 2 ^ m % 2 ≡ 1)
           (round i l) h,
     )
-    holds_repeats (negatedProposition c m) i l = (
+    holds_repeats (negated_proposition c m) i l = (
       λ h. subst (λ (x : ℕ). x / 2 ^ m % 2 ≡ 0) (sym (round i l)) h,
       λ h. subst (λ (x : ℕ). x / 2 ^ m % 2 ≡ 0)
           (round i l) h,
@@ -162,7 +163,7 @@ module _ (s n : ℕ) (pos : 0 < n) where
     holds_dec bottom i = no (λ h. h)
     holds_dec top i = yes tt
     holds_dec (proposition c m) i = ℕ_discrete (w i / 2 ^ m % 2) 1
-    holds_dec (negatedProposition c m) i = ℕ_discrete (w i / 2 ^ m % 2) 0
+    holds_dec (negated_proposition c m) i = ℕ_discrete (w i / 2 ^ m % 2) 0
     holds_dec (conjunction a b) i = go (holds_dec a i) (holds_dec b i)
       where
         go : Dec (Holds w a i) → Dec (Holds w b i) → Dec (Holds w a i × Holds w b i)

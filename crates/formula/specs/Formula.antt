@@ -7,7 +7,7 @@ use Rattle.formula.specs.Rule.{root}
 -- the table of kinds)
 pub data Formula : Type 0 where
   bottom top : Formula
-  proposition negatedProposition : (node p : ℕ) → Formula
+  proposition negated_proposition : (node p : ℕ) → Formula
   conjunction disjunction : Formula → Formula → Formula
   next : (node : ℕ) → Formula → Formula
   until release : (node : ℕ) → Formula → Formula → Formula
@@ -18,7 +18,7 @@ abbrev pub build : (kind n left : ℕ) (a b : Formula) → Formula
 build zero n left a b = bottom
 build (suc zero) n left a b = top
 build (suc (suc zero)) n left a b = proposition n left
-build (suc (suc (suc zero))) n left a b = negatedProposition n left
+build (suc (suc (suc zero))) n left a b = negated_proposition n left
 build (suc (suc (suc (suc zero)))) n left a b = conjunction a b
 build (suc (suc (suc (suc (suc zero))))) n left a b = disjunction a b
 build (suc (suc (suc (suc (suc (suc zero)))))) n left a b = next n a
@@ -49,7 +49,7 @@ unfoldable pub InRange : Formula → Type 0
 InRange bottom = Unit {0}
 InRange top = Unit {0}
 InRange (proposition n p) = p < propositions
-InRange (negatedProposition n p) = p < propositions
+InRange (negated_proposition n p) = p < propositions
 InRange (conjunction a b) = InRange a × InRange b
 InRange (disjunction a b) = InRange a × InRange b
 InRange (next n a) = InRange a

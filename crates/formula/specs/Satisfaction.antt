@@ -3,7 +3,7 @@
 -- letters are skipped, stem and cycle are what remains of them (02, R-9).
 use Rattle.std.specs.Prelude.{ℕ, suc, ◌/◌, ◌%◌, ◌^◌, ◌≤◌, ◌<◌, ◌≡◌, List, ◌⊎◌}
 use Rattle.lasso.specs.Lasso.{letter}
-use Rattle.formula.specs.Formula.{Formula, bottom, top, proposition, negatedProposition, conjunction, disjunction}
+use Rattle.formula.specs.Formula.{Formula, bottom, top, proposition, negated_proposition, conjunction, disjunction}
 use Rattle.formula.specs.Formula.{next, until, release, formula}
 
 -- whether a formula holds at letter i of a word: a proposition where its bit is 1, a negated proposition where it is
@@ -15,7 +15,7 @@ abbrev pub Holds : (word : ℕ → ℕ) → Formula → ℕ → Type 0
 Holds word bottom i = ⊥
 Holds word top i = Unit {0}
 Holds word (proposition n p) i = word i / 2 ^ p % 2 ≡ 1
-Holds word (negatedProposition n p) i = word i / 2 ^ p % 2 ≡ 0
+Holds word (negated_proposition n p) i = word i / 2 ^ p % 2 ≡ 0
 Holds word (conjunction a b) i = Holds word a i × Holds word b i
 Holds word (disjunction a b) i = Holds word a i ⊎ Holds word b i
 Holds word (next n a) i = Holds word a (suc i)

@@ -102,9 +102,9 @@ module _ (first second : List ℕ) where
       merged_stored written after e same is put =
           let may = merge_fine e in
           let long = merged_length first second may.passes may.passes_too in
-          let filled-up =
+          let filled_up =
           filled_as merged written after (conjoined first second) (merged_count first second * 3) is same put in
-          rw (le-leb rule_bytes (length merged) room, e, filled-up)
+          rw (le-leb rule_bytes (length merged) room, e, filled_up)
           (ap (λ (x : ℕ). buffer (accepted x) (filled merged (conjoined first second))) (sym long))
 
     -- what an accepted answer n and the buffer say: the rules may be merged, and the merged rule is at the buffer's start

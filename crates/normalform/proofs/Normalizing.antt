@@ -58,8 +58,8 @@ module _ (rule : List ℕ) (passes : written_check rule ≡ fine) {needed : List
       form_stored written after same is put =
           let long : length (normal_bytes rule) ≡ count * 3 =
           result_length rule (well_written rule passes) ∙ ap (λ (x : ℕ). x * 3) (sym sizes) in
-          let filled-up : after ≡ filled form (normal_bytes rule) = put ∙ rw (is, same) in
-          rw (le-leb (size rule) max_nodes (omega (arith, sizes)), filled-up)
+          let filled_up : after ≡ filled form (normal_bytes rule) = put ∙ rw (is, same) in
+          rw (le-leb (size rule) max_nodes (omega (arith, sizes)), filled_up)
           (ap (λ (x : ℕ). buffer (accepted x) (filled form (normal_bytes rule))) (sym long))
 
 -- ---- any bytes

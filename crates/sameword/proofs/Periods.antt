@@ -30,16 +30,16 @@ module _ (word other : ℕ → ℕ) (s p q : ℕ) (some : 0 < p) (some-other : 0
       go (yes early) less-p less_both less-q = first i early
       go (no late) less-p less_both less-q =
           let back_p : i ≡ i - p + p = omega arith in
-          let back-q : i ≡ i - q + q = omega arith in
-          let p-then-q : i - p ≡ i - p - q + q = omega arith in
-          let q-then-p : i - q ≡ i - p - q + p = omega arith in
+          let back_q : i ≡ i - q + q = omega arith in
+          let p_then_q : i - p ≡ i - p - q + q = omega arith in
+          let q_then_p : i - q ≡ i - p - q + p = omega arith in
           ap word back_p ∙ round (i - p) (omega arith)
           ∙ less-p (omega arith)
-          ∙ ap other p-then-q ∙ round-other (i - p - q) (omega arith)
+          ∙ ap other p_then_q ∙ round-other (i - p - q) (omega arith)
           ∙ sym (less_both (omega arith))
-          ∙ sym (ap word q-then-p ∙ round (i - p - q) (omega arith))
+          ∙ sym (ap word q_then_p ∙ round (i - p - q) (omega arith))
           ∙ less-q (omega arith)
-          ∙ sym (ap other back-q ∙ round-other (i - q) (omega arith))
+          ∙ sym (ap other back_q ∙ round-other (i - q) (omega arith))
 
   periods_agree : (i : ℕ) → word i ≡ other i
   periods_agree i = agree_below (suc i) i (omega arith)

@@ -12,7 +12,8 @@ use lib.Dec.{ltb}
 use lib.Bits.{bit_or}
 use borrow.Author.Count.{below_more}
 use Rattle.sets.proofs.Inserts.{union_shorter, product_shorter}
-use Rattle.formula.specs.Formula.{Formula, bottom, top, proposition, negatedProposition, conjunction, disjunction, next}
+use Rattle.formula.specs.Formula.{Formula, bottom, top, proposition, negated_proposition, conjunction, disjunction}
+use Rattle.formula.specs.Formula.{next}
 use Rattle.formula.specs.Formula.{until, release, build, tree}
 use Rattle.term.specs.Limits.{max_terms}
 use Rattle.term.specs.Term.{cover}
@@ -23,7 +24,7 @@ unfolding cover_bound
 bounds bottom = omega arith
 bounds top = omega arith
 bounds (proposition n p) = omega arith
-bounds (negatedProposition n p) = omega arith
+bounds (negated_proposition n p) = omega arith
 bounds (conjunction a b) = omega (arith, one-le-mul (bounds a).0 (bounds b).0)
 bounds (disjunction a b) = omega (arith, bounds a)
 bounds (next n a) = omega arith
@@ -39,7 +40,7 @@ unfolding cover_bound cover
 cover_bounded bottom le = omega arith
 cover_bounded top le = omega arith
 cover_bounded (proposition n p) le = omega arith
-cover_bounded (negatedProposition n p) le = omega arith
+cover_bounded (negated_proposition n p) le = omega arith
 cover_bounded (conjunction a b) le =
     let few = factors_few (cover_bound a) (cover_bound b) (bounds a).0 (bounds b).0 (omega arith) in
     omega (

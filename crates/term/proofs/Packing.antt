@@ -15,7 +15,8 @@ use Rattle.sets.specs.Sets.{insert_n, union_n, insert_join_n, insert_joins_n, in
 use Rattle.sets.specs.Sets.{join_conflicts, product_conflicts, join_conflicts_n, product_conflicts_n}
 use Rattle.sets.proofs.Members.{All}
 use Rattle.formula.specs.Limits.{propositions}
-use Rattle.formula.specs.Formula.{Formula, bottom, top, proposition, negatedProposition, conjunction, disjunction, next}
+use Rattle.formula.specs.Formula.{Formula, bottom, top, proposition, negated_proposition, conjunction, disjunction}
+use Rattle.formula.specs.Formula.{next}
 use Rattle.formula.specs.Formula.{until, release, InRange}
 use Rattle.term.specs.Term.{Term, term, less_then, less, joined, conflict, consistent, product, conflicts_between}
 use Rattle.term.specs.Term.{unions, cover, terms}
@@ -226,7 +227,7 @@ terms_numbers bottom m = none
 terms_numbers top m = owing_numbers (0 ∷ [])
 terms_numbers (proposition n p) m =
     more (term (2 ^ p) 0 0) (record { must = omega (arith, pow-lt {j = propositions} m); must_not = omega arith }) none
-terms_numbers (negatedProposition n p) m =
+terms_numbers (negated_proposition n p) m =
     more (term 0 (2 ^ p) 0) (record { must = omega arith; must_not = omega (arith, pow-lt {j = propositions} m) }) none
 terms_numbers (conjunction a b) m =
     canonical of_terms (product_numbers of_terms (terms_numbers a m.0) (terms_numbers b m.1))

@@ -10,7 +10,8 @@ use Rattle.sets.specs.Sets.{insert_product_n, product_conflicts_n}
 use Rattle.sets.proofs.Rising.{Rising, Consistent, union_rises, product_rises, product_zero}
 use Rattle.sets.proofs.Conflicts.{product_apart}
 use Rattle.formula.specs.Limits.{propositions}
-use Rattle.formula.specs.Formula.{Formula, bottom, top, proposition, negatedProposition, conjunction, disjunction, next}
+use Rattle.formula.specs.Formula.{Formula, bottom, top, proposition, negated_proposition, conjunction, disjunction}
+use Rattle.formula.specs.Formula.{next}
 use Rattle.formula.specs.Formula.{until, release, InRange}
 use Rattle.term.specs.Term.{cover, terms}
 use Rattle.term.specs.Memory.{pack, pack_set}
@@ -29,7 +30,7 @@ unfolding cover
 cover_rises bottom = tt
 cover_rises top = one_rises _ (set_drops 0)
 cover_rises (proposition n p) = one_rises _ (set_drops (2 ^ n))
-cover_rises (negatedProposition n p) = one_rises _ (set_drops (2 ^ n))
+cover_rises (negated_proposition n p) = one_rises _ (set_drops (2 ^ n))
 cover_rises (conjunction a b) =
     rw (pack_unions (cover a) (cover b)) (product_rises Consistent kept 0 0 _ _ _ (cover_rises a) (cover_rises b) tt)
 cover_rises (disjunction a b) =
@@ -54,7 +55,7 @@ unfolding terms InRange
 terms_rise bottom m = tt
 terms_rise top m = one_rises _ (set_drops 0)
 terms_rise (proposition n p) m = rw (pack_must (2 ^ p)) (one_rises _ (asking (2 ^ p)))
-terms_rise (negatedProposition n p) m =
+terms_rise (negated_proposition n p) m =
     rw (pack_must_not (2 ^ p)) (one_rises _ (forbidding (2 ^ p) (omega (arith, pow-lt {j = propositions} m))))
 terms_rise (conjunction a b) m =
     rw (pack_conjunction 0 a b m.0 m.1)

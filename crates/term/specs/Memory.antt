@@ -4,7 +4,7 @@ use Rattle.std.specs.Prelude.{ℕ, suc, ◌+◌, ◌*◌, ◌/◌, ◌%◌, ◌�
 use Rattle.std.specs.Prelude.{drop}
 use Rattle.answer.specs.Result.{fine, refused, lowest}
 use Rattle.formula.specs.Formula.{tree, formula, build, InRange, Formula, bottom, top, proposition}
-use Rattle.formula.specs.Formula.{negatedProposition, conjunction, disjunction, next, until, release}
+use Rattle.formula.specs.Formula.{negated_proposition, conjunction, disjunction, next, until, release}
 use Rattle.formula.specs.Rule.{node_count, kind_at, left_at, right_at}
 use Rattle.term.specs.Limits.{max_terms, row_places}
 use Rattle.term.specs.Size.{size_check}
@@ -158,7 +158,7 @@ unfoldable pub cover_bound : Formula → ℕ
 cover_bound bottom = 1
 cover_bound top = 1
 cover_bound (proposition n p) = 1
-cover_bound (negatedProposition n p) = 1
+cover_bound (negated_proposition n p) = 1
 cover_bound (conjunction a b) = min (suc max_terms) (cover_bound a * cover_bound b)
 cover_bound (disjunction a b) = min (suc max_terms) (cover_bound a + cover_bound b)
 cover_bound (next n a) = 1

@@ -3,7 +3,7 @@
 use Rattle.std.specs.Prelude.{ℕ, ◌^◌, List, [], ◌∷◌, map, Bool, true, false, cond, eqb, ltb}
 use Rattle.std.specs.Int.Bits.{bit_and, bit_or}
 use Rattle.sets.specs.Sets.{union, insert_product, product_conflicts}
-use Rattle.formula.specs.Formula.{Formula, bottom, top, proposition, negatedProposition, conjunction}
+use Rattle.formula.specs.Formula.{Formula, bottom, top, proposition, negated_proposition, conjunction}
 use Rattle.formula.specs.Formula.{disjunction, next, until, release}
 
 -- a term: the propositions that a letter must have and those that it must not have, a bit each, and the obligations
@@ -57,7 +57,7 @@ unfoldable pub cover : Formula → List ℕ
 cover bottom = []
 cover top = 0 ∷ []
 cover (proposition n p) = 2 ^ n ∷ []
-cover (negatedProposition n p) = 2 ^ n ∷ []
+cover (negated_proposition n p) = 2 ^ n ∷ []
 cover (conjunction a b) = unions (cover a) (cover b)
 cover (disjunction a b) = union ltb (cover a) (cover b)
 cover (next n a) = 2 ^ n ∷ []
@@ -72,7 +72,7 @@ unfoldable pub terms : Formula → List Term
 terms bottom = []
 terms top = term 0 0 0 ∷ []
 terms (proposition n p) = term (2 ^ p) 0 0 ∷ []
-terms (negatedProposition n p) = term 0 (2 ^ p) 0 ∷ []
+terms (negated_proposition n p) = term 0 (2 ^ p) 0 ∷ []
 terms (conjunction a b) = product (terms a) (terms b)
 terms (disjunction a b) = union less (terms a) (terms b)
 terms (next n a) = map (term 0 0) (cover a)
@@ -85,7 +85,7 @@ unfoldable pub conflicts : Formula → ℕ
 conflicts bottom = 0
 conflicts top = 0
 conflicts (proposition n p) = 0
-conflicts (negatedProposition n p) = 0
+conflicts (negated_proposition n p) = 0
 conflicts (conjunction a b) = bit_or (conflicts_between (terms a) (terms b)) (bit_or (conflicts a) (conflicts b))
 conflicts (disjunction a b) = bit_or (conflicts a) (conflicts b)
 conflicts (next n a) = conflicts a

@@ -358,9 +358,9 @@ module _ {rule : List ℕ} {initial : ℕ} {kepts ends : List ℕ} {r : ℕ} {pa
         length-map pairs_are (state_of rule states pairs_are) ∙ length-map codes pair_of ∙ codes_count in
         let many : written ≡ transition_count automaton.states =
         omega (arith, rows_written.count, transitions_total) in
-        let initial-many : initial ≡ length automaton.initial =
+        let initial_many : initial ≡ length automaton.initial =
         sym (rw (← b.walked_first.begun) (numbers_length initial)) in
-        λ k. record { states = sym states-many k; transitions = many k; initial = initial-many k }
+        λ k. record { states = sym states-many k; transitions = many k; initial = initial_many k }
 
     -- tables filled with these records have the automaton
     pub written_is : length table ≡ length t → (s i s' t' i' : List ℕ)

@@ -13,11 +13,11 @@ use Rattle.normalform.specs.NormalForm.{entry}
 use Rattle.normalform.specs.Memory.{form_kind}
 use Rattle.normalform.proofs.form_kind.Goals as goal
 
-plainKinds : List ℕ
-plainKinds = 0 ∷ 1 ∷ 2 ∷ 3 ∷ 4 ∷ 5 ∷ 6 ∷ 7 ∷ 8 ∷ 1 ∷ 5 ∷ 8 ∷ 7 ∷ []
+plain_kinds : List ℕ
+plain_kinds = 0 ∷ 1 ∷ 2 ∷ 3 ∷ 4 ∷ 5 ∷ 6 ∷ 7 ∷ 8 ∷ 1 ∷ 5 ∷ 8 ∷ 7 ∷ []
 
-negatedKinds : List ℕ
-negatedKinds = 1 ∷ 0 ∷ 3 ∷ 2 ∷ 5 ∷ 4 ∷ 6 ∷ 8 ∷ 7 ∷ 0 ∷ 4 ∷ 7 ∷ 8 ∷ []
+negated_kinds : List ℕ
+negated_kinds = 1 ∷ 0 ∷ 3 ∷ 2 ∷ 5 ∷ 4 ∷ 6 ∷ 8 ∷ 7 ∷ 0 ∷ 4 ∷ 7 ∷ 8 ∷ []
 
 -- whether a table is right at the kinds below n
 right : (s : Bool) (table : List ℕ) → ℕ → Bool
@@ -38,13 +38,13 @@ right_at s table (suc n) e kind lt = go (ℕ_discrete kind n) (right_at s table 
     go (no other) ih = ih (omega arith)
 
 pub returns-then-negated : goal.returns-then-negated
-unfolding right entry negatedKinds
+unfolding right entry negated_kinds
 returns-then-negated c =
     rw (c.wide-i.ensures, c.if-negated.true)
-    (right_at true negatedKinds 13 refl c.args.kind (omega (arith, c.requires)))
+    (right_at true negated_kinds 13 refl c.args.kind (omega (arith, c.requires)))
 
 pub returns : goal.returns
-unfolding right entry plainKinds
+unfolding right entry plain_kinds
 returns c =
     rw (c.wide-i.ensures, c.if-negated.false)
-    (right_at false plainKinds 13 refl c.args.kind (omega (arith, c.requires)))
+    (right_at false plain_kinds 13 refl c.args.kind (omega (arith, c.requires)))
