@@ -1,5 +1,5 @@
--- The set of the numbers below n of which a test holds: it is below 2 ^ n, so that which untils a term fulfils is a byte,
--- and has a number exactly if the test holds of it. Assumes nothing.
+-- The set of the numbers below n of which a test holds: it is below 2 ^ n, so that which untils a term fulfils is a
+-- byte, and has a number exactly if the test holds of it. Assumes nothing.
 use mathlib.Core.Path.{◌≡◌, refl, sym, ◌∙◌, ap}
 use mathlib.Core.Bool.{Bool, true, false, cond}
 use mathlib.Core.List.{List}

@@ -1,15 +1,11 @@
 -- How a rule's untils lie in memory, and the tests on packed terms that find which of them a term fulfils.
-use Rattle.std.specs.Prelude.{ℕ, ◌≡◌, List, [], ◌∷◌, Bool, cond, not, ◌&&◌, ◌||◌, take, eqb}
+use Rattle.std.specs.Prelude.{ℕ, ◌≡◌, List, Bool, not, ◌&&◌, ◌||◌, take}
 use Rattle.sets.specs.Sets.{any}
 use Rattle.sets.specs.Bits.{has}
 use Rattle.answer.specs.Result.{fine}
 use Rattle.formula.specs.Rule.{node_count, checked, untils}
 use Rattle.term.specs.Memory.{obligations_n, TermTable}
 use Rattle.acceptance.specs.Acceptance.{within, until_count}
-
--- node i of that kind, if it is an until
-abbrev pub own_until : (kind i : ℕ) → List ℕ
-own_until kind i = cond (eqb kind 7) (i ∷ []) []
 
 -- the first count of nodes are the untils of a rule
 pub record IsUntils (rule nodes : List ℕ) (count : ℕ) : Type 0 where

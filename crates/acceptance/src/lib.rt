@@ -2,53 +2,37 @@
 // the untils.
 #![tactic(auto)]
 
-ghost use Rattle.std.specs.Prelude.{◌≡◌, cond, ◌++◌, map, ◌+◌, ◌*◌, ◌^◌, ◌≤◌, ◌<◌, length, get_or, take};
-ghost use Rattle.answer.specs.Result.{fine};
-ghost use Rattle.formula.specs.Limits.{max_nodes, max_untils};
-ghost use Rattle.formula.specs.Rule.{checked};
+ghost use Rattle.std.specs.Prelude.{◌≡◌, map, ◌+◌, ◌*◌, ◌≤◌, ◌<◌, length, get_or};
+ghost use Rattle.formula.specs.Limits.{max_nodes};
 ghost use Rattle.sets.specs.Bits.{has};
 ghost use Rattle.term.specs.Limits.{row_places};
 ghost use Rattle.term.specs.Memory.{obligations_n, unpack, row_of};
 ghost use Rattle.acceptance.specs.Acceptance.{fulfilment};
-ghost use Rattle.acceptance.specs.Memory.{own_until, IsUntils, Known, shows_n, fulfils_n};
+ghost use Rattle.acceptance.specs.Memory.{IsUntils, Known, shows_n, fulfils_n};
+
+use formula::{Kind, Rule};
 
 // The nodes of a rule's untils, rising, and how many they are.
 #[derive(Clone, Copy)]
 pub struct Untils {
     pub count: usize,
-    pub nodes: [usize; 8],
-}
-
-// Node i, if it is an until, stored after the first count of nodes; how many there are then.
-fn add_until(kind: u8, i: usize, nodes: &mut [usize], count: usize) -> usize
-    requires { count + length (own_until kind i) ≤ length nodes.old }
-    ensures nodes_after { take result nodes.new ≡ take count nodes.old ++ own_until kind i }
-    ensures value { result ≡ count + length (own_until kind i) }
-{
-    if kind == formula::UNTIL {
-        nodes[count] = i;
-        return count + 1;
-    }
-    count
+    pub nodes: [usize; formula::MAX_UNTILS],
 }
 
 // The untils of a rule that 1 to 7 let pass.
-pub fn untils_of(rule: &[u8]) -> Untils
-    requires { checked rule.now ≡ fine }
-    ensures { IsUntils rule.now result.nodes result.count }
+#[tactic(auto, using(crate::proofs::Gathering::gather_fits, crate::proofs::Gathering::gather_ends))]
+pub fn untils_of(rule: &Rule<'_>) -> Untils
+    ensures { IsUntils rule.now.bytes.now result.nodes result.count }
 {
-    let n = rule.len() / 3;
-    let mut nodes = [0usize; formula::MAX_UNTILS];
+    let mut nodes = [0; formula::MAX_UNTILS];
     let mut count = 0;
-    let mut i = 0;
-    while i < n {
-        count = add_until(formula::kind_of(rule, i), i, &mut nodes, count);
-        i += 1;
+    for i in 0..rule.count() {
+        if rule.kind(i) == Kind::Until {
+            nodes[count] = i;
+            count += 1;
+        }
     }
-    Untils {
-        count: count,
-        nodes: nodes,
-    }
+    Untils { count, nodes }
 }
 
 // Whether f is among the obligations of t.
@@ -72,17 +56,7 @@ fn fulfils(f: usize, us: &[u64], t: u64) -> bool
     requires { f < max_nodes }
     ensures { result ≡ fulfils_n f us.now t }
 {
-    if !owes(t, f) {
-        return true;
-    }
-    let mut i = 0;
-    while i < us.len() {
-        if shows(f, t, us[i]) {
-            return true;
-        }
-        i += 1;
-    }
-    false
+    !owes(t, f) || us.iter().any(|u| shows(f, t, *u))
 }
 
 // Whether t fulfils f, whose terms stand in its row of the table.
@@ -96,40 +70,25 @@ fn fulfils_node(table: &[u64], f: usize, t: u64) -> bool
     fulfils(f, &table[from..from + count], t)
 }
 
-// The byte, in which no bit from k on is set, with bit k if so is asked.
-fn with_bit(byte: u8, k: usize, set: bool) -> u8
-    requires { (k < max_untils) × (byte < 2 ^ k) }
-    ensures { result ≡ byte + cond set (2 ^ k) 0 }
-{
-    if set { byte + (1u8 << k) } else { byte }
-}
-
-// Which untils t fulfils, of those that are the first count of nodes.
-fn fulfilment(rule: &[u8], table: &[u64], nodes: &[usize], count: usize, t: u64) -> u8
-    requires { Known rule.now table.now nodes.now count }
+// Which untils t fulfils, of those whose nodes these are: bit k stands for the one of nodes[k].
+fn fulfilment(rule: &[u8], table: &[u64], nodes: &[usize], t: u64) -> u8
+    requires { Known rule.now table.now nodes.now (length nodes.now) }
     ensures { result ≡ fulfilment rule.now (unpack t) }
 {
     let mut byte = 0;
-    let mut k = 0;
-    while k < count {
-        byte = with_bit(byte, k, fulfils_node(table, nodes[k], t));
-        k += 1;
+    for (k, node) in nodes.iter().enumerate() {
+        byte |= u8::from(fulfils_node(table, *node, t)) << k;
     }
     byte
 }
 
-// Which untils each of the first n of ts fulfils, a byte each.
-pub fn fulfil(rule: &[u8], table: &[u64], untils: Untils, ts: &[u64], n: usize, bytes: &mut [u8])
-    requires { (n ≤ length ts.now) × (n ≤ length bytes.old)
-        × Known rule.now table.now untils.nodes untils.count }
-    ensures { take n bytes.new
-        ≡ map (fulfilment rule.now) (map unpack (take n ts.now)) }
+// Which untils each of ts fulfils, a byte each.
+pub fn fulfil(rule: &[u8], table: &[u64], untils: &Untils, ts: &[u64], bytes: &mut [u8])
+    requires { (length bytes.old ≡ length ts.now) × Known rule.now table.now untils.now.nodes untils.now.count }
+    ensures { bytes.new ≡ map (fulfilment rule.now) (map unpack ts.now) }
 {
-    let count = untils.count;
-    let nodes = untils.nodes;
-    let mut i = 0;
-    while i < n {
-        bytes[i] = fulfilment(rule, table, &nodes, count, ts[i]);
-        i += 1;
+    let nodes = &untils.nodes[..untils.count];
+    for (i, t) in ts.iter().enumerate() {
+        bytes[i] = fulfilment(rule, table, nodes, *t);
     }
 }

@@ -4,4 +4,4 @@ pub mod Results
 pub mod Storing
 pub mod Zeros
 pub mod Filling
-pub mod InARow
+pub mod Numbers

@@ -4,7 +4,8 @@ use Prim.Native.Nat.{ℕ, zero, suc, ◌+◌, ◌≤◌, ◌<◌}
 use native.Mathlib.Decide.{ℕ_discrete}
 use native.Mathlib.Numerals.{add-one}
 use native.Mathlib.Omega.{arith}
-use Rattle.answer.specs.Result.{accepted, refused, and_then, Check, fine, lowest}
+use mathlib.Core.Bool.{true, false≢true}
+use Rattle.answer.specs.Result.{accepted, refused, and_then, Check, fine, lowest, passes}
 
 -- a refusal is no acceptance
 pub not_fine : {A : Type 0} {number place : ℕ} → ◌≡◌ {A = Check} (refused number place) fine → A
@@ -83,3 +84,23 @@ pub lowest_all : (check : ℕ → Check) (n : ℕ) → ((k : ℕ) → k < n → 
 unfolding lowest
 lowest_all check zero h = refl
 lowest_all check (suc n) h = rw (lowest_all check n (λ k l. h k (omega arith))) (h n (omega arith))
+
+-- a turn of such a loop: nothing is checked before it begins, a fine check is passed, a refusal is the lowest
+pub turn_begins : (check : ℕ → Check) → lowest check 0 ≡ fine
+unfolding lowest
+turn_begins check = refl
+
+pub turn_passes : (check : ℕ → Check) (i : ℕ) → lowest check i ≡ fine → fine ≡ check i → lowest check (i + 1) ≡ fine
+unfolding lowest
+turn_passes check i before here = rw (add-one, before) (sym here)
+
+pub turn_fails : (check : ℕ → Check) (n i : ℕ) {number place : ℕ} → i < n → lowest check i ≡ fine
+    → refused number place ≡ check i → refused number place ≡ lowest check n
+turn_fails check n i lt before here = lowest_found check i n lt before here
+
+-- a fine answer passes, and the other way round
+pub passes_fine : (c : Check) → passes c ≡ true → c ≡ fine
+passes_fine (accepted u) e = refl
+passes_fine (refused number place) e = absurd (false≢true e)
+
+pub ruleset turns = (turn_begins, turn_passes, turn_fails)

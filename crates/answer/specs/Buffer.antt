@@ -1,13 +1,6 @@
 -- What a call that stores bytes in a lent buffer comes to: how many, or a refusal, and the buffer.
 use Rattle.std.specs.Prelude.{ℕ, List}
-use Rattle.answer.specs.declared.Stored.{Stored}
-use Rattle.answer.specs.declared.Stored.TheVariants.{Accepted, Refused}
-use Rattle.answer.specs.Result.{Result, accepted, refused}
-
--- what the answer says in document 01's numbers and values
-abbrev pub stored_answer : Stored → Result ℕ
-stored_answer (Accepted n) = accepted n
-stored_answer (Refused number place) = refused number place
+use Rattle.answer.specs.Result.{Result}
 
 -- an answer, and the lent buffer afterwards
 pub record Buffer : Type 0 where

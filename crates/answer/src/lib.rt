@@ -2,32 +2,87 @@
 // and copies.
 #![tactic(auto)]
 
-ghost use Rattle.std.specs.Prelude.{◌≡◌, ◌++◌, ◌+◌, ◌<◌, ◌≤◌, length, take, drop, replicate};
+ghost use Rattle.std.specs.Prelude.{ℕ, ◌≡◌, ◌++◌, ◌+◌, ◌<◌, ◌≤◌, length, take, drop, replicate};
 ghost use Rattle.std.proofs.lemmas.List.Edits.{sets};
 ghost use Rattle.answer.specs.Bytes.{two_bytes, number, number_at, filled};
+ghost use Rattle.answer.specs.Result.{reason_number, require, lowest, answer, Checks};
 
-// The number of document 01 for a lent table, image buffer or working bytes that are too short.
-pub const TABLE_TOO_SHORT: u8 = 25;
+use std::error::Error;
+use std::fmt;
 
-// The answer of a check: accepted, or a refusal's number and place.
-#[derive(Clone, Copy)]
-pub enum Checked {
-    Accepted,
-    Refused(u8, usize),
+// Why a call refuses what it was given; each reason has the number of document 01 or 02.
+#[derive(Clone, Copy, Debug, PartialEq, Eq)]
+pub enum Reason {
+    RuleTooLong = 1,
+    BadLength = 2,
+    UnknownKind = 3,
+    BadByte = 4,
+    ChildNotBelow = 5,
+    BadPlaces = 6,
+    TooManyUntils = 7,
+    EmptyCycle = 8,
+    TooManyLetters = 9,
+    BadContents = 10,
+    BadState = 11,
+    BadTransition = 12,
+    BadInitial = 13,
+    TooManyTerms = 20,
+    ProductTooLarge = 21,
+    TooManyTransitions = 22,
+    TooManyStates = 23,
+    TooManyPairs = 24,
+    TableTooShort = 25,
+    TooManyNodes = 26,
+    MergedTooLarge = 27,
+    AllSkipped = 28,
+    HasUntil = 29,
 }
 
-// The answer of a call that stores bytes in a lent buffer: their length, or a refusal's number and place.
-#[derive(Clone, Copy)]
-pub enum Stored {
-    Accepted(usize),
-    Refused(u8, usize),
+impl From<Reason> for u8 {
+    ghost from_gives = { λ reason number. number ≡ reason_number reason };
+
+    fn from(reason: Reason) -> u8 {
+        reason as u8
+    }
 }
 
-// A byte as a number.
-pub fn wide(x: u8) -> usize
-    ensures { result ≡ x }
+// A refusal: its reason and its place.
+#[derive(Clone, Copy, Debug, PartialEq, Eq)]
+pub struct Refusal {
+    pub reason: Reason,
+    pub place: usize,
+}
+
+// As programs print it.
+impl fmt::Display for Refusal {
+    fn fmt<W: fmt::Write>(&self, f: &mut fmt::Formatter<W>) -> fmt::Result {
+        write!(f, "refused {} place {}", u8::from(self.reason), self.place)
+    }
+}
+
+impl Error for Refusal {}
+
+// Fine where the test holds, else refused for this reason at this place.
+pub fn require(test: bool, reason: Reason, place: usize) -> Result<(), Refusal>
+    ensures { answer result ≡ require test (reason_number reason) place }
 {
-    x as usize
+    if test {
+        Ok(())
+    } else {
+        Err(Refusal { reason, place })
+    }
+}
+
+// The checks of 0 to n - 1 in turn, up to the first that refuses.
+#[tactic(auto, using(crate::proofs::Lowest::turns))]
+pub fn first_refused<F: Fn(usize) -> Result<(), Refusal>>(n: usize, check: F) -> Result<(), Refusal>
+    requires { (i : ℕ) → i < n → F.pre check i }
+    ensures { (checks : _) → Checks (F.post check) checks n → answer result ≡ lowest checks n }
+{
+    for i in 0..n {
+        check(i)?;
+    }
+    Ok(())
 }
 
 // The number in two bytes, low byte first.
@@ -35,7 +90,7 @@ pub fn number_of(low: u8, high: u8) -> usize
     ensures value { result ≡ number low high }
     ensures within { result ≤ 65535 }
 {
-    wide(low) + 256 * wide(high)
+    usize::from(u16::from_le_bytes([low, high]))
 }
 
 // The number at index i, low byte first.
@@ -47,23 +102,19 @@ pub fn number_at(bytes: &[u8], i: usize) -> usize
 }
 
 // A number of two bytes, low byte first.
+#[tactic(auto, using(crate::proofs::Numbers::high_byte), unfolding(crate::specs::Bytes::two_bytes))]
 pub fn put_number(table: &mut [u8], at: usize, x: usize)
     requires { (at + 2 ≤ length table.old) × (x < 65536) }
     ensures { table.new ≡ sets table.old at (two_bytes x) }
 {
-    table[at] = (x % 256) as u8;
-    table[at + 1] = (x / 256) as u8;
+    table[at..at + 2].copy_from_slice(&(x as u16).to_le_bytes());
 }
 
 // All of a slice set to 0.
 pub fn zero(table: &mut [u8])
     ensures { table.new ≡ replicate (length table.old) 0 }
 {
-    let mut i = 0;
-    while i < table.len() {
-        table[i] = 0;
-        i += 1;
-    }
+    table.fill(0);
 }
 
 // Zeros behind the first n bytes.
@@ -71,29 +122,13 @@ pub fn zero_behind(table: &mut [u8], n: usize)
     requires { n ≤ length table.old }
     ensures { table.new ≡ filled table.old (take n table.old) }
 {
-    zero(&mut table[n..]);
+    table[n..].fill(0);
 }
 
-// The first n bytes of source in the first bytes of target.
-pub fn copy(target: &mut [u8], source: &[u8], n: usize)
-    requires { (n ≤ length target.old) × (n ≤ length source.now) }
-    ensures { target.new ≡ take n source.now ++ drop n target.old }
+// All of source in the first places of target.
+pub fn copy<T: Copy>(target: &mut [T], source: &[T])
+    requires { length source.now ≤ length target.old }
+    ensures { target.new ≡ source.now ++ drop (length source.now) target.old }
 {
-    let mut k = 0;
-    while k < n {
-        target[k] = source[k];
-        k += 1;
-    }
-}
-
-// The first n words of source in the first places of target.
-pub fn copy_words(target: &mut [u64], source: &[u64], n: usize)
-    requires { (n ≤ length target.old) × (n ≤ length source.now) }
-    ensures { target.new ≡ take n source.now ++ drop n target.old }
-{
-    let mut i = 0;
-    while i < n {
-        target[i] = source[i];
-        i += 1;
-    }
+    target[..source.len()].copy_from_slice(source);
 }

@@ -13,17 +13,6 @@ use Rattle.answer.proofs.Results.{require_fine}
 use Rattle.automaton.specs.Limits.{states_bytes, transitions_bytes, initial_bytes}
 use Rattle.automaton.specs.Tables.{lengths_fit, table_check, TablesRoom}
 
--- two orders and a test in a row: the first that fails, or the last
-module _ (a x b y : ℕ) (r : Bool) where
-  pub first_fails : x < a → false ≡ (leb a x && (leb b y && r))
-  first_fails lt = rw (lt-leb a x lt)
-
-  pub second_fails : a ≤ x → y < b → false ≡ (leb a x && (leb b y && r))
-  second_fails le lt = rw (le-leb a x le, lt-leb b y lt)
-
-  pub third_left : a ≤ x → b ≤ y → r ≡ (leb a x && (leb b y && r))
-  third_left le le₂ = rw (le-leb a x le, le-leb b y le₂)
-
 module _ (s t i : List ℕ) where
   abbrev sizes : Bool
   sizes = lengths_fit (length s) (length t) (length i)
@@ -55,9 +44,6 @@ module _ (s t i : List ℕ) where
   pub fine_room : TablesRoom s t i → table_check s t i ≡ fine
   unfolding table_check
   fine_room room = rw (fits_room room)
-
-  pub tables_room : {r : Bool} → r ≡ sizes → not r ≡ false → TablesRoom s t i
-  tables_room {r} e f = room_fits (rw (← e) (not-false r f))
 
 -- a table that was filled is no shorter
 filled_longer : (table bytes : List ℕ) → length table ≤ length (filled table bytes)

@@ -3,8 +3,6 @@ use Rattle.std.specs.Prelude.{ℕ, ◌+◌, ◌≤◌, List, [], ◌∷◌, Bool
 use Rattle.answer.specs.Result.{Result, accepted, refused, Check, require}
 use Rattle.answer.specs.Bytes.{filled}
 use Rattle.automaton.specs.declared.Counts.{Counts as Struct}
-use Rattle.automaton.specs.declared.Counted.{Counted}
-use Rattle.automaton.specs.declared.Counted.TheVariants.{Accepted, Refused}
 use Rattle.automaton.specs.Automaton.{State, Automaton}
 use Rattle.automaton.specs.Records.{state_records, transition_records, initial_records}
 use Rattle.automaton.specs.Limits.{states_bytes, transitions_bytes, initial_bytes}
@@ -13,11 +11,6 @@ use Rattle.automaton.specs.Limits.{states_bytes, transitions_bytes, initial_byte
 -- or read (01, Numbers that come from the state, last paragraph, sentence 2)
 abbrev pub Counts : Type 0
 Counts = Struct
-
--- what counts or a refusal tell in document 01's numbers and values
-abbrev pub told : Counted → Result Counts
-told (Accepted c) = accepted c
-told (Refused number place) = refused number place
 
 unfoldable pub transition_count : List State → ℕ
 transition_count [] = 0

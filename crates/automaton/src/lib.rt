@@ -24,31 +24,18 @@ pub const TRANSITIONS_BYTES: usize = 4 * MAX_TRANSITIONS;
 pub const INITIAL_BYTES: usize = 2 * MAX_INITIAL;
 
 // How many states, transitions and initial numbers an automaton has.
-#[derive(Clone, Copy)]
+#[derive(Clone, Copy, Debug, PartialEq, Eq)]
 pub struct Counts {
     pub states: usize,
     pub transitions: usize,
     pub initial: usize,
 }
 
-// An automaton's counts, or a refusal's number and place: the answer of reading and of checking an image.
-#[derive(Clone, Copy)]
-pub enum Counted {
-    Accepted(Counts),
-    Refused(u8, usize),
-}
-
 // The lengths of three lent tables against 25.
 pub fn tables_fit(states: usize, transitions: usize, initial: usize) -> bool
     ensures { result ≡ lengths_fit states transitions initial }
 {
-    if states < STATES_BYTES {
-        return false;
-    }
-    if transitions < TRANSITIONS_BYTES {
-        return false;
-    }
-    INITIAL_BYTES <= initial
+    STATES_BYTES <= states && TRANSITIONS_BYTES <= transitions && INITIAL_BYTES <= initial
 }
 
 // Whether a transition with these propositions reads the letter, by one test: those that must hold and do not, joined

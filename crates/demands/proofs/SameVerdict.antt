@@ -16,7 +16,8 @@ use Rattle.translation.specs.Translate.{written_translation}
 use Rattle.image.specs.Image.{image_bytes}
 use Rattle.sameword.specs.Words.{SameWord, SameRemaining, compared}
 use Rattle.sameword.proofs.Exactly.{compared_exactly, compared_fine}
-use Rattle.judge.specs.Judge.{work_bytes, Verdict, kept, broken, Finding, verdict_of, Exactly, judged}
+use Rattle.judge.specs.declared.Verdict.TheVariants.{Kept, Broken}
+use Rattle.judge.specs.Judge.{work_bytes, Verdict, Finding, verdict_of, Exactly, judged}
 use Rattle.demands.proofs.Verdict.{verdict_iff_satisfied}
 
 -- one word satisfies the same rules
@@ -31,8 +32,8 @@ one_verdict : (r s : Result Finding) (P : Type 0) → Exactly r P → Exactly s 
 one_verdict r s P e f = go (verdict_of r) refl
   where
     go : (v : Result Verdict) → verdict_of r ≡ v → v ≡ verdict_of s
-    go (accepted kept) said = sym (f.0.1 (e.0.0 said))
-    go (accepted broken) said = sym (f.1.1 (e.1.0 said))
+    go (accepted Kept) said = sym (f.0.1 (e.0.0 said))
+    go (accepted Broken) said = sym (f.1.1 (e.1.0 said))
     go (refused number place) said = absurd (not_none (λ p. never_both (sym said ∙ e.0.1 p)))
       where
         not_none : (P → ⊥) → ⊥

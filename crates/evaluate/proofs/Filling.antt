@@ -240,9 +240,3 @@ module _ {rule stem cycle : List ℕ} {xs : List Bool} {k kind left : ℕ}
         one_more ys _ h
         (either_row stem cycle node.room.some left (left * max_letters) (right * max_letters) xs kind (omega arith) m
         ∙ from_children (omega arith))
-
--- the loop over the nodes, n of them, stands at node k
-pub record FilledTo (rule stem cycle : List ℕ) (before after : List Bool) (n k : ℕ) : Type 0 where
-  pub done : Filled rule stem cycle after k
-  pub size : length after ≡ length before
-  pub within : k ≤ n

@@ -2,16 +2,16 @@
 #![tactic(auto)]
 
 ghost use Rattle.std.specs.Prelude.{◌≡◌, ◌+◌, ◌-◌, ◌*◌, ◌<◌, ◌≤◌, false, length, get_or};
-ghost use Rattle.answer.specs.Result.{fine};
 ghost use Rattle.formula.specs.Limits.{propositions};
-ghost use Rattle.formula.specs.Rule.{node_count, checked};
+ghost use Rattle.formula.specs.Kind.{kind_number};
+ghost use Rattle.formula.specs.Rule.{node_count};
 ghost use Rattle.lasso.specs.Lasso.{letter};
 ghost use Rattle.evaluate.specs.Truth.{sweep, rounds};
 ghost use Rattle.evaluate.specs.Memory.{leaf_here, pair_here, round_here, leaf_step, pair_step, round_step, opening};
 ghost use Rattle.evaluate.specs.Memory.{Swept, RowStored, Filled, Room};
 
-use formula::{AND, OR, PROPOSITION, UNTIL, kind_of, left_of, right_of};
-use lasso::{letter_at, position_after};
+use formula::{Kind, Rule};
+use lasso::Lasso;
 
 // How far apart rows begin: a lasso has at most this many letters.
 pub const STRIDE: usize = lasso::MAX_LETTERS;
@@ -19,158 +19,160 @@ pub const STRIDE: usize = lasso::MAX_LETTERS;
 // How many flags a table has with a row for each node that a rule may have.
 pub const FLAGS: usize = formula::MAX_NODES * STRIDE;
 
+// Where in the table three rows begin: those of a node's children, and behind them the node's own.
+#[derive(Clone, Copy)]
+struct Starts {
+    left: usize,
+    right: usize,
+    own: usize,
+}
+
 // Whether a leaf holds at a letter.
-fn leaf_here(kind: u8, p: usize, x: u8) -> bool
-    requires { 1 < kind → p < propositions }
-    ensures { result ≡ leaf_here kind p x }
+fn leaf_here(kind: Kind, p: usize, x: u8) -> bool
+    requires { 1 < kind_number kind → p < propositions }
+    ensures { result ≡ leaf_here (kind_number kind) p x }
 {
-    if kind == formula::FALSE {
-        return false;
+    match kind {
+        Kind::False => false,
+        Kind::True => true,
+        Kind::Proposition => (x >> p) & 1 == 1,
+        _ => (x >> p) & 1 == 0,
     }
-    if kind == formula::TRUE {
-        return true;
-    }
-    let bit = (x >> p) & 1;
-    if kind == PROPOSITION {
-        return bit == 1;
-    }
-    bit == 0
 }
 
 // Whether an and, an or or a next holds at a position.
-fn pair_here(kind: u8, a: bool, b: bool, ahead: bool) -> bool
-    ensures { result ≡ pair_here kind a b ahead }
+fn pair_here(kind: Kind, a: bool, b: bool, ahead: bool) -> bool
+    ensures { result ≡ pair_here (kind_number kind) a b ahead }
 {
-    if kind == AND {
-        return a & b;
+    match kind {
+        Kind::And => a & b,
+        Kind::Or => a | b,
+        _ => ahead,
     }
-    if kind == OR {
-        return a | b;
-    }
-    ahead
 }
 
 // Whether an until, or else a release, holds at a position.
-fn round_here(kind: u8, a: bool, b: bool, next: bool) -> bool
-    ensures { result ≡ round_here kind a b next }
+fn round_here(kind: Kind, a: bool, b: bool, next: bool) -> bool
+    ensures { result ≡ round_here (kind_number kind) a b next }
 {
-    if kind == UNTIL {
-        return b | (a & next);
+    match kind {
+        Kind::Until => b | (a & next),
+        _ => b & (a | next),
     }
-    b & (a | next)
+}
+
+// What is behind the last position in the first round: an until has not come, a release has not been broken.
+fn opening(kind: Kind) -> bool
+    ensures { result ≡ opening (kind_number kind) }
+{
+    kind != Kind::Until
 }
 
 // The row of a leaf.
-fn fill_leaf(kind: u8, p: usize, stem: &[u8], cycle: &[u8], table: &mut [bool], at: usize)
-    requires { (1 < kind → p < propositions)
-        × (at + (length stem.now + length cycle.now) ≤ length table.old) }
-    ensures { Swept (leaf_step kind p stem.now cycle.now) at
-        (length stem.now + length cycle.now) false table.old table.new 0 }
+fn fill_leaf(kind: Kind, p: usize, lasso: &Lasso<'_>, table: &mut [bool], at: usize)
+    requires { (1 < kind_number kind → p < propositions)
+        × (at + (length lasso.now.stem.now + length lasso.now.cycle.now) ≤ length table.old) }
+    ensures { Swept (leaf_step (kind_number kind) p lasso.now.stem.now lasso.now.cycle.now) at
+        (length lasso.now.stem.now + length lasso.now.cycle.now) false table.old table.new 0 }
 {
-    let mut i = stem.len() + cycle.len();
-    while 0 < i {
-        i -= 1;
-        table[at + i] = leaf_here(kind, p, letter_at(stem, cycle, i));
+    for i in (0..lasso.stem.len() + lasso.cycle.len()).rev() {
+        table[at + i] = leaf_here(kind, p, lasso.letter_at(i));
     }
 }
 
-// The row of an and, an or or a next, from the rows that begin at places a and b.
-fn fill_pair(kind: u8, stem: &[u8], cycle: &[u8], table: &mut [bool], a: usize, b: usize, at: usize)
-    requires { (0 < length cycle.now) × (a + (length stem.now + length cycle.now) ≤ at)
-        × (b + (length stem.now + length cycle.now) ≤ at)
-        × (at + (length stem.now + length cycle.now) ≤ length table.old) }
-    ensures { Swept (pair_step kind table.old a b stem.now cycle.now) at
-        (length stem.now + length cycle.now) false table.old table.new 0 }
+// The row of an and, an or or a next, from those of its children.
+fn fill_pair(kind: Kind, lasso: &Lasso<'_>, table: &mut [bool], at: Starts)
+    requires { (0 < length lasso.now.cycle.now)
+        × (at.left + (length lasso.now.stem.now + length lasso.now.cycle.now) ≤ at.own)
+        × (at.right + (length lasso.now.stem.now + length lasso.now.cycle.now) ≤ at.own)
+        × (at.own + (length lasso.now.stem.now + length lasso.now.cycle.now) ≤ length table.old) }
+    ensures { Swept (pair_step (kind_number kind) table.old at.left at.right lasso.now.stem.now lasso.now.cycle.now)
+        at.own (length lasso.now.stem.now + length lasso.now.cycle.now) false table.old table.new 0 }
 {
-    let mut i = stem.len() + cycle.len();
-    while 0 < i {
-        i -= 1;
-        let next = position_after(stem, cycle, i);
-        table[at + i] = pair_here(kind, table[a + i], table[b + i], table[a + next]);
+    for i in (0..lasso.stem.len() + lasso.cycle.len()).rev() {
+        let next = lasso.position_after(i);
+        table[at.own + i] = pair_here(
+            kind,
+            table[at.left + i],
+            table[at.right + i],
+            table[at.left + next],
+        );
     }
 }
 
 // One pass backwards over the row of an until or a release down to position `from`; the flag there.
 fn sweep_back(
-    kind: u8,
+    kind: Kind,
     table: &mut [bool],
-    a: usize,
-    b: usize,
-    at: usize,
+    at: Starts,
     from: usize,
     total: usize,
     behind: bool,
 ) -> bool
-    requires { (from < total) × (a + total ≤ at) × (b + total ≤ at) × (at + total ≤ length table.old) }
-    ensures { (result ≡ get_or (sweep (round_step kind table.old a b) from (total - from) behind) 0 behind)
-        × Swept (round_step kind table.old a b) at total behind
+    requires { (from < total) × (at.left + total ≤ at.own) × (at.right + total ≤ at.own)
+        × (at.own + total ≤ length table.old) }
+    ensures { (result
+        ≡ get_or (sweep (round_step (kind_number kind) table.old at.left at.right) from (total - from) behind) 0 behind)
+        × Swept (round_step (kind_number kind) table.old at.left at.right) at.own total behind
         table.old table.new from }
 {
     let mut next = behind;
-    let mut i = total;
-    while from < i {
-        i -= 1;
-        next = round_here(kind, table[a + i], table[b + i], next);
-        table[at + i] = next;
+    for i in (from..total).rev() {
+        next = round_here(kind, table[at.left + i], table[at.right + i], next);
+        table[at.own + i] = next;
     }
     next
 }
 
 // The row of an until or a release: two rounds.
-fn fill_round(
-    kind: u8,
-    stem: &[u8],
-    cycle: &[u8],
-    table: &mut [bool],
-    a: usize,
-    b: usize,
-    at: usize,
-)
-    requires { (0 < length cycle.now) × (a + (length stem.now + length cycle.now) ≤ at)
-        × (b + (length stem.now + length cycle.now) ≤ at)
-        × (at + (length stem.now + length cycle.now) ≤ length table.old) }
-    ensures { RowStored at (length stem.now + length cycle.now)
-        (rounds stem.now cycle.now (round_step kind table.old a b) (opening kind))
+fn fill_round(kind: Kind, lasso: &Lasso<'_>, table: &mut [bool], at: Starts)
+    requires { (0 < length lasso.now.cycle.now)
+        × (at.left + (length lasso.now.stem.now + length lasso.now.cycle.now) ≤ at.own)
+        × (at.right + (length lasso.now.stem.now + length lasso.now.cycle.now) ≤ at.own)
+        × (at.own + (length lasso.now.stem.now + length lasso.now.cycle.now) ≤ length table.old) }
+    ensures { RowStored at.own (length lasso.now.stem.now + length lasso.now.cycle.now)
+        (rounds lasso.now.stem.now lasso.now.cycle.now (round_step (kind_number kind) table.old at.left at.right)
+        (opening (kind_number kind)))
         table.old table.new }
 {
-    let total = stem.len() + cycle.len();
-    let first = sweep_back(kind, table, a, b, at, stem.len(), total, kind != UNTIL);
-    sweep_back(kind, table, a, b, at, 0, total, first);
+    let total = lasso.stem.len() + lasso.cycle.len();
+    let first = sweep_back(kind, table, at, lasso.stem.len(), total, opening(kind));
+    sweep_back(kind, table, at, 0, total, first);
 }
 
 // The row of node k, if those of the nodes below it are there.
-fn fill_node(rule: &[u8], stem: &[u8], cycle: &[u8], table: &mut [bool], k: usize)
-    requires { (checked rule.now ≡ fine) × (k < node_count rule.now)
-        × Room rule.now stem.now cycle.now table.old
-        × Filled rule.now stem.now cycle.now table.old k }
-    ensures { Filled rule.now stem.now cycle.now table.new (k + 1) }
+#[tactic(auto, using(formula::proofs::Accepted::passed_left, formula::proofs::Accepted::passed_right))]
+fn fill_node(rule: &Rule<'_>, lasso: &Lasso<'_>, table: &mut [bool], k: usize)
+    requires { (k < node_count rule.now.bytes.now)
+        × Room rule.now.bytes.now lasso.now.stem.now lasso.now.cycle.now table.old
+        × Filled rule.now.bytes.now lasso.now.stem.now lasso.now.cycle.now table.old k }
+    ensures { Filled rule.now.bytes.now lasso.now.stem.now lasso.now.cycle.now table.new (k + 1) }
 {
-    let kind = kind_of(rule, k);
-    let left = left_of(rule, k);
-    let at = k * STRIDE;
-    if kind < AND {
-        fill_leaf(kind, left, stem, cycle, table, at);
-        return;
+    let kind = rule.kind(k);
+    let left = rule.left(k);
+    let own = k * STRIDE;
+    let at = Starts {
+        left: left * STRIDE,
+        right: rule.right(k) * STRIDE,
+        own,
+    };
+    match kind {
+        Kind::False | Kind::True | Kind::Proposition | Kind::NegatedProposition => {
+            fill_leaf(kind, left, lasso, table, own);
+        }
+        Kind::And | Kind::Or | Kind::Next => fill_pair(kind, lasso, table, at),
+        // An until or a release: a rule that 1 to 7 let pass has no higher kind.
+        _ => fill_round(kind, lasso, table, at),
     }
-    let a = left * STRIDE;
-    let b = right_of(rule, k) * STRIDE;
-    if kind < UNTIL {
-        fill_pair(kind, stem, cycle, table, a, b, at);
-        return;
-    }
-    fill_round(kind, stem, cycle, table, a, b, at);
 }
 
 // The rows of all nodes.
-pub fn fill(rule: &[u8], stem: &[u8], cycle: &[u8], table: &mut [bool])
-    requires { (checked rule.now ≡ fine) × Room rule.now stem.now cycle.now table.old }
-    ensures { Filled rule.now stem.now cycle.now table.new
-        (node_count rule.now) }
+pub fn fill(rule: &Rule<'_>, lasso: &Lasso<'_>, table: &mut [bool])
+    requires { Room rule.now.bytes.now lasso.now.stem.now lasso.now.cycle.now table.old }
+    ensures { Filled rule.now.bytes.now lasso.now.stem.now lasso.now.cycle.now table.new
+        (node_count rule.now.bytes.now) }
 {
-    let n = rule.len() / 3;
-    let mut k = 0;
-    while k < n {
-        fill_node(rule, stem, cycle, table, k);
-        k += 1;
+    for k in 0..rule.count() {
+        fill_node(rule, lasso, table, k);
     }
 }

@@ -18,6 +18,7 @@ use Rattle.formula.specs.Limits.{max_nodes}
 use Rattle.formula.specs.Rule.{checked}
 use Rattle.formula.proofs.Accepted.{accepted_few}
 use Rattle.formula.specs.Satisfaction.{Satisfies}
+use Rattle.explain.specs.declared.Explanation.TheVariants.{Kept, Broken, NeverComes}
 use Rattle.explain.specs.Explain.{Explanation, kept, broken, never_comes, explanation}
 use Rattle.explain.specs.Meaning.{FirstBroken, Meant, Shown, Told}
 use Rattle.explain.specs.Call.{explain_check, as_lent, explained}
@@ -32,10 +33,10 @@ module _ (rule stem cycle : List ℕ) where
   -- what is meant of the letters that remain is told of the lasso as lent
   lent_told : (x : Explanation) → Meant rule (remaining stem) (remaining cycle) x
       → Told rule stem cycle (as_lent stem cycle x)
-  lent_told kept m = m
-  lent_told (broken c i) (first, shown) =
+  lent_told Kept m = m
+  lent_told (Broken c i) (first, shown) =
       record { i = i; at = refl; first = first; shown_at = shown; shows = part_shows stem cycle i shown.inside }
-  lent_told (never_comes c) m = m
+  lent_told (NeverComes c) m = m
 
   module _ (passed : explain_check rule stem cycle ≡ fine) where
     pub rule_fine : checked rule ≡ fine

@@ -12,7 +12,8 @@ use Rattle.lasso.specs.Lasso.{remaining, max_letters}
 use Rattle.normalform.specs.NormalForm.{normal_form}
 use Rattle.normalform.specs.Written.{SatisfiesWritten}
 use Rattle.normalform.proofs.Holds.{normal_form_holds}
-use Rattle.explain.specs.Explain.{Explanation, kept, broken, never_comes}
+use Rattle.explain.specs.declared.Explanation.TheVariants.{Kept, Broken, NeverComes}
+use Rattle.explain.specs.Explain.{Explanation, kept}
 use Rattle.explain.specs.Call.{explained}
 use Rattle.explain.specs.Satisfied.{is_kept, satisfied}
 use Rattle.explain.proofs.Answered.{some, few, passes, kept_iff_satisfied}
@@ -28,9 +29,9 @@ module _ (rule stem cycle : List ℕ) where
       go form normal x told same
     where
       is_kept_lem : (x : Explanation) → is_kept x ≡ true → x ≡ kept
-      is_kept_lem kept e = refl
-      is_kept_lem (broken c i) e = absurd (false≢true e)
-      is_kept_lem (never_comes c) e = absurd (false≢true e)
+      is_kept_lem Kept e = refl
+      is_kept_lem (Broken c i) e = absurd (false≢true e)
+      is_kept_lem (NeverComes c) e = absurd (false≢true e)
 
       go : (form : List ℕ) → normal_form rule ≡ accepted form → (x : Explanation)
           → explained form stem cycle ≡ accepted x

@@ -1,8 +1,9 @@
 -- The call explain: each way out is a check of `explained` or what it tells; and the part that is handed back. The call
 -- satisfies: what is refused of the normal form, or told of it. Assumes nothing.
-use Prim.Native.Nat.{ℕ, ◌+◌, ◌-◌, ◌<◌, ◌≤◌}
+use Prim.Native.Nat.{ℕ, ◌+◌, ◌-◌, ◌<◌, ◌≤◌, min}
+use native.Mathlib.Decide.{dec_lt}
 use mathlib.Core.Path.{◌≡◌, refl, sym, ◌∙◌, ap}
-use mathlib.Core.List.{List, []}
+use mathlib.Core.List.{List}
 use mathlib.Core.Bool.{Bool}
 use native.Mathlib.Omega.{arith}
 use lib.ListN.{length, take, drop, length-drop, drop_of_length-le}
@@ -15,8 +16,8 @@ use Rattle.formula.specs.Rule.{checked, until_check}
 use Rattle.normalform.specs.NormalForm.{normal_form, written_checked}
 use Rattle.normalform.proofs.Passes.{normal_form_checked}
 use Rattle.explain.specs.Explain.{Explanation, explanation, part_from}
-use Rattle.explain.specs.Call.{explain_check, as_lent, explained, part_of, broken_part}
-use Rattle.explain.specs.Satisfied.{verdict_only, satisfied}
+use Rattle.explain.specs.Call.{explain_check, as_lent, explained}
+use Rattle.explain.specs.Satisfied.{is_kept, verdict_only, satisfied}
 
 module _ (rule stem cycle : List ℕ) where
   pub rule_refused : {number place : ℕ} → ◌≡◌ {A = Check} (refused number place) (checked rule)
@@ -31,35 +32,26 @@ module _ (rule stem cycle : List ℕ) where
   lasso_refused e f = rw (← e, ← f) refl
 
   module _ (passed : checked rule ≡ fine) (within : lasso_check stem cycle ≡ fine) where
-    pub told : accepted (as_lent stem cycle (explanation rule (remaining stem) (remaining cycle)))
+    told : accepted (as_lent stem cycle (explanation rule (remaining stem) (remaining cycle)))
         ≡ explained rule stem cycle
     unfolding explained explain_check
     told = rw (passed, within) refl
 
-    -- the letters that remain, in two lists, are as many as the searches allow
-    module _ {first second : List ℕ} (stem-kept : first ≡ remaining stem) (cycle-kept : second ≡ remaining cycle) where
-      pub letters_fit : (checked rule ≡ fine) × (0 < length second) × (length first + length second ≤ max_letters)
-      letters_fit = (
-        passed,
-        rw cycle-kept (lasso_some stem cycle (sym within)),
-        rw (stem-kept, cycle-kept) (remaining_few stem cycle (lasso_few stem cycle (sym within))),
-      )
+    -- of the letters that remain, in two lists
+    pub letters_told : {first second : List ℕ} → first ≡ remaining stem → second ≡ remaining cycle
+        → {found lent : Explanation} → found ≡ explanation rule first second → lent ≡ as_lent stem cycle found
+        → accepted lent ≡ explained rule stem cycle
+    letters_told stem-kept cycle-kept e f =
+        ap accepted (f ∙ ap (as_lent stem cycle) (e ∙ rw (stem-kept, cycle-kept) refl)) ∙ told
 
-      pub letters_told : {r : Result Explanation}
-          → ((e : Explanation) → accepted (explanation rule first second) ≡ accepted e → r ≡ accepted
-          (as_lent stem cycle e))
-          → r ≡ explained rule stem cycle
-      letters_told h =
-          h (explanation rule (remaining stem) (remaining cycle)) (rw (stem-kept, cycle-kept) refl) ∙ told
-
--- ---- at its index as lent
-
--- what is said of the explanation found is said of every one that the answer tells
-pub lent_by : (stem cycle : List ℕ) {r y : Result Explanation} (x : Explanation) → r ≡ accepted x
-    → y ≡ accepted (as_lent stem cycle x) → (e : Explanation) → r ≡ accepted e → y ≡ accepted (as_lent stem cycle e)
-lent_by stem cycle x known is e told =
-    let same : x ≡ e = cc in
-    is ∙ ap (λ (z : Explanation). accepted (as_lent stem cycle z)) same
+-- those letters are as many as the searches allow
+pub letters_fit : (stem cycle : List ℕ) → lasso_check stem cycle ≡ fine → {first second : List ℕ}
+    → first ≡ remaining stem → second ≡ remaining cycle
+    → (0 < length second) × (length first + length second ≤ max_letters)
+letters_fit stem cycle within stem-kept cycle-kept = (
+  rw cycle-kept (lasso_some stem cycle (sym within)),
+  rw (stem-kept, cycle-kept) (remaining_few stem cycle (lasso_few stem cycle (sym within))),
+)
 
 -- ---- the part
 
@@ -67,30 +59,26 @@ lent_by stem cycle x known is e told =
 whole : (from : ℕ) (xs : List ℕ) → take (length xs - from) (drop from xs) ≡ drop from xs
 whole from xs = take_all (length xs - from) (drop from xs) (omega (arith, length-drop from xs))
 
-pub nothing : (xs : List ℕ) → take (length xs - length xs) (drop (length xs) xs) ≡ []
-nothing xs = whole (length xs) xs ∙ drop-length xs
-
 module _ (stem cycle : List ℕ) (from : ℕ) where
   pub in_stem : from < length stem → take (length stem - from) (drop from stem) ≡ part_from stem cycle from
   unfolding part_from
   in_stem l = whole from stem ∙ sym (rw (lt-ltb from (length stem) l) refl)
 
-  pub in_cycle_lem : length stem ≤ from
-      → take (length cycle - (from - length stem)) (drop (from - length stem) cycle) ≡ part_from stem cycle from
+  pub in_cycle_lem : length stem ≤ from → (at : ℕ) → at ≡ min (from - length stem) (length cycle)
+      → take (length cycle - at) (drop at cycle) ≡ part_from stem cycle from
   unfolding part_from
-  in_cycle_lem l = whole (from - length stem) cycle ∙ sym (rw (le-ltb from (length stem) l) refl)
-
-  pub in_neither : length stem ≤ from → length cycle ≤ from - length stem
-      → take (length cycle - length cycle) (drop (length cycle) cycle) ≡ part_from stem cycle from
-  unfolding part_from
-  in_neither l m =
-      nothing cycle ∙ sym (drop_of_length-le cycle {i =
-      from - length stem} m) ∙ sym (rw (le-ltb from (length stem) l) refl)
-
-pub part_of_lem : (rule stem cycle : List ℕ) (r : Result Explanation) → r ≡ explained rule stem cycle
-    → part_of stem cycle r ≡ broken_part rule stem cycle
-unfolding broken_part
-part_of_lem rule stem cycle r e = ap (part_of stem cycle) e
+  in_cycle_lem l at e =
+      whole at cycle ∙ go (dec_lt (from - length stem) (length cycle))
+      ∙ sym (rw (le-ltb from (length stem) l) refl)
+    where
+      go : Dec (from - length stem < length cycle) → drop at cycle ≡ drop (from - length stem) cycle
+      go (yes m) =
+          let same : at ≡ from - length stem = omega arith in
+          ap (λ (k : ℕ). drop k cycle) same
+      go (no m) =
+          let same : at ≡ length cycle = omega arith in
+          ap (λ (k : ℕ). drop k cycle) same ∙ drop-length cycle
+          ∙ sym (drop_of_length-le cycle {i = from - length stem} (omega arith))
 
 -- ---- the call satisfies
 
@@ -111,7 +99,13 @@ module _ (rule stem cycle : List ℕ) where
       go (accepted form) normal e = late form normal e
       go (refused n p) normal e = let q : ◌≡◌ {A = Result Bool} (refused number place) (refused n p) = cc in q
 
-  pub form_explained : (form : List ℕ) → normal_form rule ≡ accepted form → {r : Result Bool} {x : Result Explanation}
-      → r ≡ verdict_only x → x ≡ explained form stem cycle → r ≡ satisfied rule stem cycle
-  unfolding satisfied
-  form_explained form normal {r} e f = e ∙ ap verdict_only f ∙ sym (rw normal refl)
+  module _ (form : List ℕ) (normal : normal_form rule ≡ accepted form) where
+    pub form_unexplained : {number place : ℕ} → refused number place ≡ explained form stem cycle
+        → refused number place ≡ satisfied rule stem cycle
+    unfolding satisfied
+    form_unexplained e = rw (normal, ← e) refl
+
+    pub form_told : (e : Explanation) {b : Bool} → accepted e ≡ explained form stem cycle → b ≡ is_kept e
+        → accepted b ≡ satisfied rule stem cycle
+    unfolding satisfied
+    form_told e told is = rw (normal, ← told, is) refl

@@ -1,5 +1,5 @@
--- R-11's definitions computed on bytes: what is told, and the part that is handed back, for plans that document 01 calls
--- kept or broken, for skipped letters, a clause under an "and", and refusals. Assumes nothing.
+-- R-11's definitions computed on bytes: what is told, and the part that is handed back, for plans that document 01
+-- calls kept or broken, for skipped letters, a clause under an "and", and refusals. Assumes nothing.
 use Prim.Native.Nat.{ℕ}
 use mathlib.Core.Path.{◌≡◌, refl}
 use mathlib.Core.List.{List, [], ◌∷◌, map}

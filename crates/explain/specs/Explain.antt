@@ -2,11 +2,13 @@
 -- is one that remains. proofs/Named.antt says what is named by the meaning of rules.
 use Rattle.std.specs.Prelude.{ℕ, zero, suc, ◌+◌, ◌-◌, List, [], ◌∷◌, ◌++◌, Bool, cond, not, ◌&&◌, get_or, length, drop}
 use Rattle.std.specs.Prelude.{eqb, ltb}
-use Rattle.std.proofs.Math.Option.{Option, none, some}
+use Rattle.std.specs.Prelude.{Option, None as none, Some as some}
 use Rattle.sets.specs.Sets.{any_below}
 use Rattle.formula.specs.Rule.{root, kind_at, left_at, right_at}
 use Rattle.formula.specs.Formula.{trees}
 use Rattle.evaluate.specs.Truth.{true_at}
+use Rattle.explain.specs.declared.Explanation.{Explanation as Enum}
+use Rattle.explain.specs.declared.Explanation.TheVariants.{Kept, Broken, NeverComes}
 
 -- the clauses of node n of that kind, where a and b are those of its children: of an "and" those of its left side and
 -- then those of its right side, of any other node the node alone (R-11, sentence 2)
@@ -59,10 +61,17 @@ module _ (rule stem cycle : List ℕ) (c : ℕ) where
 
 -- what is told of a lasso: it keeps the rule; it breaks a clause, shown from a letter on; it breaks a clause whose
 -- right side never comes
-pub data Explanation : Type 0 where
-  kept : Explanation
-  broken : (clause from : ℕ) → Explanation
-  never_comes : (clause : ℕ) → Explanation
+abbrev pub Explanation : Type 0
+Explanation = Enum
+
+abbrev pub kept : Explanation
+kept = Kept
+
+abbrev pub broken : (clause from : ℕ) → Explanation
+broken clause from = Broken clause from
+
+abbrev pub never_comes : (clause : ℕ) → Explanation
+never_comes clause = NeverComes clause
 
 abbrev pub shown_from : (clause : ℕ) → Option ℕ → Explanation
 shown_from c none = never_comes c

@@ -7,7 +7,8 @@ use Rattle.place.specs.Place.{place_of}
 use Rattle.formula.specs.Rule.{kind_at, left_at, right_at}
 use Rattle.formula.specs.Formula.{Formula, tree}
 use Rattle.formula.specs.Satisfaction.{Holds, Satisfies}
-use Rattle.explain.specs.Explain.{clauses, Explanation, kept, broken, never_comes, part_from}
+use Rattle.explain.specs.declared.Explanation.TheVariants.{Kept, Broken, NeverComes as Never}
+use Rattle.explain.specs.Explain.{clauses, Explanation, part_from}
 
 -- of a release: the right side does not hold at i, and no letter before i has the left side (R-11, sentence 4)
 abbrev pub Exposed : (word : ℕ → ℕ) (left right : Formula) → ℕ → Type 0
@@ -58,9 +59,9 @@ module _ (rule stem cycle : List ℕ) (c : ℕ) where
 
 -- what an explanation says (R-11, sentence 8)
 abbrev pub Meant : (rule stem cycle : List ℕ) → Explanation → Type 0
-Meant rule stem cycle kept = Satisfies rule stem cycle
-Meant rule stem cycle (broken c i) = FirstBroken rule stem cycle c × ShownAt rule stem cycle c i
-Meant rule stem cycle (never_comes c) = FirstBroken rule stem cycle c × NeverComes rule stem cycle c
+Meant rule stem cycle Kept = Satisfies rule stem cycle
+Meant rule stem cycle (Broken c i) = FirstBroken rule stem cycle c × ShownAt rule stem cycle c i
+Meant rule stem cycle (Never c) = FirstBroken rule stem cycle c × NeverComes rule stem cycle c
 
 -- ---- as it is lent
 
@@ -83,7 +84,7 @@ pub record Shown (rule stem cycle : List ℕ) (c from : ℕ) : Type 0 where
 
 -- what an answer of the call says
 abbrev pub Told : (rule stem cycle : List ℕ) → Explanation → Type 0
-Told rule stem cycle kept = Satisfies rule (remaining stem) (remaining cycle)
-Told rule stem cycle (broken c from) = Shown rule stem cycle c from
-Told rule stem cycle (never_comes c) =
+Told rule stem cycle Kept = Satisfies rule (remaining stem) (remaining cycle)
+Told rule stem cycle (Broken c from) = Shown rule stem cycle c from
+Told rule stem cycle (Never c) =
     FirstBroken rule (remaining stem) (remaining cycle) c × NeverComes rule (remaining stem) (remaining cycle) c

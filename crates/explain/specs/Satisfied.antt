@@ -1,22 +1,15 @@
 -- The call satisfies: whether a lasso satisfies a written rule, by the meaning of rules and with no automaton.
 use Rattle.std.specs.Prelude.{ℕ, List, Bool, true, false}
-use Rattle.answer.specs.Result.{Result, accepted, refused, and_then}
+use Rattle.answer.specs.Result.{Result, accepted, and_then}
 use Rattle.normalform.specs.NormalForm.{normal_form}
-use Rattle.explain.specs.declared.Satisfied.{Satisfied}
-use Rattle.explain.specs.declared.Satisfied.TheVariants.{Kept, Broken, Refused}
-use Rattle.explain.specs.Explain.{Explanation, kept, broken, never_comes}
+use Rattle.explain.specs.declared.Explanation.TheVariants.{Kept, Broken, NeverComes}
+use Rattle.explain.specs.Explain.{Explanation}
 use Rattle.explain.specs.Call.{explained}
 
--- what the answer says: whether the rule is kept
-abbrev pub satisfied_answer : Satisfied → Result Bool
-satisfied_answer Kept = accepted true
-satisfied_answer Broken = accepted false
-satisfied_answer (Refused number place) = refused number place
-
 abbrev pub is_kept : Explanation → Bool
-is_kept kept = true
-is_kept (broken clause from) = false
-is_kept (never_comes clause) = false
+is_kept Kept = true
+is_kept (Broken clause from) = false
+is_kept (NeverComes clause) = false
 
 -- an explanation without what it names
 abbrev pub verdict_only : Result Explanation → Result Bool

@@ -1,233 +1,183 @@
 // Which clause of a rule a lasso breaks, and where.
 #![tactic(auto)]
 
-ghost use Rattle.std.specs.Prelude.{◌≡◌, ◌+◌, ◌*◌, ◌<◌, ◌≤◌, not, ◌&&◌, [], ◌∷◌, length};
-ghost use Rattle.answer.specs.Result.{accepted, fine};
+ghost use Rattle.std.specs.Prelude.{◌≡◌, ◌+◌, ◌*◌, ◌<◌, ◌≤◌, length, take, drop};
+ghost use Rattle.answer.specs.Result.{answer, accepted, fine};
 ghost use Rattle.formula.specs.Limits.{max_nodes};
-ghost use Rattle.formula.specs.Rule.{node_count, checked};
+ghost use Rattle.formula.specs.Rule.{node_count};
 ghost use Rattle.lasso.specs.Lasso.{remaining, max_letters, lasso_check};
 ghost use Rattle.evaluate.specs.Memory.{Filled, Room};
 ghost use Rattle.explain.specs.Explain.{clauses_of, first_failing, first_from, break_at, part_from};
-ghost use Rattle.explain.specs.Explain.{Explanation, explanation};
-ghost use Rattle.explain.specs.Call.{explain_answer, as_lent, explained, broken_part};
-ghost use Rattle.explain.specs.Satisfied.{satisfied_answer, verdict_only, satisfied};
-ghost use Rattle.explain.specs.Memory.{or_none, first, exposed_at, both_fail_at};
+ghost use Rattle.explain.specs.Explain.{explanation};
+ghost use Rattle.explain.specs.Call.{as_lent, explained, broken_part};
+ghost use Rattle.explain.specs.Satisfied.{is_kept, satisfied};
+ghost use Rattle.explain.specs.Memory.{first, exposed_at, both_fail_at};
 
-use answer::{Checked, Stored};
+use answer::Refusal;
 use evaluate::{FLAGS, STRIDE, fill};
-use formula::{AND, MAX_BYTES, UNTIL, kind_of, left_of, right_of};
-use lasso::{MAX_LETTERS, check_lasso, keep_remaining, none_skipped};
+use formula::{Kind, MAX_BYTES, Rule};
+use lasso::{Lasso, MAX_LETTERS, keep_remaining};
 use normalform::check_form;
 use place::place_of;
-
-// A rule has at most this many nodes: this number is none of them.
-const NONE: usize = formula::MAX_NODES;
 
 // Up to so many nodes a rule is explained with a smaller table.
 const FEW_NODES: usize = 8;
 
-// The answer of explain: the lasso keeps the rule; it breaks a clause, which is shown from an index of the stem, or
-// behind the stem's last of the cycle, on; it breaks a clause whose right side never comes; or a refusal's number and
-// place.
-#[derive(Clone, Copy)]
-pub enum Explained {
+// What is told of a lasso: it keeps the rule; it breaks a clause, which is shown from an index of the stem, or behind
+// the stem's last of the cycle, on; or it breaks a clause whose right side never comes.
+#[derive(Clone, Copy, Debug, PartialEq, Eq)]
+pub enum Explanation {
     Kept,
     Broken(usize, usize),
     NeverComes(usize),
-    Refused(u8, usize),
 }
 
-// The answer of satisfies: the lasso keeps the rule or breaks it, or a refusal's number and place.
-#[derive(Clone, Copy)]
-pub enum Satisfied {
-    Kept,
-    Broken,
-    Refused(u8, usize),
-}
-
-// Node n, if it does not hold at position 0.
-fn own_break(table: &[bool], n: usize) -> usize
-    requires { (n < max_nodes) × (n * max_letters < length table.now) }
-    ensures { or_none max_nodes result ≡ first_failing (first table.now) (n ∷ []) }
-{
-    if table[n * STRIDE] {
-        return NONE;
+impl Explanation {
+    // Whether the rule is kept.
+    fn is_kept(self) -> bool
+        ensures { result ≡ is_kept self }
+    {
+        matches!(self, Explanation::Kept)
     }
-    n
 }
 
 // The first clause of node n that does not hold at position 0.
-fn first_broken(rule: &[u8], table: &[bool], n: usize) -> usize
-    requires { (checked rule.now ≡ fine) × (n < node_count rule.now)
-        × (node_count rule.now * max_letters ≤ length table.now) }
-    ensures { or_none max_nodes result
-        ≡ first_failing (first table.now) (clauses_of rule.now n) }
+fn first_broken(rule: &Rule<'_>, table: &[bool], n: usize) -> Option<usize>
+    requires { (n < node_count rule.now.bytes.now)
+        × (node_count rule.now.bytes.now * max_letters ≤ length table.now) }
+    ensures { result ≡ first_failing (first table.now) (clauses_of rule.now.bytes.now n) }
 {
-    let kind = kind_of(rule, n);
-    if kind != AND {
-        return own_break(table, n);
+    if rule.kind(n) != Kind::And {
+        return (!table[n * STRIDE]).then_some(n);
     }
-    let left = left_of(rule, n);
-    let right = right_of(rule, n);
-    let found = first_broken(rule, table, left);
-    if found < NONE {
-        return found;
+    match first_broken(rule, table, rule.left(n)) {
+        None => first_broken(rule, table, rule.right(n)),
+        found => found,
     }
-    first_broken(rule, table, right)
 }
 
-// Whether neither of two flags is set.
-fn both_fail(a: bool, b: bool) -> bool
-    ensures { result ≡ (not a && not b) }
+// The flags of node n at the positions, so many of them.
+fn row(table: &[bool], n: usize, total: usize) -> &[bool]
+    requires { (n < max_nodes) × (n * max_letters + total ≤ length table.now) }
+    ensures { result.now ≡ take total (drop (n * max_letters) table.now) }
 {
-    if a {
-        return false;
-    }
-    !b
+    &table[n * STRIDE..][..total]
 }
 
-// The first position without the right side of which no position before it has the left side; `total` where there is
-// none.
-fn release_break(table: &[bool], a: usize, b: usize, total: usize) -> usize
-    requires { (a + total ≤ length table.now) × (b + total ≤ length table.now) }
-    ensures { or_none total result ≡ first_from (exposed_at table.now a b) 0 total }
+// The first position without the right side of which no position before it has the left side.
+fn release_break(left: &[bool], right: &[bool]) -> Option<usize>
+    requires { length left.now ≡ length right.now }
+    ensures { result ≡ first_from (exposed_at left.now right.now) 0 (length right.now) }
 {
     let mut held = false;
-    let mut i = 0;
-    while i < total {
-        let left = table[a + i];
-        let right = table[b + i];
-        if both_fail(right, held) {
-            return i;
+    for (i, here) in right.iter().enumerate() {
+        if !*here && !held {
+            return Some(i);
         }
-        held = held | left;
-        i += 1;
+        held |= left[i];
     }
-    total
+    None
 }
 
-// The first position where neither side holds; `total` where there is none.
-fn until_break(table: &[bool], a: usize, b: usize, total: usize) -> usize
-    requires { (a + total ≤ length table.now) × (b + total ≤ length table.now) }
-    ensures { or_none total result ≡ first_from (both_fail_at table.now a b) 0 total }
+// The first position where neither side holds.
+fn until_break(left: &[bool], right: &[bool]) -> Option<usize>
+    requires { length left.now ≡ length right.now }
+    ensures { result ≡ first_from (both_fail_at left.now right.now) 0 (length right.now) }
 {
-    let mut i = 0;
-    while i < total {
-        let left = table[a + i];
-        let right = table[b + i];
-        if both_fail(left, right) {
-            return i;
-        }
-        i += 1;
-    }
-    total
+    left.iter()
+        .zip(right)
+        .position(|(left, right)| !*left && !*right)
 }
 
-// Where clause c is broken; the number of positions where its right side never comes.
-fn break_at(rule: &[u8], stem: &[u8], cycle: &[u8], table: &[bool], c: usize) -> usize
-    requires { (checked rule.now ≡ fine) × (c < node_count rule.now)
-        × Room rule.now stem.now cycle.now table.now
-        × Filled rule.now stem.now cycle.now table.now (node_count rule.now) }
-    ensures { or_none (length stem.now + length cycle.now) result
-        ≡ break_at rule.now stem.now cycle.now c }
+// Where clause c is broken; nowhere if its right side never comes.
+fn break_at(rule: &Rule<'_>, lasso: &Lasso<'_>, table: &[bool], c: usize) -> Option<usize>
+    requires { (c < node_count rule.now.bytes.now)
+        × Room rule.now.bytes.now lasso.now.stem.now lasso.now.cycle.now table.now
+        × Filled rule.now.bytes.now lasso.now.stem.now lasso.now.cycle.now table.now (node_count rule.now.bytes.now) }
+    ensures { result ≡ break_at rule.now.bytes.now lasso.now.stem.now lasso.now.cycle.now c }
 {
-    let kind = kind_of(rule, c);
-    if kind < UNTIL {
-        return 0;
+    let total = lasso.stem.len() + lasso.cycle.len();
+    let left = rule.left(c);
+    let right = rule.right(c);
+    match rule.kind(c) {
+        Kind::Until => until_break(row(table, left, total), row(table, right, total)),
+        Kind::Release => release_break(row(table, left, total), row(table, right, total)),
+        _ => Some(0),
     }
-    let a = left_of(rule, c) * STRIDE;
-    let b = right_of(rule, c) * STRIDE;
-    let total = stem.len() + cycle.len();
-    if kind == UNTIL {
-        return until_break(table, a, b, total);
-    }
-    release_break(table, a, b, total)
 }
 
 // The first clause that is broken, and where, of a lasso whose letters all remain, by a table that is filled first.
-fn explain_by(rule: &[u8], stem: &[u8], cycle: &[u8], table: &mut [bool]) -> Explained
-    requires { (checked rule.now ≡ fine) × Room rule.now stem.now cycle.now table.old }
-    ensures { explain_answer result
-        ≡ accepted (explanation rule.now stem.now cycle.now) }
+fn explain_by(rule: &Rule<'_>, lasso: &Lasso<'_>, table: &mut [bool]) -> Explanation
+    requires { Room rule.now.bytes.now lasso.now.stem.now lasso.now.cycle.now table.old }
+    ensures { result ≡ explanation rule.now.bytes.now lasso.now.stem.now lasso.now.cycle.now }
 {
-    fill(rule, stem, cycle, table);
-    let c = first_broken(rule, table, rule.len() / 3 - 1);
-    if NONE <= c {
-        return Explained::Kept;
+    fill(rule, lasso, table);
+    match first_broken(rule, table, rule.count() - 1) {
+        None => Explanation::Kept,
+        Some(c) => match break_at(rule, lasso, table, c) {
+            Some(i) => Explanation::Broken(c, i),
+            None => Explanation::NeverComes(c),
+        },
     }
-    let i = break_at(rule, stem, cycle, table, c);
-    if i < stem.len() + cycle.len() {
-        return Explained::Broken(c, i);
-    }
-    Explained::NeverComes(c)
 }
 
 // The same with a table of its own, a smaller one for a rule of few nodes, so that less is set to false.
-fn explain_letters(rule: &[u8], stem: &[u8], cycle: &[u8]) -> Explained
-    requires { (checked rule.now ≡ fine) × (0 < length cycle.now)
-        × (length stem.now + length cycle.now ≤ max_letters) }
-    ensures { explain_answer result
-        ≡ accepted (explanation rule.now stem.now cycle.now) }
+fn explain_letters(rule: &Rule<'_>, lasso: &Lasso<'_>) -> Explanation
+    requires { (0 < length lasso.now.cycle.now)
+        × (length lasso.now.stem.now + length lasso.now.cycle.now ≤ max_letters) }
+    ensures { result ≡ explanation rule.now.bytes.now lasso.now.stem.now lasso.now.cycle.now }
 {
-    if rule.len() / 3 <= FEW_NODES {
-        let mut few = [false; FEW_NODES * STRIDE];
-        return explain_by(rule, stem, cycle, &mut few);
+    if rule.count() <= FEW_NODES {
+        explain_by(rule, lasso, &mut [false; FEW_NODES * STRIDE])
+    } else {
+        explain_by(rule, lasso, &mut [false; FLAGS])
     }
-    let mut table = [false; FLAGS];
-    explain_by(rule, stem, cycle, &mut table)
 }
 
 // What was found at a position among the letters that remain, s of them in the stem, at its index as lent.
-fn as_lent(found: Explained, stem: &[u8], cycle: &[u8], s: usize) -> Explained
-    requires { (s ≡ length (remaining stem.now)) × (length stem.now + length cycle.now ≤ max_letters) }
-    ensures { (e : Explanation) → explain_answer found ≡ accepted e
-        → explain_answer result ≡ accepted (as_lent stem.now cycle.now e) }
+fn as_lent(found: Explanation, lasso: &Lasso<'_>, s: usize) -> Explanation
+    requires { (s ≡ length (remaining lasso.now.stem.now))
+        × (length lasso.now.stem.now + length lasso.now.cycle.now ≤ max_letters) }
+    ensures { result ≡ as_lent lasso.now.stem.now lasso.now.cycle.now found }
 {
     match found {
-        Explained::Kept => Explained::Kept,
-        Explained::Broken(c, i) => Explained::Broken(c, place_of(stem, cycle, s, i)),
-        Explained::NeverComes(c) => Explained::NeverComes(c),
-        Explained::Refused(number, place) => Explained::Refused(number, place),
+        Explanation::Broken(c, i) => Explanation::Broken(c, place_of(lasso, s, i)),
+        Explanation::Kept | Explanation::NeverComes(_) => found,
     }
 }
 
-// What is told of the letters that remain, where 1 to 9 and 28 refuse nothing.
-fn explain_remaining(rule: &[u8], stem: &[u8], cycle: &[u8]) -> Explained
-    requires { (checked rule.now ≡ fine) × (lasso_check stem.now cycle.now ≡ fine) }
-    ensures { explain_answer result ≡ explained rule.now stem.now cycle.now }
+// What is told of the letters that remain, where 8, 9 and 28 refuse nothing.
+fn explain_remaining(rule: &Rule<'_>, lasso: &Lasso<'_>) -> Explanation
+    requires { lasso_check lasso.now.stem.now lasso.now.cycle.now ≡ fine }
+    ensures { accepted result ≡ explained rule.now.bytes.now lasso.now.stem.now lasso.now.cycle.now }
 {
-    if none_skipped(stem, cycle) {
-        return as_lent(explain_letters(rule, stem, cycle), stem, cycle, stem.len());
+    if lasso.none_skipped() {
+        return as_lent(explain_letters(rule, lasso), lasso, lasso.stem.len());
     }
-    let mut stem_letters = [0u8; MAX_LETTERS];
-    let mut cycle_letters = [0u8; MAX_LETTERS];
-    let s = keep_remaining(stem, &mut stem_letters);
-    let n = keep_remaining(cycle, &mut cycle_letters);
-    let found = explain_letters(rule, &stem_letters[..s], &cycle_letters[..n]);
-    as_lent(found, stem, cycle, s)
+    let mut stem = [0u8; MAX_LETTERS];
+    let mut cycle = [0u8; MAX_LETTERS];
+    let s = keep_remaining(lasso.stem, &mut stem);
+    let n = keep_remaining(lasso.cycle, &mut cycle);
+    let kept = Lasso {
+        stem: &stem[..s],
+        cycle: &cycle[..n],
+    };
+    as_lent(explain_letters(rule, &kept), lasso, s)
 }
 
-// What is told of a lasso, 8, 9 and 28 among it, where 1 to 7 refuse nothing of the rule.
-fn explain_lasso(rule: &[u8], stem: &[u8], cycle: &[u8]) -> Explained
-    requires { checked rule.now ≡ fine }
-    ensures { explain_answer result ≡ explained rule.now stem.now cycle.now }
+// What is told of a lasso, 8, 9 and 28 among it.
+fn explain_lasso(rule: &Rule<'_>, lasso: &Lasso<'_>) -> Result<Explanation, Refusal>
+    ensures { answer result ≡ explained rule.now.bytes.now lasso.now.stem.now lasso.now.cycle.now }
 {
-    let lasso = check_lasso(stem, cycle);
-    if let Checked::Refused(number, place) = lasso {
-        return Explained::Refused(number, place);
-    }
-    explain_remaining(rule, stem, cycle)
+    lasso.check()?;
+    Ok(explain_remaining(rule, lasso))
 }
 
 // The first clause that is broken, and from which index of the lasso as lent it is shown.
-pub fn explain(rule: &[u8], stem: &[u8], cycle: &[u8]) -> Explained
-    ensures { explain_answer result ≡ explained rule.now stem.now cycle.now }
+pub fn explain(rule: &[u8], lasso: &Lasso<'_>) -> Result<Explanation, Refusal>
+    ensures { answer result ≡ explained rule.now lasso.now.stem.now lasso.now.cycle.now }
 {
-    let bytes = formula::check(rule);
-    if let Checked::Refused(number, place) = bytes {
-        return Explained::Refused(number, place);
-    }
-    explain_lasso(rule, stem, cycle)
+    explain_lasso(&Rule::parse(rule)?, lasso)
 }
 
 // The letters from an index on, to the end of the stem or of the cycle.
@@ -235,49 +185,28 @@ pub fn part_from<'a>(stem: &'a [u8], cycle: &'a [u8], from: usize) -> &'a [u8]
     ensures { result.now ≡ part_from stem.now cycle.now from }
 {
     if from < stem.len() {
-        return &stem[from..];
+        &stem[from..]
+    } else {
+        &cycle[(from - stem.len()).min(cycle.len())..]
     }
-    let at = from - stem.len();
-    if at < cycle.len() {
-        return &cycle[at..];
-    }
-    &cycle[cycle.len()..]
 }
 
 // The part of the stem or of the cycle that shows the grower where the rule is broken.
+#[tactic(auto, unfolding(crate::specs::Call::broken_part))]
 pub fn broken_part<'a>(rule: &[u8], stem: &'a [u8], cycle: &'a [u8]) -> &'a [u8]
     ensures { result.now ≡ broken_part rule.now stem.now cycle.now }
 {
-    match explain(rule, stem, cycle) {
-        Explained::Broken(_, from) => part_from(stem, cycle, from),
-        Explained::Kept => &cycle[cycle.len()..],
-        Explained::NeverComes(_) => &cycle[cycle.len()..],
-        Explained::Refused(_, _) => &cycle[cycle.len()..],
-    }
-}
-
-// Whether the rule is kept, of what was explained.
-fn verdict_only(found: Explained) -> Satisfied
-    ensures { satisfied_answer result ≡ verdict_only (explain_answer found) }
-{
-    match found {
-        Explained::Kept => Satisfied::Kept,
-        Explained::Broken(_, _) => Satisfied::Broken,
-        Explained::NeverComes(_) => Satisfied::Broken,
-        Explained::Refused(number, place) => Satisfied::Refused(number, place),
+    match explain(rule, &Lasso { stem, cycle }) {
+        Ok(Explanation::Broken(_, from)) => part_from(stem, cycle, from),
+        _ => &[],
     }
 }
 
 // Whether a lasso satisfies a written rule, also one that translating refuses by 20 to 24.
-pub fn satisfies(rule: &[u8], stem: &[u8], cycle: &[u8]) -> Satisfied
-    ensures { satisfied_answer result ≡ satisfied rule.now stem.now cycle.now }
+pub fn satisfies(rule: &[u8], lasso: &Lasso<'_>) -> Result<bool, Refusal>
+    ensures { answer result ≡ satisfied rule.now lasso.now.stem.now lasso.now.cycle.now }
 {
     let mut form = [0u8; MAX_BYTES];
-    match check_form(rule, &mut form) {
-        Stored::Refused(number, place) => Satisfied::Refused(number, place),
-        Stored::Accepted(n) => {
-            let found = explain_lasso(&form[..n], stem, cycle);
-            verdict_only(found)
-        }
-    }
+    let n = check_form(rule, &mut form)?;
+    Ok(explain_lasso(&Rule::new(&form[..n]), lasso)?.is_kept())
 }

@@ -2,7 +2,7 @@
 use Prim.Native.Nat.{ℕ, suc, ◌+◌, ◌-◌, ◌*◌, ◌/◌, ◌%◌, ◌^◌, ◌<◌, ◌≤◌}
 use mathlib.Core.Path.{◌≡◌, refl, sym, ◌∙◌, ap, fun_ext, subst}
 use mathlib.Core.List.{List, [], ◌∷◌, ◌++◌}
-use mathlib.Core.Bool.{Bool, true, false, not, ◌&&◌, ◌||◌, or-false}
+use mathlib.Core.Bool.{Bool, true, false, ◌&&◌, ◌||◌, or-false}
 use native.Mathlib.Omega.{arith}
 use native.Mathlib.Numerals.{add-one}
 use native.Mathlib.Decide.{ℕ_discrete}
@@ -10,7 +10,7 @@ use lib.ListN.{get_or, length, drop, set, length-set}
 use lib.Seq.{get_or-set_same, get_or-set_other}
 use lib.Bits.{bit_or, or_zero_r}
 use lib.Dec.{eqb}
-use borrow.Author.Tests.{ne_eqb, not-true, not-false}
+use borrow.Author.Tests.{ne_eqb}
 use Rattle.answer.specs.Bytes.{number_at}
 use Rattle.sets.specs.Sets.{any, any_below}
 use Rattle.sets.proofs.Bits.{or_assoc}
@@ -72,34 +72,19 @@ added_then {x} {y} {z} {f} {g} first second = record {
       ∙ ap (bit_or (get_or x k 0)) (bits_or f g (8 * k) 8);
 }
 
--- states that join only if a condition holds; the code asks whether it does not
-module _ (x : List ℕ) (r condition : Bool) (is : r ≡ condition) (test : ℕ → Bool) where
-  pub added_unless : not r ≡ true → Added x x (λ q. condition && test q)
-  added_unless f = added_none x _ (λ q. rw (← is, not-true r f) refl)
+-- states that join only if a condition holds
+module _ (x : List ℕ) {condition : Bool} (test : ℕ → Bool) where
+  pub added_unless : condition ≡ false → Added x x (λ q. condition && test q)
+  added_unless e = added_none x _ (λ q. rw e refl)
 
-  pub added_if : (y : List ℕ) → not r ≡ false → Added x y test → Added x y (λ q. condition && test q)
-  added_if y f added = added_as (λ q. sym (rw (← is, not-false r f) refl)) added
+  pub added_if : (y : List ℕ) → condition ≡ true → Added x y test → Added x y (λ q. condition && test q)
+  added_if y e added = added_as (λ q. sym (rw e refl)) added
 
--- ---- a loop of `count` turns: before turn i the states that pass `tests i` have joined
-module _ (tests : ℕ → ℕ → Bool) (count : ℕ) (x : List ℕ) where
-  pub record Adding (y : List ℕ) (i : ℕ) : Type 0 where
-    pub within : i ≤ count
-    pub so_far : Added x y (tests i)
-
-  pub adding_begins : ((q : ℕ) → tests 0 q ≡ false) → Adding x 0
-  adding_begins none = record { within = omega arith; so_far = added_none x (tests 0) none }
-
-  pub adding_steps : (y z : List ℕ) (i : ℕ) (one : ℕ → Bool) → i < count
-      → ((q : ℕ) → tests (suc i) q ≡ (tests i q || one q)) → Adding y i → Added y z one → Adding z (i + 1)
-  adding_steps y z i one lt more inv added = record {
-    within = omega arith;
-    so_far = rw (add-one i) (added_as (λ q. sym (more q)) (added_then inv.so_far added));
-  }
-
-  pub adding_ends : (y : List ℕ) (i : ℕ) → count ≤ i → Adding y i → Added x y (tests count)
-  adding_ends y i le inv =
-      let e : i ≡ count = omega (arith, inv.within) in
-      rw e at inv.so_far
+-- a turn of a loop before which the states that pass `tests i` have joined
+pub added_next : {x y z : List ℕ} (tests : ℕ → ℕ → Bool) (i : ℕ) {one : ℕ → Bool}
+    → ((q : ℕ) → tests (suc i) q ≡ (tests i q || one q)) → Added x y (tests i) → Added y z one
+    → Added x z (tests (i + 1))
+added_next tests i more first then = rw (add-one i) (added_as (λ q. sym (more q)) (added_then first then))
 
 -- ---- which states have joined before turn i
 

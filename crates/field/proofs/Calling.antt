@@ -1,98 +1,50 @@
--- The calls start and step: each way out is what `started` or `stepped` says, with the lent set. Assumes nothing.
+-- The calls on a lent set: what is left in it, and the answer; and what parsing an image tells. Assumes nothing.
 use Prim.Native.Nat.{ℕ, ◌<◌, ◌≤◌}
+use Rattle.std.specs.Prelude.{Result as Returned, Ok, Err, IfOk}
 use mathlib.Core.Path.{◌≡◌, refl, sym, ◌∙◌, ap}
 use mathlib.Core.List.{List}
-use mathlib.Core.Bool.{Bool, not}
-use lib.ListN.{length}
-use lib.Dec.{leb}
-use borrow.Author.Tests.{leb-true, le-leb, lt-leb, lt-ltb, le-ltb}
-use Rattle.answer.specs.Result.{Result, accepted, refused, and_then, Check, fine, require}
+use mathlib.Core.Bool.{Bool}
+use borrow.Author.Tests.{lt-ltb, le-ltb}
+use Rattle.answer.specs.Result.{accepted}
 use Rattle.answer.specs.Bytes.{filled}
-use Rattle.answer.proofs.Results.{require_fine, never_both, then_accepted}
 use Rattle.lasso.specs.Lasso.{skipped}
-use Rattle.sets.specs.Sets.{any_below}
 use Rattle.automaton.specs.Automaton.{Automaton}
-use Rattle.automaton.specs.Tables.{Counts}
-use Rattle.image.specs.Reader.{counts_at}
-use Rattle.image.specs.Lookup.{image_automaton, Readable}
+use Rattle.image.specs.Lookup.{image_automaton}
 use Rattle.image.specs.Calls.{checks}
-use Rattle.image.proofs.Lookup.{automaton_states}
-use Rattle.image.proofs.Accepted.{readable}
+use Rattle.image.specs.Parsed.{parsed}
+use Rattle.image.specs.Reader.{read_image}
+use Rattle.image.specs.declared.readable.Image.{Image}
+use Rattle.answer.specs.declared.Refusal.{Refusal}
+use Rattle.field.specs.Memory.{watched}
 use Rattle.image.proofs.Contents.{read_of, checks_of, checks_refused}
-use Rattle.field.specs.Sets.{set_bytes, in_set, packed, moved, is_empty}
-use Rattle.field.specs.Calls.{Watch, watch, left, advances, watchable, unless_refused}
+use Rattle.field.specs.Sets.{in_set, packed, moved, is_empty}
+use Rattle.field.specs.Calls.{watch, left, advances}
 
--- ---- an image that is not refused, with n states
-module _ (image : List ℕ) (n : ℕ) (en : n ≡ (counts_at image).states) where
-  -- the answer is whether the set that is left is empty
-  pub alarm_is : (r : Bool) (bytes : List ℕ) → r ≡ not (any_below (in_set bytes) n)
-      → watch (accepted r) bytes ≡ left (image_automaton image) bytes
-  unfolding is_empty
-  alarm_is r bytes e =
-      ap (λ (b : Bool). watch (accepted b) bytes)
-      (e ∙ ap (λ (k : ℕ). not (any_below (in_set bytes) k)) (en ∙ sym (automaton_states image)))
+-- ---- the set that is left, and whether it is empty
+module _ (a : Automaton) (set : List ℕ) where
+  -- it has the bytes of a test
+  pub packed_is : (after bytes : List ℕ) (test : ℕ → Bool) (r : Bool) → bytes ≡ packed test
+      → after ≡ filled set bytes → r ≡ is_empty a (in_set after)
+      → watch (accepted r) after ≡ left a (filled set (packed test))
+  packed_is after bytes test r of is e =
+      ap (λ (b : Bool). watch (accepted b) after) e ∙ ap (left a) (is ∙ ap (filled set) of)
 
-  -- the set that is left has the bytes of a test
-  pub packed_is : (set after bytes : List ℕ) (test : ℕ → Bool) (r : Bool) → bytes ≡ packed test
-      → after ≡ filled set bytes → r ≡ not (any_below (in_set after) n)
-      → watch (accepted r) after ≡ left (image_automaton image) (filled set (packed test))
-  packed_is set after bytes test r of is e =
-      alarm_is r after e ∙ ap (left (image_automaton image)) (is ∙ ap (filled set) of)
+  module _ (x : ℕ) (after : List ℕ) (r : Bool) (e : r ≡ is_empty a (in_set after)) where
+    pub skips : skipped ≤ x → after ≡ set → watch (accepted r) after ≡ advances a set x
+    skips s is =
+        ap (λ (b : Bool). watch (accepted b) after) e ∙ ap (left a) is ∙ sym (rw (le-ltb x skipped s) refl)
 
-  module _ (set : List ℕ) (x : ℕ) where
-    pub skips : (r : Bool) → skipped ≤ x → r ≡ not (any_below (in_set set) n)
-        → watch (accepted r) set ≡ advances (image_automaton image) set x
-    skips r s e = alarm_is r set e ∙ sym (rw (le-ltb x skipped s) refl)
-
-    pub moves : (after bytes : List ℕ) (r : Bool) → x < skipped
-        → bytes ≡ packed (moved (image_automaton image) (in_set set) x) → after ≡ filled set bytes
-        → r ≡ not (any_below (in_set after) n) → watch (accepted r) after ≡ advances (image_automaton image) set x
-    moves after bytes r s of is e = packed_is set after bytes _ r of is e ∙ sym (rw (lt-ltb x skipped s) refl)
+    pub moves : (bytes : List ℕ) → x < skipped → bytes ≡ packed (moved a (in_set set) x) → after ≡ filled set bytes
+        → watch (accepted r) after ≡ advances a set x
+    moves bytes s of is = packed_is after bytes _ r of is e ∙ sym (rw (lt-ltb x skipped s) refl)
 
 -- ---- 25 and 10 to 13
-module _ (image set : List ℕ) where
-  abbrev lent_check : Check
-  lent_check = and_then (watchable image set) (λ _. fine)
 
-  pub set_short : length set < set_bytes → refused 25 0 ≡ lent_check
-  unfolding watchable
-  set_short l = rw (lt-leb set_bytes (length set) l) refl
-
-  module _ (room : set_bytes ≤ length set) where
-    pub image_refused : {number place : ℕ} → refused number place ≡ checks image → refused number place ≡ lent_check
-    unfolding watchable
-    image_refused e = rw (le-leb set_bytes (length set) room, checks_refused image e) refl
-
-    pub image_passed : {c : Counts} → accepted c ≡ checks image → fine ≡ lent_check
-    unfolding watchable
-    image_passed {c} e = rw (le-leb set_bytes (length set) room, (checks_of image c e).read) refl
-
-  -- a refusal leaves the set as it was
-  pub lent_refused : (next : Automaton → Watch) {number place : ℕ} → refused number place ≡ lent_check
-      → watch (refused number place) set ≡ unless_refused (watchable image set) next set
-  lent_refused next {number} {place} e = go (watchable image set) e
-    where
-      go : (r : Result Automaton) → refused number place ≡ and_then r (λ _. fine)
-          → watch (refused number place) set ≡ unless_refused r next set
-      go (accepted a) e = never_both e
-      go (refused n p) e =
-          let same_number : number ≡ n = cc in
-          let same_place : place ≡ p = cc in
-          λ k. watch (refused (same_number k) (same_place k)) set
-
-  -- where neither refuses, the set is long enough, and the image has an automaton
-  module _ (e : fine ≡ lent_check) where
-    pub lent_fine : Readable image × (set_bytes ≤ length set)
-    unfolding watchable
-    lent_fine =
-        let (a, known, _) = then_accepted (watchable image set) _ (sym e) in
-        let (_, fits, read) = then_accepted (require (leb set_bytes (length set)) 25 0) _ known in
-        (readable (read_of image a read), leb-true set_bytes (length set) (require_fine _ 25 0 fits))
-
-    pub lent_watched : (next : Automaton → Watch) {w : Watch} → w ≡ next (image_automaton image)
-        → w ≡ unless_refused (watchable image set) next set
-    unfolding watchable
-    lent_watched next is =
-        let (a, known, _) = then_accepted (watchable image set) _ (sym e) in
-        let (_, fits, read) = then_accepted (require (leb set_bytes (length set)) 25 0) _ known in
-        rw known (is ∙ ap next (sym (read_of image a read).automaton))
+-- what parsing tells is the automaton or the refusal of the reader
+pub parsed_watched : (image : List ℕ) (r : Returned Image Refusal) → IfOk r (λ i. i.bytes.now ≡ image)
+    → parsed r ≡ checks image → watched r ≡ read_image image
+parsed_watched image (Ok i) same e =
+    let found = checks_of image i.counts e in
+    ap (λ (bytes : List ℕ). accepted (image_automaton bytes)) same
+    ∙ ap (λ (a : Automaton). accepted a) (sym (read_of image found.automaton found.read).automaton) ∙ sym found.read
+parsed_watched image (Err refusal) same e = sym (checks_refused image e)

@@ -1,30 +1,28 @@
--- A search for a number below n that passes a test. Assumes nothing.
-use Prim.Native.Nat.{ℕ, ◌+◌, ◌<◌, ◌≤◌}
-use mathlib.Core.Path.{◌≡◌, refl, sym, ap}
-use mathlib.Core.Bool.{Bool, true, false, not}
+-- A search for a number below n that passes a test, from the lowest on. Assumes nothing.
+use Prim.Native.Nat.{ℕ, zero, suc, ◌+◌}
+use mathlib.Core.Path.{◌≡◌, sym, ◌∙◌, ap}
+use mathlib.Core.Bool.{Bool, ◌||◌, or-false}
+use Rattle.std.proofs.Math.Bool.{or_assoc}
 use native.Mathlib.Omega.{arith}
 use native.Mathlib.Numerals.{add-one}
+use Rattle.std.specs.List.{list_any, range_with_len}
 use Rattle.sets.specs.Sets.{any_below}
-use Rattle.sets.proofs.Members.{below_iff}
 
--- the search stands at i, and has found none
-pub record NoneYet (test : ℕ → Bool) (n i : ℕ) : Type 0 where
-  pub within : i ≤ n
-  pub none : any_below test i ≡ false
-
-module _ (test : ℕ → Bool) (n : ℕ) where
-  pub none_begins : NoneYet test n 0
+module _ (test : ℕ → Bool) where
+  -- the n numbers from a on, after those below a
+  from : (a n : ℕ) → (any_below test a || list_any test (range_with_len a n)) ≡ any_below test (a + n)
   unfolding any_below
-  none_begins = record { within = omega arith; none = refl }
+  from a zero =
+      let none : a ≡ a + 0 = omega arith in
+      or-false (any_below test a) ∙ ap (any_below test) none
+  from a (suc n) =
+      let next : a + 1 ≡ suc a = add-one a in
+      let all : suc a + n ≡ a + suc n = omega arith in
+      sym (or_assoc (any_below test a) (test a) (list_any test (range_with_len (a + 1) n)))
+      ∙ rw (next, ← all) (from (suc a) n)
 
-  pub none_steps : (i : ℕ) → i < n → test i ≡ false → NoneYet test n i → NoneYet test n (i + 1)
+  pub any_range : (n : ℕ) → list_any test (range_with_len 0 n) ≡ any_below test n
   unfolding any_below
-  none_steps i lt e inv = record { within = omega arith; none = rw (add-one i) (rw (inv.none, e) refl) }
-
-  pub none_stops : (i : ℕ) → i < n → test i ≡ true → false ≡ not (any_below test n)
-  none_stops i lt e = sym (ap not ((below_iff test n).1 (i, lt, e)))
-
-  pub none_ends : (i : ℕ) → n ≤ i → NoneYet test n i → true ≡ not (any_below test n)
-  none_ends i le inv =
-      let e : i ≡ n = omega (arith, inv.within) in
-      sym (ap not (rw e at inv.none))
+  any_range n =
+      let all : 0 + n ≡ n = omega arith in
+      from 0 n ∙ ap (any_below test) all

@@ -1,19 +1,11 @@
 -- The calls start and step: answer, place and every byte of the lent set, for every input (02, R-10).
-use Rattle.std.specs.Prelude.{ℕ, zero, suc, List, Bool, true, false, cond, length, leb}
+use Rattle.std.specs.Prelude.{ℕ, zero, suc, List, Bool, cond, length, leb}
 use Rattle.answer.specs.Result.{Result, accepted, refused, and_then, require}
 use Rattle.answer.specs.Bytes.{filled}
 use Rattle.lasso.specs.Lasso.{remains}
 use Rattle.automaton.specs.Automaton.{Automaton}
 use Rattle.image.specs.Reader.{read_image}
-use Rattle.field.specs.declared.Watched.{Watched}
-use Rattle.field.specs.declared.Watched.TheVariants.{Quiet, Alarm, Refused}
 use Rattle.field.specs.Sets.{set_bytes, in_set, packed, begun, moved, is_empty}
-
--- what an answer says: whether the alarm is raised
-abbrev pub watch_answer : Watched → Result Bool
-watch_answer Quiet = accepted false
-watch_answer Alarm = accepted true
-watch_answer (Refused number place) = refused number place
 
 -- an answer, and the lent set afterwards
 pub record Watch : Type 0 where

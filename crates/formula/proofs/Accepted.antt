@@ -7,13 +7,13 @@ use native.Mathlib.Omega.{arith}
 use lib.Dec.{leb, ltb}
 use lib.ListN.{length}
 use borrow.Author.Tests.{leb-true, le-leb, ltb-true, eqb-true}
-use Rattle.answer.specs.Result.{fine, lowest}
+use Rattle.answer.specs.Result.{passes, fine, lowest}
 use Rattle.formula.specs.Limits.{max_nodes, rule_bytes, max_untils, propositions}
 use Rattle.formula.specs.Rule.{node_count, kind_at, left_at, right_at, one_child, release_kind, length_check}
 use Rattle.formula.specs.Rule.{node_check, place_check, syntax_check, until_check, checked, untils as untilsOf}
-use Rattle.answer.proofs.Lowest.{fine_first, fine_second, lowest_each, lowest_all}
+use Rattle.answer.proofs.Lowest.{fine_first, fine_second, lowest_each, lowest_all, passes_fine}
 use Rattle.formula.proofs.Operands.{left_proposition, left_child, right_absent, right_child}
-use Rattle.formula.proofs.Checks.{Tested, tested}
+use Rattle.formula.proofs.Checks.{Tested, tested, left_small, right_small}
 use Rattle.answer.proofs.Results.{required, require_fine}
 
 -- node n is as 4 and 5 want it: its proposition is one, its children are below it
@@ -136,3 +136,21 @@ accepted_kind rule e n lt =
 -- and its nodes' numbers are below the limit
 pub accepted_few : (rule : List ℕ) → checked rule ≡ fine → (n : ℕ) → n < node_count rule → n < max_nodes
 accepted_few rule e n lt = let m = (accepted_fine rule e).most in omega arith
+
+-- the same of a rule that is known to pass, as `Rule` has it; and its bytes are small
+module _ (rule : List ℕ) (passed : passes (checked rule) ≡ true) (n : ℕ) (inside : n < node_count rule) where
+  accepted : checked rule ≡ fine
+  accepted = passes_fine (checked rule) passed
+
+  node : node_check release_kind rule n ≡ fine
+  unfolding checked
+  node = (formed_fine release_kind rule (fine_first (syntax_check release_kind rule) _ accepted)).each n inside
+
+  pub passed_kind : kind_at rule n ≤ release_kind
+  passed_kind = kind_known release_kind rule n node
+
+  pub passed_left : left_at rule n < max_nodes
+  passed_left = left_small release_kind rule n node (accepted_few rule accepted n inside)
+
+  pub passed_right : right_at rule n < max_nodes
+  passed_right = right_small release_kind rule n node (accepted_few rule accepted n inside)

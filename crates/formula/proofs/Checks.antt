@@ -1,88 +1,20 @@
--- From the tests that the code makes to the checks of a rule, in their order. Assumes nothing.
+-- What the checks of a node come to by its tests, and what they say of a node that they let pass. Assumes nothing.
 use mathlib.Core.Path.{◌≡◌}
-use mathlib.Core.Bool.{Bool, true, false, not, and-false, and-eq-true_iff}
+use mathlib.Core.Bool.{true, not, and-false, and-eq-true_iff}
 use mathlib.Core.List.{List}
-use Prim.Native.Nat.{ℕ, ◌%◌, ◌≤◌, ◌<◌}
+use Prim.Native.Nat.{ℕ, ◌≤◌, ◌<◌}
 use native.Mathlib.Omega.{arith}
-use lib.ListN.{length}
 use lib.Dec.{eqb, leb, ltb}
-use borrow.Author.Tests.{lt-ltb, le-ltb, le-leb, lt-leb, eq-eqb, ne_eqb, not-true, not-false}
-use Rattle.formula.specs.declared.Operand.{Operand}
+use borrow.Author.Tests.{lt-ltb, le-ltb, le-leb, lt-leb, eq-eqb, ne_eqb, eqb-true, ltb-true}
 use Rattle.answer.specs.Result.{fine, refused, lowest}
-use Rattle.formula.specs.Limits.{rule_bytes}
-use Rattle.formula.specs.Rule.{kind_at, left_byte_fits, right_byte_fits, left_child_fits, right_child_fits}
-use Rattle.formula.specs.Rule.{release_kind}
-use Rattle.formula.specs.Rule.{node_count, root, node_check, ChildrenBelow, places, place_check, length_check}
-use Rattle.formula.specs.Rule.{syntax_check, until_check, checked}
+use Rattle.formula.specs.declared.Operand.{Operand}
+use Rattle.formula.specs.declared.Operand.TheVariants.{Unused, Proposition, Child}
+use Rattle.formula.specs.Limits.{max_nodes, propositions}
+use Rattle.formula.specs.Rule.{kind_at, left_at, right_at, left_operand, right_operand, byte_fits, child_fits}
+use Rattle.formula.specs.Rule.{left_byte_fits, right_byte_fits, left_child_fits, right_child_fits}
+use Rattle.formula.specs.Rule.{node_count, root, node_check, ChildrenBelow, places, place_check}
 use Rattle.answer.proofs.Lowest.{lowest_each}
 use Rattle.answer.proofs.Results.{require_fine, required}
-
--- a test of the code, by what it reads of the rule
-pub read_test : (operandOf : ℕ → Operand) (test : Operand → ℕ
-    → Bool) {kind k byte b : ℕ} {operand : Operand} {passes t : Bool} → kind ≡ k → byte ≡ b
-    → operand ≡ operandOf kind → passes ≡ test operand byte → not passes ≡ t → not (test (operandOf k) b) ≡ t
-read_test operandOf test ek eb eo ep et = cc
-
--- node n by its tests as the code makes them, in their order
-module _ (highest : ℕ) (rule : List ℕ) (n : ℕ) where
-  pub kind_unknown : highest < kind_at rule n → refused 3 n ≡ node_check highest rule n
-  unfolding node_check
-  kind_unknown lt = rw (lt-leb (kind_at rule n) highest lt)
-
-  module _ (known : kind_at rule n ≤ highest) where
-    pub left_unfit : not (left_byte_fits rule n) ≡ true → refused 4 n ≡ node_check highest rule n
-    unfolding node_check
-    left_unfit e = rw (le-leb (kind_at rule n) highest known, not-true (left_byte_fits rule n) e)
-
-    module _ (left_fits : not (left_byte_fits rule n) ≡ false) where
-      pub right_unfit : not (right_byte_fits rule n) ≡ true → refused 4 n ≡ node_check highest rule n
-      unfolding node_check
-      right_unfit e =
-          rw (
-            le-leb (kind_at rule n) highest known,
-            not-false (left_byte_fits rule n) left_fits,
-            not-true
-                (right_byte_fits rule n) e,
-          )
-
-      module _ (right_fits : not (right_byte_fits rule n) ≡ false) where
-        pub left_above : not (left_child_fits rule n) ≡ true → refused 5 n ≡ node_check highest rule n
-        unfolding node_check
-        left_above e =
-            rw (
-              le-leb (kind_at rule n) highest known,
-              not-false (left_byte_fits rule n) left_fits,
-              not-false
-                  (right_byte_fits rule n) right_fits,
-              not-true (left_child_fits rule n) e,
-            )
-
-        module _ (left_below : not (left_child_fits rule n) ≡ false) where
-          pub right_above : not (right_child_fits rule n) ≡ true → refused 5 n ≡ node_check highest rule n
-          unfolding node_check
-          right_above e =
-              rw (
-                le-leb (kind_at rule n) highest known,
-                not-false (left_byte_fits rule n) left_fits,
-                not-false
-                    (right_byte_fits rule n) right_fits,
-                not-false (left_child_fits rule n) left_below,
-                not-true
-                    (right_child_fits rule n) e,
-              )
-
-          pub all_fits : not (right_child_fits rule n) ≡ false → fine ≡ node_check highest rule n
-          unfolding node_check
-          all_fits e =
-              rw (
-                le-leb (kind_at rule n) highest known,
-                not-false (left_byte_fits rule n) left_fits,
-                not-false
-                    (right_byte_fits rule n) right_fits,
-                not-false (left_child_fits rule n) left_below,
-                not-false
-                    (right_child_fits rule n) e,
-              )
 
 -- node k by the count of its places and its kind
 module _ (rule : List ℕ) (k : ℕ) where
@@ -126,52 +58,6 @@ module _ (rule : List ℕ) (k : ℕ) where
               count (omega arith),
         )
 
--- 1 to 6 by the tests of the length and the answers of the other checks
-module _ (highest : ℕ) (rule : List ℕ) where
-  pub too_long : rule_bytes < length rule → refused 1 0 ≡ syntax_check highest rule
-  unfolding syntax_check length_check
-  too_long lt = rw (lt-leb (length rule) rule_bytes lt)
-
-  module _ (fits : length rule ≤ rule_bytes) where
-    pub empty : length rule ≡ 0 → refused 2 0 ≡ syntax_check highest rule
-    unfolding syntax_check length_check
-    empty e = rw (le-leb (length rule) rule_bytes fits, le-ltb 0 (length rule) (omega arith))
-
-    pub broken : (length rule % 3 ≡ 0 → ⊥) → refused 2 0 ≡ syntax_check highest rule
-    unfolding syntax_check length_check
-    broken e = rw (le-leb (length rule) rule_bytes fits, ne_eqb (length rule % 3) 0 e, and-false (ltb 0 (length rule)))
-
-    module _ (some : length rule ≡ 0 → ⊥) (whole : length rule % 3 ≡ 0) where
-      length_fine : length_check rule ≡ fine
-      unfolding length_check
-      length_fine =
-          rw (
-            le-leb (length rule) rule_bytes fits,
-            lt-ltb 0 (length rule) (omega arith),
-            eq-eqb (length rule % 3) 0 whole,
-          )
-
-      pub node_refused : {number place : ℕ} → refused number place ≡ lowest (node_check highest rule) (node_count rule)
-          → refused number place ≡ syntax_check highest rule
-      unfolding syntax_check
-      node_refused e = rw (length_fine, ← e)
-
-      pub places_left : lowest (node_check highest rule) (node_count rule) ≡ fine
-          → lowest (place_check rule) (node_count rule) ≡ syntax_check highest rule
-      unfolding syntax_check
-      places_left e = rw (length_fine, e)
-
--- the whole rule by the answers of 1 to 6 and of 7
-module _ (rule : List ℕ) where
-  pub syntax_refused : {number place : ℕ} → refused number place ≡ syntax_check release_kind rule
-      → refused number place ≡ checked rule
-  unfolding checked
-  syntax_refused e = rw (← e)
-
-  pub untils_left : syntax_check release_kind rule ≡ fine → until_check rule ≡ checked rule
-  unfolding checked
-  untils_left e = rw e
-
 -- what a fine check says of node n
 pub record Tested (rule : List ℕ) (n : ℕ) : Type 0 where
   pub left_fits : left_byte_fits rule n ≡ true
@@ -192,6 +78,24 @@ tested highest rule n e =
       left_below = children.0;
       right_below = children.1;
     }
+
+-- a byte that 4 and 5 let pass is small
+byte_small : (operand : Operand) (byte n : ℕ) → byte_fits operand byte ≡ true → child_fits operand byte n ≡ true
+    → n < max_nodes → byte < max_nodes
+byte_small Unused byte n fits below few = omega (arith, eqb-true byte 0 fits)
+byte_small Proposition byte n fits below few = omega (arith, ltb-true byte propositions fits)
+byte_small Child byte n fits below few = omega (arith, ltb-true byte n below)
+
+module _ (highest : ℕ) (rule : List ℕ) (n : ℕ) (passed : node_check highest rule n ≡ fine) (few : n < max_nodes) where
+  pub left_small : left_at rule n < max_nodes
+  left_small =
+      let node = tested highest rule n passed in
+      byte_small (left_operand (kind_at rule n)) (left_at rule n) n node.left_fits node.left_below few
+
+  pub right_small : right_at rule n < max_nodes
+  right_small =
+      let node = tested highest rule n passed in
+      byte_small (right_operand (kind_at rule n)) (right_at rule n) n node.right_fits node.right_below few
 
 -- and what fine checks say of the children of n nodes
 pub children_below : (highest : ℕ) (rule : List ℕ) (n : ℕ) → lowest (node_check highest rule) n ≡ fine

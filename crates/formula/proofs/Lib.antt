@@ -1,4 +1,5 @@
 -- What the proofs of several functions, and of the crates above, cite. Assumes nothing.
+pub mod Arms
 pub mod Operands
 pub mod Checks
 pub mod Places

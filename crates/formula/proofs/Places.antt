@@ -1,15 +1,13 @@
 -- The places at which a node is a child: how many there can be, and what a loop over the nodes counts. Assumes nothing.
-use mathlib.Core.Path.{◌≡◌, refl, sym, ◌∙◌}
+use mathlib.Core.Path.{◌≡◌, refl, ◌∙◌}
 use mathlib.Core.Bool.{Bool, true, false, cond}
 use mathlib.Core.List.{List}
 use Prim.Native.Nat.{ℕ, zero, suc, ◌+◌, ◌*◌, ◌≤◌, ◌<◌}
-use native.Mathlib.Decide.{ℕ_discrete}
 use native.Mathlib.Numerals.{add-one}
 use native.Mathlib.Omega.{arith}
 use lib.Dec.{eqb}
-use lib.ListN.{get_or, length, set, replicate}
-use lib.Seq.{get_or-set_same, get_or-set_other}
-use borrow.Author.Tests.{eq-eqb, ne_eqb, ltb-true, lt-ltb}
+use lib.ListN.{get_or, length, replicate}
+use borrow.Author.Tests.{ltb-true, lt-ltb}
 use Rattle.answer.proofs.Zeros.{zeros_at}
 use Rattle.formula.specs.declared.Operand.{Operand}
 use Rattle.formula.specs.declared.Operand.TheVariants.{Unused, Proposition, Child}
@@ -52,37 +50,18 @@ module _ (operand : Operand) (child : operand ≡ Child) (byte : ℕ) where
   pub child_below : (most : ℕ) → child_fits operand byte most ≡ true → byte < most
   child_below most e = ltb-true byte most (rw child at e)
 
-  -- one more at its place, and at no other
-  pub one_more : (counts : List ℕ) → child_fits operand byte (length counts) ≡ true → (k : ℕ)
-      → get_or (set counts byte (get_or counts byte 0 + 1)) k 0 ≡ get_or counts k 0 + is_child operand byte k
-  one_more counts fits k = rw child (pick (ℕ_discrete k byte))
-    where
-      pick : Dec (k ≡ byte)
-          → get_or (set counts byte (get_or counts byte 0 + 1)) k 0 ≡ get_or counts k 0 + is_child Child byte k
-      pick (yes e) = rw (e, eq-eqb byte byte refl) (get_or-set_same counts byte _ 0 (child_below (length counts) fits))
-      pick (no e) =
-          let other = get_or-set_other counts byte k (get_or counts byte 0 + 1) 0 e in
-          rw (ne_eqb byte k (λ f. e (sym f))) (omega arith)
-
--- a loop over n nodes that stands at i: counts has the places of the first i nodes
-pub record Counting (rule : List ℕ) (n : ℕ) (counts : List ℕ) (i : ℕ) : Type 0 where
-  pub within : i ≤ n
+-- a loop over the nodes that stands at i: counts has the places of the first i nodes
+pub record Counting (rule counts : List ℕ) (i : ℕ) : Type 0 where
   pub size : length counts ≡ max_nodes
   pub counted : (k : ℕ) → get_or counts k 0 ≡ places rule i k
 
-pub count_begins : (rule : List ℕ) (n : ℕ) → Counting rule n (replicate max_nodes 0) 0
+pub count_begins : (rule : List ℕ) → Counting rule (replicate max_nodes 0) 0
 unfolding places
-count_begins rule n = record { within = omega arith; size = refl; counted = zeros_at max_nodes }
-
-pub count_ends : (rule : List ℕ) (n : ℕ) (counts : List ℕ) (i : ℕ) → n ≤ i → Counting rule n counts i → (k : ℕ)
-    → get_or counts k 0 ≡ places rule n k
-count_ends rule n counts i le inv k =
-    let e : n ≡ i = omega arith in
-    rw e (inv.counted k)
+count_begins rule = record { size = refl; counted = zeros_at max_nodes }
 
 -- one turn of that loop, with what the code reads of node i
 module _ (rule : List ℕ) (n : ℕ) (few : n ≤ max_nodes) (below : ChildrenBelow rule n) (i : ℕ) (lt : i < n)
-    {counts : List ℕ} (inv : Counting rule n counts i) {kind : ℕ} (ek : kind ≡ kind_at rule i) where
+    {counts : List ℕ} (inv : Counting rule counts i) {kind : ℕ} (ek : kind ≡ kind_at rule i) where
   -- what `count_child` requires of the left byte: it fits the counts, and no count overflows
   module _ {left : Operand} (eo : left ≡ left_operand kind) {l : ℕ} (el : l ≡ left_at rule i) where
     pub left_fits : (child_fits left l (length counts) ≡ true) × ((k : ℕ) → get_or counts k 0 < 255)
@@ -105,10 +84,9 @@ module _ (rule : List ℕ) (n : ℕ) (few : n ≤ max_nodes) (below : ChildrenBe
       )
 
       pub count_steps : (last : List ℕ) → length last ≡ length more
-          → ((k : ℕ) → get_or last k 0 ≡ get_or more k 0 + is_child right r k) → Counting rule n last (i + 1)
+          → ((k : ℕ) → get_or last k 0 ≡ get_or more k 0 + is_child right r k) → Counting rule last (i + 1)
       unfolding places
       count_steps last again more-step = record {
-        within = omega arith;
         size = again ∙ same ∙ inv.size;
         counted = λ k. more-step k ∙ rw (step k, inv.counted k, eo, el, eq, er, ek, add-one i);
       }

@@ -69,7 +69,9 @@ module _ {A : Type 0} (none : A) (builds : (kind n left : ℕ) (a b : A) → A) 
     lookup k = get_or (all [] rule) k none
 
     -- the tree of node n, by what its children are among the trees below it
-    pub of_parts : lookup n ≡ builds (kind_at rule n) n (left_at rule n) (get_or (take n (all [] rule)) (left_at rule n) none) (get_or (take n (all [] rule)) (right_at rule n) none)
+    pub of_parts : lookup n
+        ≡ builds (kind_at rule n) n (left_at rule n) (get_or (take n (all [] rule)) (left_at rule n) none)
+        (get_or (take n (all [] rule)) (right_at rule n) none)
     of_parts = built n n rule [] (omega arith) (omega arith)
 
     -- and by its children's trees

@@ -2,16 +2,12 @@
 -- Assumes nothing.
 use mathlib.Core.Path.{◌≡◌, refl, ◌∙◌}
 use mathlib.Core.List.{List, [], ◌∷◌, ◌++◌}
-use mathlib.Core.Bool.{Bool, true, false}
+use mathlib.Core.Bool.{Bool}
 use Prim.Native.Nat.{ℕ, zero, suc, ◌+◌, ◌≤◌, ◌<◌}
-use native.Mathlib.Numerals.{add-one}
-use native.Mathlib.Omega.{arith}
-use lib.ListN.{length, get_or, take, drop, drop_of_length-le}
-use lib.Seq.{length-take-le}
+use lib.ListN.{length, get_or}
 use borrow.Author.Tests.{lt-ltb, le-ltb}
 use Rattle.answer.specs.Result.{Result, accepted, refused, and_then, Check, fine}
 use Rattle.generalized.specs.Explore.{find, meet, Numbering, meet_all, Walk, explore}
-use Rattle.generalized.proofs.Lists.{drop_next}
 
 and_then_on : {A : Type 0} (a : Check) (b : Result A) (next : A → Result A)
     → and_then a (λ _. and_then b next) ≡ and_then (and_then a (λ _. b)) next
@@ -19,37 +15,6 @@ and_then_on (accepted u) b next = refl
 and_then_on (refused number place) b next = refl
 
 module _ {A : Type 0} (same : A → A → Bool) where
-  -- a search for x among the first n of xs that stands at i: none before i is x
-  pub record Seeking (x : A) (xs : List A) (n i : ℕ) : Type 0 where
-    pub within : i ≤ n
-    pub left : find same x (take n xs) ≡ i + find same x (drop i (take n xs))
-
-  pub seek_begins : {x : A} {xs : List A} {n : ℕ} → Seeking x xs n 0
-  seek_begins = record { within = omega arith; left = omega arith }
-
-  module _ {x : A} {xs : List A} {n i : ℕ} (inv : Seeking x xs n i) (le : n ≤ length xs) where
-    pub seek_ends : n ≤ i → n ≡ find same x (take n xs)
-    unfolding find
-    seek_ends ge =
-        let size = length-take-le n xs le in
-        let none : find same x (drop i (take n xs)) ≡ 0 =
-        rw (drop_of_length-le (take n xs) {i = i} (omega (arith, size))) in
-        omega (arith, inv.left, inv.within)
-
-    module _ (d : A) (lt : i < n) where
-      pub seek_finds : same x (get_or xs i d) ≡ true → i ≡ find same x (take n xs)
-      unfolding find
-      seek_finds e =
-          let here : find same x (drop i (take n xs)) ≡ 0 = rw (drop_next d xs n i le lt, e, find) in
-          omega (arith, inv.left)
-
-      pub seek_steps : same x (get_or xs i d) ≡ false → Seeking x xs n (i + 1)
-      unfolding find
-      seek_steps e =
-          let later : find same x (drop i (take n xs)) ≡ suc (find same x (drop (suc i) (take n xs))) =
-          rw (drop_next d xs n i le lt, e, find) in
-          record { within = omega arith; left = rw add-one (omega (arith, inv.left)) }
-
   module _ (limit full place : ℕ) (x : A) (xs : List A) where
     abbrev met : Result (List A)
     met = meet same limit full place x xs

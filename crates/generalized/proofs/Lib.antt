@@ -1,5 +1,4 @@
 -- What the proofs of several functions, and of the crates above, cite.
-pub mod Lists
 pub mod Exploring
 pub mod Explored
 pub mod Passed

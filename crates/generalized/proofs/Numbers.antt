@@ -2,17 +2,21 @@
 -- Assumes nothing.
 use mathlib.Core.Path.{◌≡◌, refl, sym, ap, ◌∙◌}
 use mathlib.Core.Logic.{inl, inr, ⊎_elim}
-use mathlib.Core.Bool.{Bool, true, false}
+use mathlib.Core.Bool.{Bool, true, false, cond, false≢true}
 use mathlib.Core.List.{List, [], ◌∷◌, ◌++◌, map, map-append}
-use Prim.Native.Nat.{ℕ, suc, ◌<◌, ◌≤◌}
+use Prim.Native.Nat.{ℕ, suc, ◌+◌, ◌<◌, ◌≤◌}
 use native.Mathlib.Omega.{arith}
 use lib.ListN.{length, take, drop, length-append, take-append-drop}
-use lib.Dec.{eqb}
+use lib.Dec.{eqb, ltb}
+use borrow.Author.Tests.{eq-eqb, ne_eqb, eqb-true, ltb-true, ltb-false}
+use Rattle.std.specs.Prelude.{Some, None, position}
+use Rattle.std.specs.List.{position_or_len}
+use Rattle.std.proofs.lemmas.List.Recursion.{is_position_or_len}
 use Rattle.sets.specs.Sets.{In}
 use Rattle.sets.proofs.Members.{all_one, append_in}
 use Rattle.term.specs.Term.{Term}
 use Rattle.generalized.specs.Explore.{find}
-use Rattle.generalized.specs.Memory.{kept, ListedKept}
+use Rattle.generalized.specs.Memory.{kept, ListedKept, Finds}
 
 module _ {A : Type 0} (same : A → A → Bool) where
   -- one that is found stays where it is
@@ -42,6 +46,38 @@ module _ {A : Type 0} (same : A → A → Bool) where
           → elim b [ true ↦ 0 | false ↦ suc (find same x (xs ++ (x ∷ []))) ] ≡ suc (length xs)
       go true l next = absurd (omega arith)
       go false l next = ap suc (next (omega arith))
+
+-- as a search finds it
+same_test : (x y : ℕ) → eqb x y ≡ eqb y x
+same_test x y = go (eqb x y) refl
+  where
+    go : (b : Bool) → eqb x y ≡ b → b ≡ eqb y x
+    go true e = sym (eq-eqb y x (sym (eqb-true x y e)))
+    go false e = sym (ne_eqb y x (λ f. false≢true (sym e ∙ eq-eqb x y (sym f))))
+
+find_position : (x : ℕ) (xs : List ℕ) → find eqb x xs ≡ position_or_len (λ y. eqb y x) xs
+unfolding find
+find_position x xs = is_position_or_len (find eqb x) (λ y. eqb y x) refl step xs
+  where
+    step : (y : ℕ) (ys : List ℕ) → find eqb x (y ∷ ys) ≡ cond (eqb y x) 0 (1 + find eqb x ys)
+    step y ys = go (eqb x y) (eqb y x) (same_test x y)
+      where
+        go : (b c : Bool) → b ≡ c
+            → elim b [ true ↦ 0 | false ↦ suc (find eqb x ys) ] ≡ cond c 0 (1 + find eqb x ys)
+        go true true e = refl
+        go false false e = omega arith
+        go true false e = cc
+        go false true e = cc
+
+pub finds_position : (x : ℕ) (xs : List ℕ) → Finds x xs (position (λ y. eqb y x) xs)
+finds_position x xs = go (ltb place (length xs)) refl
+  where
+    place : ℕ
+    place = position_or_len (λ y. eqb y x) xs
+
+    go : (b : Bool) → ltb place (length xs) ≡ b → Finds x xs (cond b (Some place) None)
+    go true e = (sym (find_position x xs), ltb-true place (length xs) e)
+    go false e = rw (find_position x xs) (ltb-false place (length xs) e)
 
 -- xs are the first of ys
 module _ (xs ys : List ℕ) (first : take (length xs) ys ≡ xs) where

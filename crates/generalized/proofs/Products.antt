@@ -3,7 +3,7 @@
 use mathlib.Core.Path.{◌≡◌, refl, sym, ap, ◌∙◌}
 use mathlib.Core.Bool.{Bool, true, false}
 use mathlib.Core.List.{List, [], ◌∷◌, map}
-use Prim.Native.Nat.{ℕ, zero, suc, ◌+◌, ◌≤◌, ◌<◌, min}
+use Prim.Native.Nat.{ℕ, zero, suc, ◌+◌, ◌≤◌, ◌<◌}
 use native.Mathlib.Numerals.{add-one}
 use native.Mathlib.Omega.{arith}
 use lib.ListN.{length, take, set, length-map, length-set}
@@ -11,15 +11,14 @@ use lib.Seq.{length-take-le, take-suc-set}
 use lib.Dec.{leb}
 use lib.Bits.{bit_or, or_zero_r}
 use borrow.Author.Tests.{le-leb, lt-leb}
-use Rattle.answer.specs.Result.{Check, require, fine}
+use Rattle.answer.specs.Result.{Check, require, refused, fine}
 use Rattle.answer.proofs.Lowest.{Passing, pass_begins, pass_steps, pass_fails, pass_ends}
 use Rattle.formula.specs.Limits.{max_nodes}
 use Rattle.formula.specs.Rule.{node_count}
 use Rattle.formula.specs.Formula.{tree, InRange}
 use Rattle.sets.specs.Bits.{has}
 use Rattle.sets.specs.declared.Joined.{Joined}
-use Rattle.sets.specs.Sets.{Stores, insert_product_n, product_conflicts_n}
-use Rattle.sets.proofs.Stores.{items_are}
+use Rattle.sets.specs.Sets.{insert_product_n, product_conflicts_n}
 use Rattle.sets.proofs.Rising.{Rising, Consistent, product_rises}
 use Rattle.term.specs.Term.{Term, terms}
 use Rattle.term.specs.Size.{sizes_checked}
@@ -30,7 +29,7 @@ use Rattle.term.proofs.Rising.{terms_rise, product_one, product_one_apart}
 use Rattle.term.proofs.Rows.{row_is, row_fits}
 use Rattle.generalized.specs.Limits.{max_product}
 use Rattle.generalized.specs.Generalized.{times, partial_product, partial_conflicts, product_check}
-use Rattle.generalized.specs.Memory.{Factor, ProductRoom, Multiplied, StateProduct}
+use Rattle.generalized.specs.Memory.{Factor, ProductRoom, Multiplied, Product}
 use Rattle.generalized.proofs.Passed.{few, in_range}
 
 -- ts are terms whose must and must_not are bytes
@@ -81,44 +80,44 @@ factor_of rule table k passed is lt = record {
 abbrev partial_check : List ℕ → (state place : ℕ) → ℕ → Check
 partial_check rule state place n = require (leb (length (partial_product rule state (suc n))) max_product) 21 place
 
--- a loop over n nodes that stands at k: the first count of items are the product over the obligations below k, with
+-- a loop over the nodes that stands at k: the first count of items are the product over the obligations below k, with
 -- these conflicts, and none before was over
-pub record Multiplying (rule : List ℕ) (state n : ℕ) (items next : List ℕ) (count dropped k : ℕ) : Type 0 where
-  pub small : n ≤ max_nodes
-  pub within : k ≤ n
+pub record Multiplying (rule : List ℕ) (state : ℕ) (items next : List ℕ) (count dropped k : ℕ) : Type 0 where
+  pub small : node_count rule ≤ max_nodes
+  pub within : k ≤ node_count rule
   pub room : ProductRoom items next
   pub fits : count ≤ max_product
   pub are : take count items ≡ map pack (partial_product rule state k)
   pub conflicts : dropped ≡ partial_conflicts rule state k
-  pub passed : (place : ℕ) → Passing (partial_check rule state place) n k
+  pub passed : (place : ℕ) → Passing (partial_check rule state place) (node_count rule) k
 
-pub multiply_begins : {rule : List ℕ} {state n : ℕ} (items next : List ℕ) → n ≤ max_nodes → ProductRoom items next
-    → Multiplying rule state n (set items 0 0) next 1 0 0
+pub multiply_begins : {rule : List ℕ} {state : ℕ} (items next : List ℕ) → node_count rule ≤ max_nodes
+    → ProductRoom items next → Multiplying rule state (set items 0 0) next 1 0 0
 unfolding partial_product partial_conflicts
-multiply_begins {n = n} items next le room = record {
+multiply_begins {rule} items next le room = record {
   small = le;
   within = omega arith;
   room = record { room = length-set items 0 0 ∙ room.room; beside = room.beside };
   fits = omega arith;
   are = take-suc-set items 0 0 (omega (arith, room.room));
   conflicts = refl;
-  passed = λ place. pass_begins _ n;
+  passed = λ place. pass_begins _ (node_count rule);
 }
 
-module _ {rule : List ℕ} {state n : ℕ} {items next : List ℕ} {count dropped k : ℕ}
-    (inv : Multiplying rule state n items next count dropped k) where
-  pub multiply_ends : n ≡ node_count rule → n ≤ k
-      → StateProduct rule state items (record { count = count; conflicts = dropped })
+module _ {rule : List ℕ} {state : ℕ} {items next : List ℕ} {count dropped k : ℕ}
+    (inv : Multiplying rule state items next count dropped k) where
+  abbrev n : ℕ
+  n = node_count rule
+
+  pub multiply_ends : n ≤ k → Product rule state items (record { count = count; conflicts = dropped })
   unfolding product_check
-  multiply_ends e ge =
+  multiply_ends ge =
       let same : k ≡ node_count rule = omega (arith, inv.within) in
       record {
-        product = record {
-          checked = λ _ place. rw (← e) (sym (pass_ends (partial_check rule state place) n k ge (inv.passed place)));
-          terms = λ _. rw (← same) inv.are;
-          over = λ lt. absurd (omega (arith, inv.fits));
-        };
-        conflicts = λ _. rw (← same) inv.conflicts;
+        few = inv.fits;
+        checked = λ place. sym (pass_ends (partial_check rule state place) n k ge (inv.passed place));
+        terms = rw (← same) inv.are;
+        conflicts = rw (← same) inv.conflicts;
       }
 
   module _ (lt : k < n) where
@@ -130,7 +129,7 @@ module _ {rule : List ℕ} {state n : ℕ} {items next : List ℕ} {count droppe
     passed_on le place = pass_steps _ n k lt (inv.passed place) (rw (le-leb (length further) max_product le))
 
     -- a node that is no obligation changes nothing
-    pub multiply_skips : has state k ≡ false → Multiplying rule state n items next count dropped (k + 1)
+    pub multiply_skips : has state k ≡ false → Multiplying rule state items next count dropped (k + 1)
     unfolding partial_product partial_conflicts
     multiply_skips e =
         let same : further ≡ partial_product rule state k = rw e in
@@ -147,50 +146,47 @@ module _ {rule : List ℕ} {state n : ℕ} {items next : List ℕ} {count droppe
         }
 
     module _ (ranges : (j : ℕ) → j < n → InRange (tree rule j)) {table : List ℕ} (row : TermRow rule table k)
-        (own : has state k ≡ true) (after : List ℕ) (r : Joined) (size : length after ≡ length items)
-        (turn : Multiplied after r (insert_product_n (take count items) (row_of table k) [])
-        (product_conflicts_n (take count items) (row_of table k))) where
+        (own : has state k ≡ true) where
       before : Packed (partial_product rule state k)
       before = partial_packed rule state k (λ j l. ranges j (omega arith))
 
       factor : Packed (terms (tree rule k))
       factor = terms_numbers (tree rule k) (ranges k lt)
 
-      next_is : Stores after r.count (map pack further)
+      -- what the turn works out, and its conflicts
+      abbrev joins : List ℕ
+      joins = insert_product_n (take count items) (row_of table k) []
+
+      abbrev apart : ℕ
+      apart = product_conflicts_n (take count items) (row_of table k)
+
+      joins_are : joins ≡ map pack further
       unfolding partial_product
-      next_is =
+      joins_are =
           rw (own, ← numbers_are of_terms (product_numbers of_terms before factor), ← inv.are, ← row_is row)
-          turn.stores
 
-      next_conflicts : bit_or dropped r.conflicts ≡ partial_conflicts rule state (suc k)
+      conflicts_are : bit_or dropped apart ≡ partial_conflicts rule state (suc k)
       unfolding partial_conflicts
-      next_conflicts =
-          rw (own, ← conflicts_numbers before factor, ← inv.are, ← row_is row, inv.conflicts, turn.conflicts)
+      conflicts_are = rw (own, ← conflicts_numbers before factor, ← inv.are, ← row_is row, inv.conflicts)
 
-      next_count : r.count ≡ min (suc max_product) (length further)
-      next_count = omega (arith, next_is.count, size, inv.room.room, length-map further pack)
+      joins_count : length joins ≡ length further
+      joins_count = rw joins_are (length-map further pack)
 
-      pub multiply_steps : {beside : List ℕ} → length beside ≡ length next → r.count ≤ max_product
-          → Multiplying rule state n after beside r.count (bit_or dropped r.conflicts) (k + 1)
-      multiply_steps same le = record {
+      pub multiply_steps : {after : List ℕ} {r : Joined} → Multiplied after r joins apart
+          → length after ≡ length items → {beside : List ℕ} → length beside ≡ length next
+          → Multiplying rule state after beside r.count (bit_or dropped r.conflicts) (k + 1)
+      multiply_steps turn size same = record {
         small = inv.small;
         within = omega arith;
         room = record { room = size ∙ inv.room.room; beside = same ∙ inv.room.beside };
-        fits = le;
-        are = rw add-one (items_are next_is (omega (arith, size, inv.room.room)));
-        conflicts = rw add-one next_conflicts;
-        passed = passed_on (omega (arith, next_count));
+        fits = turn.few;
+        are = rw add-one (turn.are ∙ joins_are);
+        conflicts = rw (add-one, turn.conflicts) conflicts_are;
+        passed = passed_on (omega (arith, turn.count, turn.few, joins_count));
       }
 
-      pub multiply_over : n ≡ node_count rule → max_product < r.count → StateProduct rule state after r
+      pub multiply_over : max_product < length joins → (place : ℕ) → product_check rule place state ≡ refused 21 place
       unfolding product_check
-      multiply_over e over = record {
-        product = record {
-          checked = λ le. absurd (omega arith);
-          terms = λ le. absurd (omega arith);
-          over = λ _ place. rw (← e)
-              (sym (pass_fails (partial_check rule state place) n k lt (inv.passed place)
-              (rw (lt-leb (length further) max_product (omega (arith, next_count))))));
-        };
-        conflicts = λ le. absurd (omega arith);
-      }
+      multiply_over over place =
+          sym (pass_fails (partial_check rule state place) n k lt (inv.passed place)
+          (rw (lt-leb (length further) max_product (omega (arith, joins_count)))))

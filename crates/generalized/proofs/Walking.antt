@@ -1,7 +1,7 @@
 -- The first walk, state by state: what the walk of one state comes to, and the tables after it.
 -- Assumes nothing.
 use mathlib.Core.Path.{◌≡◌, refl, sym, ap, ◌∙◌}
-use mathlib.Core.List.{List, [], ◌∷◌, ◌++◌, append-nil, append_assoc}
+use mathlib.Core.List.{List, [], ◌∷◌, ◌++◌, map, append-nil, append_assoc}
 use Prim.Native.Nat.{ℕ, suc, ◌+◌, ◌-◌, ◌≤◌, ◌<◌}
 use native.Mathlib.Numerals.{add-one}
 use native.Mathlib.Omega.{arith}
@@ -20,15 +20,18 @@ use Rattle.term.specs.Size.{sizes_checked}
 use Rattle.domination.specs.Memory.{Drops}
 use Rattle.generalized.specs.Limits.{max_product, max_generalized_states}
 use Rattle.generalized.specs.declared.Extent.{Extent}
-use Rattle.generalized.specs.declared.Step.{Step}
-use Rattle.generalized.specs.declared.Step.TheVariants.{On, Stop}
-use Rattle.generalized.specs.declared.Walked.TheVariants.{Accepted}
+use Rattle.std.specs.Prelude.{Result as Returned, Ok, Err}
+use Rattle.answer.specs.declared.Refusal.{Refusal}
+use Rattle.answer.specs.Result.{reason_number}
+use Rattle.term.specs.Memory.{pack}
+use Rattle.generalized.specs.Generalized.{state_terms}
+use Rattle.generalized.specs.Memory.{Tables}
 use Rattle.generalized.specs.Explore.{explore}
 use Rattle.generalized.specs.Generalized.{transitions, product_check, targets, state_numbering, state_walk, generalized}
 use Rattle.generalized.specs.Generalized.{state_conflicts, walk_conflicts}
-use Rattle.generalized.specs.Memory.{ProductRoom, Product, ListedKept, WalkRoom, meet_targets, Added, AddsTransitions}
+use Rattle.generalized.specs.Memory.{ProductRoom, ListedKept, WalkRoom, meet_targets, Added, AddsTransitions}
 use Rattle.generalized.specs.Memory.{Told}
-use Rattle.generalized.specs.Memory.{MeetsAll, all_transitions, WalkPlaces, Walks}
+use Rattle.generalized.specs.Memory.{MeetsAll, all_transitions, WalkPlaces}
 use Rattle.generalized.proofs.Exploring.{explore_next, explore_refused, explore_ends}
 use Rattle.generalized.proofs.Explored.{Extends, extends_longer, all_grows}
 use Rattle.generalized.proofs.Sifting.{left_are, left_told}
@@ -44,25 +47,24 @@ walk_state rule place count xs =
     and_then (product_check rule place (get_or xs place 0))
     (λ _. meet_targets place (transitions_of rule xs place) count xs)
 
--- the state at place, whose terms are the first count of items
-module _ (rule states : List ℕ) (place : ℕ) (before : Extent) (lt : place < before.states) (items : List ℕ) (count : ℕ)
-    (product : Product rule (get_or states place 0) items count) where
-  state_refused : max_product < count
+-- the state at place
+module _ (rule states : List ℕ) (place : ℕ) (before : Extent) (lt : place < before.states) where
+  state_refused : ((at : ℕ) → product_check rule at (get_or states place 0) ≡ refused 21 at)
       → walk_state rule place before.transitions (take before.states states) ≡ refused 21 place
-  state_refused over = rw (get_or-take before.states states place 0 lt, product.over over place)
+  state_refused over = rw (get_or-take before.states states place 0 lt, over place)
 
-  -- what is left of its terms once they are sifted
-  module _ (passed : sizes_checked rule ≡ fine) (le : count ≤ max_product) {bytes : List ℕ}
-      (told : Told rule items bytes count) {items' bytes' : List ℕ} {n : ℕ}
-      (drops : Drops items bytes count items' bytes' n) where
-    state_adds : (transitions₀ : List ℕ) (step : Step) (states' transitions' : List ℕ)
-        → MeetsAll items' bytes' n place before states transitions₀ step states' transitions'
+  -- whose terms are ts: what is left of them once they are sifted
+  module _ (passed : sizes_checked rule ≡ fine) (checked : product_check rule place (get_or states place 0) ≡ fine)
+      {ts bytes : List ℕ} (are : ts ≡ map pack (state_terms rule (get_or states place 0))) (told : Told rule ts bytes)
+      {ts' bytes' : List ℕ} {n : ℕ} (drops : Drops ts bytes (length ts) ts' bytes' n) where
+    state_adds : (transitions₀ : List ℕ) (step : Returned Extent Refusal) (states' transitions' : List ℕ)
+        → MeetsAll (take n ts') (take n bytes') place before states transitions₀ step states' transitions'
         → AddsTransitions rule (transitions_of rule states place) before.transitions transitions₀
         (walk_state rule place before.transitions (take before.states states)) step states' transitions'
     state_adds transitions₀ step states' transitions' turn =
-        let are = left_are rule passed (get_or states place 0) product le told drops in
-        let own = left_told rule passed (get_or states place 0) product le told drops in
-        rw (get_or-take before.states states place 0 lt, product.checked le place) (rw are at (turn rule own))
+        let left = left_are rule passed (get_or states place 0) are told drops in
+        let own = left_told rule passed (get_or states place 0) are told drops in
+        rw (get_or-take before.states states place 0 lt, checked) (rw left at (turn rule own))
 
 -- the walk of a state only adds states
 state_extends : (rule : List ℕ) (place total : ℕ) (xs ys : List ℕ) → walk_state rule place total xs ≡ accepted ys
@@ -159,7 +161,7 @@ module _ {rule : List ℕ} {initial : ℕ} {states transitions ends : List ℕ} 
   count = length-take-le size.states states (omega (arith, inv.room.few, inv.room.states_room))
 
   pub walk_ends : size.states ≤ place
-      → Walks rule (Accepted initial size.states total dropped) states transitions ends
+      → Tables rule initial size.states total dropped states transitions ends
   walk_ends ge =
       let all : take place xs ≡ xs = take_all place xs (omega (arith, count)) in
       record {
@@ -174,9 +176,8 @@ module _ {rule : List ℕ} {initial : ℕ} {states transitions ends : List ℕ} 
         conflicts = rw all at inv.conflicts;
       }
 
-  -- it goes on with the state there, whose terms are the first many of items
-  module _ (lt : place < size.states) {items : List ℕ} {many : ℕ}
-      (product : Product rule (get_or states place 0) items many) where
+  -- it goes on with the state there
+  module _ (lt : place < size.states) where
     fuel : max_generalized_states - place ≡ suc (max_generalized_states - suc place)
     fuel = omega (arith, inv.room.few)
 
@@ -191,23 +192,30 @@ module _ {rule : List ℕ} {initial : ℕ} {states transitions ends : List ℕ} 
         ∙ rw fuel
         (explore_refused (state_walk rule) (max_generalized_states - suc place) place total xs inside e)
 
-    pub walk_over : max_product < many → generalized rule ≡ refused 21 place
-    walk_over over = refused_here (state_refused rule states place size lt items many product over)
+    pub walk_over : ((at : ℕ) → product_check rule at (get_or states place 0) ≡ refused 21 at)
+        → generalized rule ≡ refused 21 place
+    walk_over over = refused_here (state_refused rule states place size lt over)
 
-    module _ (passed : sizes_checked rule ≡ fine) (le : many ≤ max_product) {bytes : List ℕ}
-        (told : Told rule items bytes many) {items' bytes' : List ℕ} {n : ℕ}
-        (drops : Drops items bytes many items' bytes' n) (step : Step) (states' transitions' : List ℕ)
-        (turn : MeetsAll items' bytes' n place size states transitions step states' transitions') where
-      walked : AddsTransitions rule (transitions_of rule states place) total transitions (walk_state rule place total xs)
-          step states' transitions'
-      walked =
-          state_adds rule states place size lt items many product passed le told drops transitions step states'
-          transitions' turn
+    module _ (passed : sizes_checked rule ≡ fine) (checked : product_check rule place (get_or states place 0) ≡ fine)
+        {terms bytes : List ℕ} (are : terms ≡ map pack (state_terms rule (get_or states place 0)))
+        (told : Told rule terms bytes) {terms' bytes' : List ℕ} {n : ℕ}
+        (drops : Drops terms bytes (length terms) terms' bytes' n) (states' transitions' : List ℕ) where
+      -- the transitions that are left, met
+      abbrev Turn : Returned Extent Refusal → Type 0
+      Turn step = MeetsAll (take n terms') (take n bytes') place size states transitions step states' transitions'
 
-      pub walk_refused : {number at : ℕ} → step ≡ Stop number at → generalized rule ≡ refused number at
-      walk_refused e = refused_here (rw e at walked)
+      pub walk_refused : (r : Refusal) → Turn (Err r) → generalized rule ≡ refused (reason_number r.reason) r.place
+      walk_refused r turn =
+          refused_here (state_adds rule states place size lt passed checked are told drops transitions (Err r) states'
+          transitions' turn)
 
-      module _ {met end : ℕ} (e : step ≡ On met end) where
+      module _ (e : Extent) (turn : Turn (Ok e)) where
+        abbrev met : ℕ
+        met = e.states
+
+        abbrev end : ℕ
+        end = e.transitions
+
         abbrev ts : List Term
         ts = transitions_of rule states place
 
@@ -215,7 +223,9 @@ module _ {rule : List ℕ} {initial : ℕ} {states transitions ends : List ℕ} 
         ys = take met states'
 
         added : Added rule ts total transitions (walk_state rule place total xs) met end states' transitions'
-        added = rw e at walked
+        added =
+            state_adds rule states place size lt passed checked are told drops transitions (Ok e) states' transitions'
+            turn
 
         grown : Extends xs ys
         grown = state_extends rule place total xs ys added.are
@@ -254,7 +264,7 @@ module _ {rule : List ℕ} {initial : ℕ} {states transitions ends : List ℕ} 
 
         pub walk_steps : length states' ≡ length states → length transitions' ≡ length transitions → {ends' : List ℕ}
             → ends' ≡ set ends place end → {own : ℕ} → own ≡ state_conflicts rule (get_or states place 0)
-            → Walking rule initial states' transitions' ends' (record { states = met; transitions = end })
+            → Walking rule initial states' transitions' ends' e
             (bit_or dropped own) (place + 1)
         walk_steps same-states same-transitions stored is = record {
           within = omega (arith, inside, extends_longer grown, length-take met states');

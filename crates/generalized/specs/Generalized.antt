@@ -73,8 +73,8 @@ abbrev pub times_conflicts : Bool → List Term → List Term → ℕ
 times_conflicts true ts us = conflicts_between ts us
 times_conflicts false ts us = 0
 
--- over the partial products of a state, as far as its obligations are below n; which of its terms are dropped afterwards,
--- since others dominate them, makes no difference (R-8, sentence 4)
+-- over the partial products of a state, as far as its obligations are below n; which of its terms are dropped
+-- afterwards, since others dominate them, makes no difference (R-8, sentence 4)
 unfoldable pub partial_conflicts : List ℕ → (state n : ℕ) → ℕ
 partial_conflicts rule state zero = 0
 partial_conflicts rule state (suc n) =

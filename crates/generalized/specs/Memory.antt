@@ -3,8 +3,8 @@
 use Rattle.std.specs.Prelude.{ℕ, suc, ◌+◌, ◌*◌, ◌/◌, ◌%◌, ◌<◌, ◌≤◌, ◌≡◌, List, [], ◌∷◌, ◌++◌, map, length, get_or, take}
 use Rattle.std.specs.Prelude.{drop, eqb}
 use Rattle.sets.specs.declared.Joined.{Joined}
-use Rattle.sets.specs.Sets.{In, Stores, insert_product_n, product_conflicts_n}
-use Rattle.answer.specs.Result.{Result, accepted, refused, fine}
+use Rattle.sets.specs.Sets.{In, insert_product_n, product_conflicts_n}
+use Rattle.answer.specs.Result.{Result, accepted, refused, fine, reason_number}
 use Rattle.formula.specs.Formula.{formula}
 use Rattle.term.specs.Limits.{row_places}
 use Rattle.term.specs.Term.{Term, cover}
@@ -13,11 +13,10 @@ use Rattle.acceptance.specs.Acceptance.{fulfilment}
 use Rattle.generalized.specs.Limits.{max_product, max_generalized_transitions, max_generalized_states}
 use Rattle.generalized.specs.declared.Extent.{Extent}
 use Rattle.generalized.specs.declared.Met.{Met}
-use Rattle.generalized.specs.declared.Met.TheVariants.{Number, Full}
-use Rattle.generalized.specs.declared.Step.{Step}
-use Rattle.generalized.specs.declared.Step.TheVariants.{On, Stop}
 use Rattle.generalized.specs.declared.Walked.{Walked}
-use Rattle.generalized.specs.declared.Walked.TheVariants.{Accepted, Refused}
+use Rattle.std.specs.Prelude.{Result as Returned, Ok, Err}
+use Rattle.answer.specs.declared.Refusal.{Refusal}
+use Rattle.std.specs.Prelude.{Option, Some, None}
 use Rattle.generalized.specs.Explore.{find, meet, meet_all}
 use Rattle.generalized.specs.Generalized.{state_terms, transitions, product_check, state_numbering, generalized}
 use Rattle.generalized.specs.Generalized.{state_conflicts, walk_conflicts}
@@ -37,21 +36,29 @@ pub record ProductRoom (product next : List ℕ) : Type 0 where
   pub room : length product ≡ max_product
   pub beside : length next ≡ max_product
 
--- items store ws, of which r tells how many there are and for which propositions a join was dropped
+-- the first r.count of items are ws, with these conflicts
 pub record Multiplied (items : List ℕ) (r : Joined) (ws : List ℕ) (bits : ℕ) : Type 0 where
-  pub stores : Stores items r.count ws
+  pub count : r.count ≡ length ws
+  pub few : r.count ≤ max_product
+  pub are : take r.count items ≡ ws
   pub conflicts : r.conflicts ≡ bits
 
--- the first count of items are a state's terms, unless a partial product is too large; then count is above that
-pub record Product (rule : List ℕ) (state : ℕ) (items : List ℕ) (count : ℕ) : Type 0 where
-  pub checked : count ≤ max_product → (place : ℕ) → product_check rule place state ≡ fine
-  pub terms : count ≤ max_product → take count items ≡ map pack (state_terms rule state)
-  pub over : max_product < count → (place : ℕ) → product_check rule place state ≡ refused 21 place
+-- that, or ws are more than a product may have
+abbrev pub Multiplies : Option Joined → (items ws : List ℕ) (bits : ℕ) → Type 0
+Multiplies (Some r) items ws bits = Multiplied items r ws bits
+Multiplies None items ws bits = max_product < length ws
 
--- so many as r tells, with the state's conflicts
-pub record StateProduct (rule : List ℕ) (state : ℕ) (items : List ℕ) (r : Joined) : Type 0 where
-  pub product : Product rule state items r.count
-  pub conflicts : r.count ≤ max_product → r.conflicts ≡ state_conflicts rule state
+-- the first r.count of items are a state's terms, with the state's conflicts
+pub record Product (rule : List ℕ) (state : ℕ) (items : List ℕ) (r : Joined) : Type 0 where
+  pub few : r.count ≤ max_product
+  pub checked : (place : ℕ) → product_check rule place state ≡ fine
+  pub terms : take r.count items ≡ map pack (state_terms rule state)
+  pub conflicts : r.conflicts ≡ state_conflicts rule state
+
+-- that, or a partial product is too large
+abbrev pub StateProduct : (rule : List ℕ) (state : ℕ) → Option Joined → (items : List ℕ) → Type 0
+StateProduct rule state (Some r) items = Product rule state items r
+StateProduct rule state None items = (place : ℕ) → product_check rule place state ≡ refused 21 place
 
 -- ---- a transition in the table
 
@@ -83,9 +90,14 @@ pub record ListedKept (rule xs : List ℕ) (ts : List Term) (ns : List ℕ) : Ty
 
 -- ---- a state walked
 
--- k, where it is below n, is the number of the one at place k of items: it stands nowhere before
-abbrev pub OwnNumber : (k n : ℕ) (items : List ℕ) → Type 0
-OwnNumber k n items = k < n → k ≡ find eqb (get_or items k 0) (take n items)
+-- k, where it is a place of items, is the number of the one there: it stands nowhere before
+abbrev pub OwnNumber : (k : ℕ) (items : List ℕ) → Type 0
+OwnNumber k items = k < length items → k ≡ find eqb (get_or items k 0) items
+
+-- the number of x among items, or none where it is not among them
+abbrev pub Finds : (x : ℕ) (items : List ℕ) → Option ℕ → Type 0
+Finds x items (Some k) = (k ≡ find eqb x items) × (k < length items)
+Finds x items None = length items ≤ find eqb x items
 
 -- x, met when xs were there: its number, and that count are in items then, xs the first of them
 pub record NumberedState (x : ℕ) (xs : List ℕ) (met : Result (List ℕ)) (number count : ℕ) (items : List ℕ)
@@ -97,12 +109,13 @@ pub record NumberedState (x : ℕ) (xs : List ℕ) (met : Result (List ℕ)) (nu
   pub inside : number < count
 
 -- what a meeting comes to: x has its number, or it is one too many
-abbrev pub Meets : (full place x : ℕ) (xs : List ℕ) (met : Result (List ℕ)) → Met → (items : List ℕ) → Type 0
-Meets full place x xs met (Number number count) items = NumberedState x xs met number count items
-Meets full place x xs met Full items = met ≡ refused full place
+abbrev pub Meets : (full place x : ℕ) (xs : List ℕ) (met : Result (List ℕ)) → Option Met → (items : List ℕ)
+    → Type 0
+Meets full place x xs met (Some m) items = NumberedState x xs met m.number m.count items
+Meets full place x xs met None items = met ≡ refused full place
 
 -- x met when the first n of items are there, for any refusal where items has no place for one more
-abbrev pub MeetsState : (x n : ℕ) (items : List ℕ) → Met → (after : List ℕ) → Type 0
+abbrev pub MeetsState : (x n : ℕ) (items : List ℕ) → Option Met → (after : List ℕ) → Type 0
 MeetsState x n items met after =
     (full place : ℕ) → Meets full place x (take n items) (meet eqb (length items) full place x (take n items)) met after
 
@@ -129,22 +142,23 @@ pub record Added (rule : List ℕ) (ts : List Term) (total : ℕ) (before : List
 
 -- what walking a state comes to: ts are added, or the refusal
 abbrev pub AddsTransitions : (rule : List ℕ) (ts : List Term) (total : ℕ) (before : List ℕ) (met : Result (List ℕ))
-    → Step → (states after : List ℕ) → Type 0
-AddsTransitions rule ts total before met (On n m) states after = Added rule ts total before met n m states after
-AddsTransitions rule ts total before met (Stop number place) states after = met ≡ refused number place
+    → Returned Extent Refusal → (states after : List ℕ) → Type 0
+AddsTransitions rule ts total before met (Ok e) states after =
+    Added rule ts total before met e.states e.transitions states after
+AddsTransitions rule ts total before met (Err r) states after = met ≡ refused (reason_number r.reason) r.place
 
--- the first count of bytes tell which untils of a rule the first count of ts fulfil
-abbrev pub Told : (rule ts bytes : List ℕ) (count : ℕ) → Type 0
-Told rule ts bytes count = take count bytes ≡ map (fulfilment rule) (map unpack (take count ts))
+-- the bytes tell which untils of a rule ts fulfil
+abbrev pub Told : (rule ts bytes : List ℕ) → Type 0
+Told rule ts bytes = bytes ≡ map (fulfilment rule) (map unpack ts)
 
--- the first count of ts, transitions of the state at place of a rule whose untils the bytes tell, met one after another
--- and added to the states and transitions before
-abbrev pub MeetsAll : (ts bytes : List ℕ) (count place : ℕ) (before : Extent) (states transitions : List ℕ)
-    → Step → (states' transitions' : List ℕ) → Type 0
-MeetsAll ts bytes count place before states transitions step states' transitions' =
-    (rule : List ℕ) → Told rule ts bytes count
-    → AddsTransitions rule (map unpack (take count ts)) before.transitions transitions
-    (meet_targets place (map unpack (take count ts)) before.transitions (take before.states states))
+-- ts, transitions of the state at place of a rule whose untils the bytes tell, met one after another and added to the
+-- states and transitions before
+abbrev pub MeetsAll : (ts bytes : List ℕ) (place : ℕ) (before : Extent) (states transitions : List ℕ)
+    → Returned Extent Refusal → (states' transitions' : List ℕ) → Type 0
+MeetsAll ts bytes place before states transitions step states' transitions' =
+    (rule : List ℕ) → Told rule ts bytes
+    → AddsTransitions rule (map unpack ts) before.transitions transitions
+    (meet_targets place (map unpack ts) before.transitions (take before.states states))
     step states' transitions'
 
 -- ---- the whole walk
@@ -171,8 +185,9 @@ pub record Tables (rule : List ℕ) (initial n m bits : ℕ) (states transitions
   pub ending : (k : ℕ) → k < n → get_or ends k 0 ≡ length (all_transitions rule (take (suc k) (take n states)))
   pub conflicts : bits ≡ walk_conflicts rule (take n states)
 
--- the first walk's answer: how many states and transitions there are, and its conflicts, with the tables, or the refusal
-abbrev pub Walks : (rule : List ℕ) → Walked → (states transitions ends : List ℕ) → Type 0
-Walks rule (Accepted initial n m conflicts) states transitions ends =
-    Tables rule initial n m conflicts states transitions ends
-Walks rule (Refused number place) states transitions ends = generalized rule ≡ refused number place
+-- the first walk's answer: how many states and transitions there are, and its conflicts, with the tables, or the
+-- refusal
+abbrev pub Walks : (rule : List ℕ) → Returned Walked Refusal → (states transitions ends : List ℕ) → Type 0
+Walks rule (Ok w) states transitions ends =
+    Tables rule w.initial w.states w.transitions w.conflicts states transitions ends
+Walks rule (Err r) states transitions ends = generalized rule ≡ refused (reason_number r.reason) r.place

@@ -61,6 +61,10 @@ known image {c} e =
     let found = checks_of image c e in
     readable (read_of image found.automaton found.read)
 
+-- and the counts are those that its contents say
+pub accepted_counts : (image : List ℕ) {c : Counts} → accepted c ≡ checks image → c ≡ counts_at image
+accepted_counts image {c} e = (checks_of image c e).same
+
 -- the automaton's targets and initial numbers are states
 pub readable_in_range : (image : List ℕ) → Readable image → InRange (image_automaton image)
 readable_in_range image fine = record {

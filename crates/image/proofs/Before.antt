@@ -1,6 +1,6 @@
 -- A check before an answer: an accepted whole has a fine check, and one that is refused before a value has the check's
 -- refusal. Assumes nothing.
-use mathlib.Core.Path.{◌≡◌, refl, sym, ◌∙◌}
+use mathlib.Core.Path.{◌≡◌, refl, sym}
 use Prim.Native.Nat.{ℕ}
 use Rattle.answer.proofs.Results.{never_both}
 use Rattle.answer.specs.Result.{Result, accepted, refused, and_then, Check, fine}
@@ -29,8 +29,3 @@ pub refuses : {A : Type 0} (check : Check) (y : A) {number place : ℕ}
     → refused number place ≡ and_then check (λ _. accepted y) → refused number place ≡ check
 refuses (accepted u) y e = never_both e
 refuses (refused n p) y e = cc
-
--- an answer that is a refusal stands where its refusal does
-pub handed_on : {A : Type 0} {r x y : Result A} {number place : ℕ} → r ≡ refused number place → r ≡ x
-    → (refused number place ≡ x → refused number place ≡ y) → r ≡ y
-handed_on told e law = told ∙ law (sym told ∙ e)

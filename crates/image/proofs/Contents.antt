@@ -12,13 +12,12 @@ use Rattle.automaton.specs.Automaton.{Automaton}
 use Rattle.automaton.specs.Tables.{Counts, counts}
 use Rattle.answer.specs.Bytes.{number_at}
 use Rattle.image.specs.Image.{transitions_at, initial_at, image_length, contents_bytes}
-use Rattle.image.specs.Image.{states_body, transitions_body, initial_body}
-use Rattle.image.specs.Reader.{counts_at, contents_check, records_check, automaton_from, read_tables, read_image}
+use Rattle.image.specs.Reader.{counts_at, contents_check, records_check, read_tables, read_image}
 use Rattle.image.specs.Reader.{bodies_check}
 use Rattle.image.specs.Lookup.{image_automaton}
 use Rattle.image.specs.Calls.{checks}
 use Rattle.image.specs.Memory.{Small, Sized}
-use Rattle.image.proofs.Before.{follows, Passes, refuses}
+use Rattle.image.proofs.Before.{follows, passes, refuses}
 use Rattle.image.proofs.Stores.{part_whole}
 use Rattle.image.proofs.Tests.{counts_small}
 use Rattle.image.proofs.Tables.{counts_back}
@@ -58,43 +57,47 @@ contents_fine image e =
 
 -- parts that go to the end are what is left there
 pub parts_whole : (c : Counts) (image : List ℕ) (a b d : ℕ) {r : Check}
-    → r ≡ records_check c (take (length image - a) (drop a image)) (take (length image - b) (drop b image)) (take (length image - d) (drop d image))
+    → let whole : ℕ → List ℕ = λ k. take (length image - k) (drop k image) in
+    r ≡ records_check c (whole a) (whole b) (whole d)
     → r ≡ records_check c (drop a image) (drop b image) (drop d image)
 parts_whole c image a b d e = rw (part_whole image a, part_whole image b, part_whole image d) at e
 
+-- the counts that an image's contents say, unless 10 refuses them
+abbrev pub opened : List ℕ → Result Counts
+opened image = and_then (contents_check image) (λ _. accepted (counts_at image))
+
 -- what the code knows of an image that 10 does not refuse
-pub sized : {c : Counts} {image : List ℕ} → Passes (contents_check image) c (counts_at image) → Sized c image
-sized {c} {image} contents =
+pub sized : (image : List ℕ) {c : Counts} → accepted c ≡ opened image → Sized c image
+sized image {c} e =
+    let contents = passes (contents_check image) c (counts_at image) e in
     let fits = contents_fine image contents.passed in
     rw contents.same (record { small = fits.small; size = fits.size })
 
 -- what decides on an image, in the order of the checks
-module _ (image : List ℕ) where
-  pub contents_refused : {number place : ℕ}
-      → refused number place ≡ and_then (contents_check image) (λ _. accepted (counts_at image))
-      → refused number place ≡ checks image
-  unfolding checks read_image
-  contents_refused e = rw (← refuses (contents_check image) (counts_at image) e)
+pub contents_refused : (image : List ℕ) {number place : ℕ} → refused number place ≡ opened image
+    → refused number place ≡ checks image
+unfolding checks read_image
+contents_refused image e = rw (← refuses (contents_check image) (counts_at image) e)
 
-  module _ (c : Counts) (contents : Passes (contents_check image) c (counts_at image)) where
-    pub bodies_refused : {number place : ℕ} → refused number place ≡ bodies_check c image
-        → refused number place ≡ checks image
-    unfolding checks read_image read_tables
-    bodies_refused e =
-        let f = rw contents.same at e in
-        rw (contents.passed, ← f)
+pub bodies_refused : (image : List ℕ) (c : Counts) {number place : ℕ} → accepted c ≡ opened image
+    → refused number place ≡ bodies_check c image → refused number place ≡ checks image
+unfolding checks read_image read_tables
+bodies_refused image c known e =
+    let contents = passes (contents_check image) c (counts_at image) known in
+    let f = rw contents.same at e in
+    rw (contents.passed, ← f)
 
-    pub image_read : bodies_check c image ≡ fine
-        → read_image image
-        ≡ accepted (automaton_from c (states_body image) (transitions_body c image) (initial_body c image))
-    unfolding read_image read_tables
-    image_read e =
-        let f = rw contents.same at e in
-        rw (contents.passed, f, contents.same)
+pub image_accepted : (image : List ℕ) {c : Counts} → accepted c ≡ opened image → fine ≡ bodies_check c image
+    → accepted c ≡ checks image
+unfolding checks read_image read_tables
+image_accepted image {c} known e =
+    let contents = passes (contents_check image) c (counts_at image) known in
+    let f : bodies_check (counts_at image) image ≡ fine = sym (rw contents.same at e) in
+    let same : c ≡ counts_at image = contents.same in
+    rw (contents.passed, f, counts_back (counts_at image) _ _ _ f, same)
 
-    pub image_accepted : bodies_check c image ≡ fine → accepted c ≡ checks image
-    unfolding checks
-    image_accepted e = rw (image_read e, counts_back c _ _ _ e)
+-- all of it, for `image::check`
+pub ruleset decides = (sized, contents_refused, bodies_refused, image_accepted)
 
 -- an image that is read says what its contents and its bodies are
 pub record Read (image : List ℕ) (a : Automaton) : Type 0 where
@@ -132,7 +135,8 @@ checks_of image c e = go (read_image image) refl e
 pub checks_sized : (image : List ℕ) (c : Counts) → accepted c ≡ checks image → Sized c image
 checks_sized image c e =
     let found = checks_of image c e in
-    sized (record { passed = (read_of image found.automaton found.read).contents; same = found.same })
+    let fits = contents_fine image (read_of image found.automaton found.read).contents in
+    rw found.same (record { small = fits.small; size = fits.size })
 
 pub checks_refused : (image : List ℕ) {number place : ℕ} → refused number place ≡ checks image
     → read_image image ≡ refused number place

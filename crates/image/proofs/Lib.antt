@@ -18,3 +18,4 @@ pub mod ImageAccepted
 pub mod Lookup
 pub mod Accepted
 pub mod Rests
+pub mod Known

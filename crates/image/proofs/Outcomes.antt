@@ -1,23 +1,22 @@
 -- The outcomes of write and read, by the answers of their checks and what was stored. Assumes of the bytes only that
 -- they are bytes.
 use mathlib.Core.Path.{◌≡◌, refl, sym, ap, ◌∙◌}
-use mathlib.Core.Bool.{Bool, true, not}
 use mathlib.Core.List.{List, ◌++◌}
-use Prim.Native.Nat.{ℕ, ◌≤◌, ◌<◌}
+use Prim.Native.Nat.{ℕ, ◌≤◌}
 use native.Mathlib.Omega.{arith}
 use lib.ListN.{length, take, drop, length-drop}
 use lib.Seq.{take-append_seam}
-use borrow.Author.Tests.{le-leb, lt-leb, not-true}
-use Rattle.answer.specs.Result.{Result, Check, accepted, refused, fine}
+use borrow.Author.Tests.{le-leb}
+use Rattle.answer.specs.Result.{Result, accepted, refused, fine}
 use Rattle.answer.proofs.Results.{never_both}
 use Rattle.automaton.specs.Automaton.{Automaton}
 use Rattle.automaton.specs.Records.{state_records, transition_records, initial_records}
-use Rattle.automaton.specs.Tables.{Counts, counts, Outcome, outcome, lengths_fit, TablesRoom}
-use Rattle.automaton.proofs.Room.{tables_short, fine_room}
+use Rattle.automaton.specs.Tables.{Counts, counts, Outcome, outcome, TablesRoom}
+use Rattle.automaton.proofs.Room.{fine_room}
 use Rattle.answer.specs.Bytes.{filled}
 use Rattle.image.specs.Image.{transitions_at, initial_at, image_bytes, contents_bytes, largest_image}
 use Rattle.image.specs.Image.{states_body, transitions_body, initial_body}
-use Rattle.image.specs.Reader.{counts_at, counts_fit, records_check, read_tables, bodies_check}
+use Rattle.image.specs.Reader.{counts_at, records_check, read_tables, bodies_check}
 use Rattle.image.specs.Calls.{written, writes, loaded, read_into, checks}
 use Rattle.answer.specs.Buffer.{Buffer, buffer}
 use Rattle.image.specs.Memory.{joined_over, HasRecords, Loads, Small}
@@ -40,24 +39,6 @@ module _ (s t i : List ℕ) where
     checked = checked;
   }
 
--- the writer, its tests in their order
-module _ (c : Counts) (s t i image : List ℕ) where
-  pub write_short : {r : Bool} → r ≡ lengths_fit (length s) (length t) (length i) → not r ≡ true
-      → buffer (refused 25 0) image ≡ writes c s t i image
-  unfolding writes
-  write_short fit f = rw (tables_short s t i fit f)
-
-  pub buffer_short : TablesRoom s t i → length image < largest_image
-      → buffer (refused 25 0) image ≡ writes c s t i image
-  unfolding writes
-  buffer_short tables lt = rw (fine_room s t i tables, lt-leb largest_image (length image) lt)
-
-  pub counts_refused : TablesRoom s t i → largest_image ≤ length image → {q : Bool} → q ≡ counts_fit c → not q ≡ true
-      → buffer (refused 10 0) image ≡ writes c s t i image
-  unfolding writes
-  counts_refused tables room {q} e f =
-      rw (fine_room s t i tables, le-leb largest_image (length image) room, ← e, not-true q f)
-
 -- the tables and the buffer are long enough, and the counts fit
 pub record Ready (c : Counts) (s t i image : List ℕ) : Type 0 where
   pub small : Small c
@@ -71,23 +52,14 @@ module _ {c : Counts} {s t i image : List ℕ} (ready : Ready c s t i image) whe
       let tables = ready.tables in
       (small.states, omega arith, omega arith, omega arith)
 
-  decided : writes c s t i image ≡ written (read_tables c s t i) image
-  unfolding writes
-  decided =
-      rw (fine_room s t i ready.tables, le-leb largest_image (length image) ready.room, small_fits c ready.small)
-
-  pub records_refused : {r : Check} {number place : ℕ} → r ≡ records_check c s t i → r ≡ refused number place
-      → buffer (refused number place) image ≡ writes c s t i image
-  unfolding read_tables
-  records_refused e told = rw (decided, ← e, told)
-
-  pub write_accepted : {r : Check} {w : Buffer} → Bytes s → Bytes t → Bytes i → r ≡ records_check c s t i → r ≡ fine
+  pub write_accepted : {w : Buffer} → Bytes s → Bytes t → Bytes i → fine ≡ records_check c s t i
       → w ≡ joined_over c s t i image → w ≡ writes c s t i image
-  unfolding read_tables
-  write_accepted bs bt bi known told e =
-      let checked = sym known ∙ told in
-      let passed = room_passed s t i c ready.small ready.tables bs bt bi checked in
-      e ∙ rw (decided, checked, image_back c s t i passed, image_length_lem c s t i passed)
+  unfolding writes read_tables
+  write_accepted bs bt bi known e =
+      let passed = room_passed s t i c ready.small ready.tables bs bt bi (sym known) in
+      let room = le-leb largest_image (length image) ready.room in
+      e ∙ rw (fine_room s t i ready.tables, room, small_fits c ready.small, sym known)
+      (rw (image_back c s t i passed, image_length_lem c s t i passed))
 
 -- what is written when a length is answered
 pub record Writes (r : Result Automaton) (n : ℕ) (before after : List ℕ) : Type 0 where
@@ -148,26 +120,20 @@ body_passed image contents bytes checked =
       checked = checked;
     }
 
--- the reader, its tests in their order
-module _ (image s t i : List ℕ) where
-  pub read_short : {r : Bool} → r ≡ lengths_fit (length s) (length t) (length i) → not r ≡ true
-      → outcome (refused 25 0) s t i ≡ read_into image s t i
+-- the reader, where the tables are long enough
+module _ (image s t i : List ℕ) (tables : TablesRoom s t i) where
+  pub read_refused : {number place : ℕ} → refused number place ≡ checks image
+      → outcome (refused number place) s t i ≡ read_into image s t i
   unfolding read_into
-  read_short fit f = rw (tables_short s t i fit f)
+  read_refused e = rw (fine_room s t i tables, checks_refused image e)
 
-  module _ (tables : TablesRoom s t i) where
-    pub read_refused : {answer : Result Counts} {number place : ℕ} → answer ≡ refused number place
-        → answer ≡ checks image → outcome answer s t i ≡ read_into image s t i
-    unfolding read_into
-    read_refused told e = rw (fine_room s t i tables, checks_refused image (sym told ∙ e), told)
-
-    pub read_accepted : {c : Counts} {s₁ t₁ i₁ : List ℕ} → Bytes image → accepted c ≡ checks image
-        → Loads image c s t i s₁ t₁ i₁ → outcome (accepted c) s₁ t₁ i₁ ≡ read_into image s t i
-    unfolding read_into
-    read_accepted {c} bytes e loads =
-        let found = checks_of image c e in
-        let parts = read_of image found.automaton found.read in
-        let passed = body_passed image (contents_fine image parts.contents) bytes parts.bodies in
-        rw (loads.states_are, loads.transitions_are, loads.initial_are, fine_room s t i tables, found.read)
-        (rw (parts.automaton, counts_back _ _ _ _ parts.bodies, states_back _ _ _ _ passed)
-        (rw (transitions_back _ _ _ _ passed, initial_back _ _ _ _ passed, found.same)))
+  pub read_accepted : {c : Counts} {s₁ t₁ i₁ : List ℕ} → Bytes image → accepted c ≡ checks image
+      → Loads image c s t i s₁ t₁ i₁ → outcome (accepted c) s₁ t₁ i₁ ≡ read_into image s t i
+  unfolding read_into
+  read_accepted {c} bytes e loads =
+      let found = checks_of image c e in
+      let parts = read_of image found.automaton found.read in
+      let passed = body_passed image (contents_fine image parts.contents) bytes parts.bodies in
+      rw (loads.states_are, loads.transitions_are, loads.initial_are, fine_room s t i tables, found.read)
+      (rw (parts.automaton, counts_back _ _ _ _ parts.bodies, states_back _ _ _ _ passed)
+      (rw (transitions_back _ _ _ _ passed, initial_back _ _ _ _ passed, found.same)))

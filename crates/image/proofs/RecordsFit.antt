@@ -1,4 +1,5 @@
--- Records that 11 to 13 let pass, one by one: the one place that takes the order of these checks apart. Assumes nothing.
+-- Records that 11 to 13 let pass, one by one: the one place that takes the order of these checks apart. Assumes
+-- nothing.
 use mathlib.Core.Path.{◌≡◌, sym, ◌∙◌}
 use mathlib.Core.List.{List}
 use Prim.Native.Nat.{ℕ, ◌<◌}

@@ -1,38 +1,36 @@
--- The loop over the initial numbers: none before i is refused, and the next is to be one above the one before. Assumes
--- nothing.
-use mathlib.Core.Path.{◌≡◌, refl, sym}
+-- The loop over the initial numbers: what the code tests of one is what 13 asks, where the least that it may be is one
+-- above the number before. Assumes nothing.
+use mathlib.Core.Path.{◌≡◌, refl}
+use mathlib.Core.Bool.{Bool, true, false, ◌&&◌}
 use mathlib.Core.List.{List}
-use Prim.Native.Nat.{ℕ, ◌+◌, ◌*◌, ◌≤◌, ◌<◌}
+use Prim.Native.Nat.{ℕ, zero, suc, ◌+◌, ◌*◌}
 use native.Mathlib.Numerals.{add-one}
-use Rattle.answer.specs.Result.{refused, lowest}
-use Rattle.answer.proofs.Lowest.{Passing, pass_begins, pass_steps, pass_fails}
+use native.Mathlib.Omega.{arith}
+use lib.Dec.{leb, ltb}
+use borrow.Author.Tests.{le-leb}
+use Rattle.std.proofs.lemmas.Bool.Decides.{nat_tests}
+use Rattle.answer.specs.Result.{require}
+use Rattle.answer.proofs.Lowest.{turn_begins, turn_passes, turn_fails}
 use Rattle.answer.specs.Bytes.{number_at}
 use Rattle.image.specs.Reader.{initial_check}
-use Rattle.image.proofs.Tests.{least_at, number_wrong, not_rising, rising}
 
-pub record Rising (states : ℕ) (xs : List ℕ) (n least i : ℕ) : Type 0 where
-  pub passing : Passing (initial_check states xs) n i
-  pub next : least ≡ least_at xs i
+-- what initial number i is to be at least
+abbrev pub least_at : List ℕ → ℕ → ℕ
+least_at xs zero = 0
+least_at xs (suc i) = number_at xs (2 * i) + 1
 
-module _ (states : ℕ) (xs : List ℕ) (n : ℕ) where
-  pub rise_begins : Rising states xs n 0 0
-  rise_begins = record { passing = pass_begins _ _; next = refl }
+pub least_next : (xs : List ℕ) (i : ℕ) {x : ℕ} → x ≡ number_at xs (2 * i) → x + 1 ≡ least_at xs (i + 1)
+least_next xs i read = rw (add-one i, read)
 
-  -- x is the number that the code has read at i
-  module _ (least i x : ℕ) (lt : i < n) (inv : Rising states xs n least i) (read : x ≡ number_at xs (2 * i)) where
-    pub out_of_range : states ≤ x → refused 13 i ≡ lowest (initial_check states xs) n
-    out_of_range le =
-        pass_fails (initial_check states xs) n i lt inv.passing (number_wrong states xs i (rw (← read) le))
+pub initial_tested : (n : ℕ) (xs : List ℕ) (i : ℕ) {x least : ℕ} → x ≡ number_at xs (2 * i) → least ≡ least_at xs i
+    → require (ltb x n && leb least x) 13 i ≡ initial_check n xs i
+unfolding initial_check
+initial_tested n xs zero {x} read next = rw (next, le-leb 0 x (omega arith), read) (passed (ltb (number_at xs 0) n))
+  where
+    passed : (b : Bool) → require (b && true) 13 0 ≡ require b 13 0
+    passed true = refl
+    passed false = refl
+initial_tested n xs (suc i) {x} read next = rw (next, read) (grind (arith, nat_tests))
 
-    module _ (inside : x < states) where
-      pub rise_fails : x < least → refused 13 i ≡ lowest (initial_check states xs) n
-      rise_fails less =
-          pass_fails (initial_check states xs) n i lt inv.passing
-          (not_rising states xs i (rw (← read) inside) (rw (← read, ← inv.next) less))
-
-      pub rise_steps : least ≤ x → Rising states xs n (x + 1) (i + 1)
-      rise_steps le = record {
-        passing = pass_steps (initial_check states xs) n i lt inv.passing
-            (sym (rising states xs i (rw (← read) inside) (rw (← read, ← inv.next) le)));
-        next = rw (add-one i, read);
-      }
+-- a turn of the loop over the initial numbers, for `image::check_initial`
+pub ruleset initial_turns = (turn_begins, turn_passes, turn_fails, least_next, initial_tested)

@@ -5,10 +5,10 @@ use mathlib.Core.List.{List, [], ◌∷◌, ◌++◌, append-nil, append_assoc}
 use Prim.Native.Nat.{ℕ, suc, ◌+◌, ◌-◌, ◌*◌, ◌≤◌}
 use native.Mathlib.Nat.{zero-add}
 use native.Mathlib.Omega.{arith}
-use lib.ListN.{length, take, drop, set, replicate, length-drop, drop_of_length-le}
-use lib.Seq.{sets, sets-eq, take_all, take_at, drop_at, drop-drop, length-take-le}
+use lib.ListN.{length, take, drop, set, length-drop, drop_of_length-le}
+use lib.Seq.{sets, sets-eq, take_all, drop-drop, length-take-le}
 use borrow.Rule.Slice.PartMut.{mid_of, put_mid}
-use Rattle.answer.specs.Bytes.{two_bytes, filled}
+use Rattle.answer.specs.Bytes.{two_bytes}
 use Rattle.automaton.specs.Tables.{Counts}
 use Rattle.answer.specs.Result.{accepted}
 use Rattle.image.specs.Image.{entry, transitions_at, initial_at, image_length, contents, contents_bytes, entry_bytes}
@@ -26,26 +26,12 @@ part_back xs ys a =
     rw (drop_of_length-le (drop a xs) {i = length xs - a} (rw (length-drop a xs) (omega arith)), append-nil)
 
 -- a copy at the start of such a part
-pub part_copied : (xs source ys : List ℕ) (a n : ℕ) → a + n ≤ length xs → n ≤ length source
-    → ys ≡ take n source ++ drop n (mid_of a (length xs - a) xs)
-    → put_mid a (length xs - a) xs ys ≡ sets xs a (take n source)
-part_copied xs source ys a n room le e =
-    let size : length (take n source) ≡ n = length-take-le n source le in
-    let all = sets-eq (take n source) xs a (rw size room) in
-    part_back xs ys a ∙ rw (e, part_whole xs a, drop-drop n a xs, all, size, append_assoc)
-
--- a copy out of such a part, and zeros in the part behind it
-pub part_loaded : (table image xs ys : List ℕ) (a n : ℕ) → n ≤ length table → a + n ≤ length image
-    → xs ≡ take n (mid_of a (length image - a) image) ++ drop n table
-    → ys ≡ replicate (length (mid_of n (length xs - n) xs)) 0
-    → put_mid n (length xs - n) xs ys ≡ filled table (take n (drop a image))
-part_loaded table image xs ys a n room le e f =
-    let bytes = take n (drop a image) in
-    let size : length bytes ≡ n = length-take-le n (drop a image) (rw (length-drop a image) (omega arith)) in
-    let whole : xs ≡ bytes ++ drop n table = rw (part_whole image a) at e in
-    let front = take_at bytes (drop n table) n size in
-    let behind = drop_at bytes (drop n table) n size in
-    part_back xs ys n ∙ rw (f, part_whole xs n, whole, front, behind, length-drop n table, size)
+pub part_copied : (xs source : List ℕ) (a : ℕ) {ys : List ℕ} → a + length source ≤ length xs
+    → ys ≡ source ++ drop (length source) (mid_of a (length xs - a) xs)
+    → put_mid a (length xs - a) xs ys ≡ sets xs a source
+part_copied xs source a {ys} room e =
+    let all = sets-eq source xs a room in
+    part_back xs ys a ∙ rw (e, part_whole xs a, drop-drop (length source) a xs, all, append_assoc)
 
 -- a run of stores, and another right behind it
 pub sets_sets : (vs ws xs : List ℕ) (i j : ℕ) → j ≡ i + length vs → sets (sets xs i vs) j ws ≡ sets xs i (vs ++ ws)

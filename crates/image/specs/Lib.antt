@@ -4,3 +4,4 @@ pub mod Reader
 pub mod Lookup
 pub mod Calls
 pub mod Memory
+pub mod Parsed

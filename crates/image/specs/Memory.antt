@@ -1,12 +1,10 @@
 -- What the functions under the calls write and read say.
 use Rattle.std.specs.Prelude.{ℕ, ◌+◌, ◌*◌, ◌≤◌, ◌≡◌, List, ◌++◌, get_or, length, take, drop, eqb}
-use Rattle.answer.specs.Result.{Result, accepted, refused}
+use Rattle.answer.specs.Result.{accepted}
 use Rattle.automaton.specs.Automaton.{State}
 use Rattle.automaton.specs.Limits.{max_states, max_transitions, max_initial}
 use Rattle.automaton.specs.Tables.{Counts}
 use Rattle.answer.specs.Bytes.{number_at, filled}
-use Rattle.image.specs.declared.StatePass.{StatePass}
-use Rattle.image.specs.declared.StatePass.TheVariants.{Faulty, Sum}
 use Rattle.image.specs.Image.{image_length, contents, states_body, transitions_body, initial_body}
 use Rattle.image.specs.Reader.{transitions_from, count_sum}
 use Rattle.answer.specs.Buffer.{Buffer, buffer}
@@ -48,8 +46,3 @@ state_at states transitions q = record {
   accepting = eqb (get_or states (4 * q + 2) 0) 1;
   transitions = transitions_from (number_at states (4 * q)) (drop (4 * count_sum states q) transitions);
 }
-
--- what a pass over state records comes to: 11 at the lowest faulty one, or the sum of their transition counts
-abbrev pub pass_answer : StatePass → Result ℕ
-pass_answer (Faulty i) = refused 11 i
-pass_answer (Sum n) = accepted n

@@ -9,49 +9,18 @@ use Rattle.judge.specs.Memory.{Token, Lifted, Is, Gains, Through, Via, Joined, b
 use Rattle.judge.specs.Memory.{join, join_met}
 use Rattle.judge.specs.Limits.{met_bit}
 use Rattle.automaton.specs.Limits.{max_states}
-use Rattle.judge.proofs.Gathers.{Gathering, adds_as, adds_none, adds_both, lift_as, row_was, row_is}
+use Rattle.judge.proofs.Gathers.{Gathering, adds_as, lift_as, row_was, row_is}
 
 -- ---- the row by which runs go on
 
-module _ {rows u : List ℕ} (m : ℕ) (first : Is u (λ p k. (p ≡ 0) × Token rows m k)) where
-  pub through_once : (Token rows m (met_bit + m) → ⊥) → Is u (λ p k. (p ≡ 0) × Through rows m k)
-  through_once none = record {
-    only = λ p k h. ((first.only p k h).0, inl (first.only p k h).1);
-    all = λ p k h. first.all p k (h.0, ⊎_elim (λ t. t) (λ l. absurd (none l.0)) h.1);
-  }
-
-  pub through_round : {via : List ℕ} → Gains u via (λ p k. (p ≡ 0) × Lifted (Token rows) m k)
-      → Token rows m (met_bit + m) → Is via (λ p k. (p ≡ 0) × Through rows m k)
-  through_round second back = record {
-    only = λ p k h. ⊎_elim (λ h. ((first.only p k h).0, inl (first.only p k h).1)) (λ l. (l.0, inr (back, l.1)))
-        (second.only p k h);
-    all = λ p k h. second.all p k (⊎_map (λ t. first.all p k (h.0, t)) (λ l. (h.0, l.1)) h.1);
-  }
-
--- ---- one row joined with it
-
-module _ {x via : List ℕ} (q m : ℕ) where
-  pub join_none : (Token x q (met_bit + m) → Token x q m) → (Token x q m → ⊥)
-      → Gains x x (λ p k. (p ≡ q) × Via x via m q k)
-  join_none covered none = adds_none (λ p k h. ⊎_elim (λ v. none v.0) (λ v. none (covered v.0)) h.1)
-
-  module _ (b : Token x q m) {y : List ℕ} (row : Gains x y (λ p k. (p ≡ q) × Token via 0 k)) where
-    pub join_run : (Token x q (met_bit + m) → ⊥) → Gains x y (λ p k. (p ≡ q) × Via x via m q k)
-    join_run none =
-        adds_as row (λ p k h. (h.0, inl (b, h.1)))
-        (λ p k h. (h.0, ⊎_elim (λ v. v.1) (λ v. absurd (none v.0)) h.1))
-
-    pub join_met_lem : Token x q (met_bit + m) → {z : List ℕ} → Gains y z (λ p k. (p ≡ q) × Lifted (Token via) 0 k)
-        → Gains x z (λ p k. (p ≡ q) × Via x via m q k)
-    join_met_lem c second = adds_as (adds_both row second) to from
-      where
-        to : (p k : ℕ) → ((p ≡ q) × Token via 0 k) ⊎ ((p ≡ q) × Lifted (Token via) 0 k) → (p ≡ q) × Via x via m q k
-        to p k (inl (e, h)) = (e, inl (b, h))
-        to p k (inr (e, l)) = (e, inr (c, l))
-
-        from : (p k : ℕ) → (p ≡ q) × Via x via m q k → ((p ≡ q) × Token via 0 k) ⊎ ((p ≡ q) × Lifted (Token via) 0 k)
-        from p k (e, inl (t, h)) = inl (e, h)
-        from p k (e, inr (t, l)) = inr (e, l)
+pub through_round : {rows u via : List ℕ} (m : ℕ) → Is u (λ p k. (p ≡ 0) × Token rows m k)
+    → Gains u via (λ p k. (p ≡ 0) × Lifted (Token rows) m k) → Token rows m (met_bit + m)
+    → Is via (λ p k. (p ≡ 0) × Through rows m k)
+through_round m first second back = record {
+  only = λ p k h. ⊎_elim (λ h. ((first.only p k h).0, inl (first.only p k h).1)) (λ l. (l.0, inr (back, l.1)))
+      (second.only p k h);
+  all = λ p k h. second.all p k (⊎_map (λ t. first.all p k (h.0, t)) (λ l. (h.0, l.1)) h.1);
+}
 
 -- ---- all rows
 

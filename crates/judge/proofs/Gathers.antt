@@ -31,19 +31,6 @@ adds_as adds to from = record {
 pub adds_none : {x : List ℕ} {New : (q k : ℕ) → Type 0} → ((q k : ℕ) → New q k → ⊥) → Gains x x New
 adds_none none = record { only = λ q k h. inl h; all = λ q k h. ⊎_elim (λ h. h) (λ h. absurd (none q k h)) h }
 
--- one thing, and then another
-pub adds_both : {x y z : List ℕ} {P Q : (q k : ℕ) → Type 0} → Gains x y P → Gains y z Q
-    → Gains x z (λ q k. P q k ⊎ Q q k)
-adds_both {x} {y} {z} {P} {Q} first second = record {
-  only = λ q k h. ⊎_elim (λ h. ⊎_map (λ h. h) inl (first.only q k h)) (λ n. inr (inr n)) (second.only q k h);
-  all = λ q k h. all q k h;
-}
-  where
-    all : (q k : ℕ) → Token x q k ⊎ (P q k ⊎ Q q k) → Token z q k
-    all q k (inl h) = second.all q k (inl (first.all q k (inl h)))
-    all q k (inr (inl n)) = second.all q k (inl (first.all q k (inr n)))
-    all q k (inr (inr n)) = second.all q k (inr n)
-
 -- what is lifted in one row, in another
 pub lift_as : {P Q : (q k : ℕ) → Type 0} {p q k : ℕ} (l : Lifted P p k) → Q q l.low → Lifted Q q k
 lift_as l h = record { low = l.low; half = l.half; high = l.high; held = h }
@@ -53,6 +40,12 @@ pub adds_row : {x y rows row : List ℕ} {P : ℕ → Type 0} {q : ℕ} → Is r
     → Gains x y (λ t k. P t × Token row 0 k) → Gains x y (λ t k. P t × Token rows q k)
 adds_row is adds =
     adds_as adds (λ t k h. (h.0, (is.only 0 k h.1).1)) (λ t k h. (h.0, is.all 0 k (refl, h.1)))
+
+pub adds_lifted : {x y rows row : List ℕ} {P : ℕ → Type 0} {q : ℕ} → Is row (λ p k. (p ≡ 0) × Token rows q k)
+    → Gains x y (λ t k. P t × Lifted (Token row) 0 k) → Gains x y (λ t k. P t × Lifted (Token rows) q k)
+adds_lifted is adds =
+    adds_as adds (λ t k h. (h.0, lift_as h.1 (is.only 0 h.1.low h.1.held).1))
+    (λ t k h. (h.0, lift_as h.1 (is.all 0 h.1.low (refl, h.1.held))))
 
 -- to rows that have no bit
 pub none_set : (n q k : ℕ) → Token (replicate n 0) q k → ⊥

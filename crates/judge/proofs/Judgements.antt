@@ -1,10 +1,9 @@
 -- The answers of judge, by the tests in their order: each is what `judged` says, with the working bytes. Assumes nothing.
-use Prim.Native.Nat.{ℕ, ◌<◌, ◌≤◌}
+use Prim.Native.Nat.{ℕ, ◌<◌}
 use mathlib.Core.Path.{◌≡◌, refl, sym, ◌∙◌}
 use mathlib.Core.List.{List}
 use mathlib.Core.Bool.{Bool, true, false, ◌||◌}
 use lib.ListN.{length}
-use borrow.Author.Tests.{le-leb, lt-leb}
 use Rattle.answer.specs.Result.{Result, accepted, refused, fine}
 use Rattle.answer.specs.Bytes.{zeros}
 use Rattle.automaton.specs.Automaton.{Automaton, AcceptingPass}
@@ -12,7 +11,7 @@ use Rattle.automaton.specs.Tables.{Counts}
 use Rattle.image.specs.Calls.{checks}
 use Rattle.image.proofs.Contents.{read_of, checks_of, checks_refused}
 use Rattle.judge.specs.Search.{has_accepting_pass}
-use Rattle.judge.specs.Judge.{work_bytes, Verdict, kept, broken, finding, lasso_judgeable, judgeable, verdict}
+use Rattle.judge.specs.Judge.{work_check, Verdict, kept, broken, finding, lasso_judgeable, judgeable, verdict}
 use Rattle.judge.specs.Judge.{Judgement, judgement, letters_judged, judged_by, judged}
 use Rattle.lasso.specs.Lasso.{remaining, lasso_check}
 use Rattle.rest.specs.Rest.{rest_taken, pairs_taken}
@@ -60,29 +59,23 @@ module _ (stem cycle work : List ℕ) where
         → judgement (refused number place) work ≡ judged_by (lasso_judgeable a stem cycle) stem cycle work
     lasso_refused e = judged_refused {x = lasso_judgeable a stem cycle} (rw (← e))
 
-    -- the letters that were judged are those that remain
-    pub remaining_judged : {s c : List ℕ} → s ≡ remaining stem → c ≡ remaining cycle
-        → {j : Judgement} → j ≡ letters_judged a s c work
-        → j ≡ letters_judged a (remaining stem) (remaining cycle) work
-    remaining_judged e f h = rw (← e, ← f) h
-
     pub lasso_judged : fine ≡ lasso_check stem cycle
         → {j : Judgement} → j ≡ letters_judged a (remaining stem) (remaining cycle) work
         → j ≡ judged_by (lasso_judgeable a stem cycle) stem cycle work
     lasso_judged passed h = rw (← passed) h
 
   module _ (image : List ℕ) where
-    pub work_short : length work < work_bytes → judgement (refused 25 0) work ≡ judged image stem cycle work
+    pub work_refused : {number place : ℕ} → refused number place ≡ work_check work
+        → judgement (refused number place) work ≡ judged image stem cycle work
     unfolding judged judgeable
-    work_short lt = judged_refused {x = judgeable image stem cycle work} (rw (lt-leb work_bytes (length work) lt))
+    work_refused e = judged_refused {x = judgeable image stem cycle work} (rw (← e))
 
-    module _ (long : work_bytes ≤ length work) where
+    module _ (long : fine ≡ work_check work) where
       pub image_refused : {number place : ℕ} → refused number place ≡ checks image
           → judgement (refused number place) work ≡ judged image stem cycle work
       unfolding judged judgeable
       image_refused e =
-          judged_refused {x = judgeable image stem cycle work}
-          (rw (le-leb work_bytes (length work) long, checks_refused image e))
+          judged_refused {x = judgeable image stem cycle work} (rw (← long, checks_refused image e))
 
       pub image_judged : {c : Counts} → accepted c ≡ checks image → {j : Judgement}
           → j ≡ judged_by (lasso_judgeable (image_automaton image) stem cycle) stem cycle work
@@ -92,5 +85,5 @@ module _ (stem cycle work : List ℕ) where
           let found = checks_of image c e in
           let read = read_of image found.automaton found.read in
           let same : judgeable image stem cycle work ≡ lasso_judgeable (image_automaton image) stem cycle =
-          rw (le-leb work_bytes (length work) long, found.read, read.automaton) in
+          rw (← long, found.read, read.automaton) in
           rw same h

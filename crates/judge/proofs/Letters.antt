@@ -1,14 +1,18 @@
 -- The bits of all rows after a letter, and after the letters of a word. Assumes of the automaton only that its targets
 -- are states.
-use Prim.Native.Nat.{ℕ, zero, suc, ◌+◌, ◌<◌, ◌≤◌}
-use mathlib.Core.Path.{◌≡◌, refl}
-use mathlib.Core.List.{List}
+use Prim.Native.Nat.{ℕ, zero, suc, ◌+◌, ◌*◌, ◌/◌, ◌%◌, ◌<◌, ◌≤◌}
+use mathlib.Core.Path.{◌≡◌, refl, ◌∙◌, ap}
+use mathlib.Core.List.{List, [], ◌∷◌}
 use mathlib.Core.Bool.{Bool, true, false}
 use mathlib.Core.Logic.{inl, inr, ⊎_elim}
 use native.Mathlib.Omega.{arith}
 use native.Mathlib.Numerals.{add-one}
 use native.Mathlib.Decide.{le_ind}
-use lib.ListN.{length, get_or, replicate}
+use native.Mathlib.Nat.{add-zero, mul-zero, mul-suc}
+use lib.ListN.{length, get_or, replicate, take, drop}
+use lib.Seq.{get_or-take, get_or-drop, drop-drop}
+use Rattle.std.specs.Prelude.{Some, None, slice_get}
+use Rattle.std.specs.Simd.{first_chunks}
 use Rattle.automaton.specs.Automaton.{Automaton, Step, Accepts}
 use Rattle.judge.specs.Memory.{Token, Lifted, Is, Gains, Confined, Moved, moved, lifted, After, AfterAll}
 use Rattle.judge.specs.Memory.{Ran}
@@ -139,3 +143,48 @@ module _ (a : Automaton) (n : ℕ) (word before : List ℕ) where
             (λ q k h. ran.lost e q k (moved_map a (get_or word i 0) _ _ inv.bits.all q k h)) (length word)
             (omega arith);
       }
+
+-- ---- a word's letters two by two
+
+chunk_at : (n k : ℕ) (xs : List ℕ) (i : ℕ) → i < k → get_or (first_chunks n k xs) i [] ≡ take n (drop (n * i) xs)
+chunk_at n zero xs i lt = absurd (omega arith)
+chunk_at n (suc k) xs zero lt = simp mul-zero refl
+chunk_at n (suc k) xs (suc i) lt =
+    let e : n + n * i ≡ n * suc i = omega (arith, mul-suc n i) in
+    chunk_at n k (drop n xs) i (omega arith) ∙ ap (take n) (drop-drop (n * i) n xs ∙ ap (λ (j : ℕ). drop j xs) e)
+
+-- pair i has the letters 2 * i and 2 * i + 1
+module _ (word : List ℕ) {pairs : List (List ℕ)} (i : ℕ) (e : pairs ≡ first_chunks 2 (length word / 2) word)
+    (lt : i < length word / 2) where
+  letter_at : (j : ℕ) → j < 2 → get_or (get_or pairs i []) j 0 ≡ get_or word (2 * i + j) 0
+  letter_at j lj =
+      rw (e, chunk_at 2 (length word / 2) word i lt)
+      (get_or-take 2 (drop (2 * i) word) j 0 lj ∙ get_or-drop (2 * i) word j 0)
+
+  pub first_letter : get_or (get_or pairs i []) 0 0 ≡ get_or word (2 * i) 0
+  first_letter = rw add-zero at (letter_at 0 (omega arith))
+
+  pub second_letter : get_or (get_or pairs i []) 1 0 ≡ get_or word (2 * i + 1) 0
+  second_letter = letter_at 1 (omega arith)
+
+first_some : (rest : List ℕ) (x : ℕ) → Some x ≡ slice_get rest 0 → (0 < length rest) × (x ≡ get_or rest 0 0)
+first_some [] x e = absurd (cc)
+first_some (y ∷ ys) x e = (omega arith, cc)
+
+first_none : (rest : List ℕ) → None ≡ slice_get rest 0 → length rest ≡ 0
+first_none [] e = refl
+first_none (y ∷ ys) e = absurd (cc)
+
+-- behind i pairs there is nothing, or one letter more
+module _ (word rest : List ℕ) (i : ℕ) (all : i ≡ length word / 2)
+    (e : rest ≡ drop (length word / 2 * 2) word) (size : length rest ≡ length word % 2) where
+  pub no_letter : None ≡ slice_get rest 0 → 2 * i ≡ length word
+  no_letter none = omega (arith, first_none rest none)
+
+  pub last_letter : (x : ℕ) → Some x ≡ slice_get rest 0 → (2 * i + 1 ≡ length word) × (x ≡ get_or word (2 * i) 0)
+  last_letter x some =
+      let h = first_some rest x some in
+      let at : length word / 2 * 2 + 0 ≡ 2 * i = omega arith in
+      let r : get_or rest 0 0 ≡ get_or word (2 * i) 0 =
+      rw e (get_or-drop (length word / 2 * 2) word 0 0 ∙ ap (λ (j : ℕ). get_or word j 0) at) in
+      (omega (arith, h.0), h.1 ∙ r)

@@ -10,7 +10,7 @@ pub mod Arrivals
 pub mod Passes
 pub mod HasAcceptingPass
 pub mod PassStates
-pub mod Verdict
+pub mod Verdicts
 pub mod AtRest
 pub mod Judgements
 pub mod VerdictIff

@@ -7,18 +7,24 @@ use Rattle.automaton.specs.Automaton.{Automaton}
 use Rattle.automaton.specs.Limits.{max_states}
 use Rattle.image.specs.Reader.{read_image}
 use Rattle.rest.specs.Rest.{rest_taken, pairs_taken}
-use Rattle.judge.specs.declared.Judged.{Judged}
-use Rattle.judge.specs.declared.Judged.TheVariants.{Kept, Broken, Refused}
+use Rattle.judge.specs.declared.Verdict.{Verdict as Enum}
+use Rattle.judge.specs.declared.Verdict.TheVariants.{Kept, Broken}
+use Rattle.judge.specs.declared.Finding.{Finding as Struct}
 use Rattle.judge.specs.Search.{has_accepting_pass}
 
-pub data Verdict : Type 0 where
-  kept : Verdict
-  broken : Verdict
+-- the code's own enum: Kept or Broken
+abbrev pub Verdict : Type 0
+Verdict = Enum
 
--- what judging finds: the verdict, and how many pairs of position and state it took (02, R-5)
-pub record Finding : Type 0 where
-  pub verdict : Verdict
-  pub pairs : ℕ
+abbrev pub kept : Verdict
+kept = Kept
+
+abbrev pub broken : Verdict
+broken = Broken
+
+-- what judging finds, the code's own struct: the verdict, and how many pairs of position and state it took (02, R-5)
+abbrev pub Finding : Type 0
+Finding = Struct
 
 abbrev pub finding : Verdict → (pairs : ℕ) → Finding
 finding verdict pairs = record { verdict = verdict; pairs = pairs }
@@ -30,12 +36,6 @@ verdict_of r = and_then r (λ f. accepted f.verdict)
 -- an answer says kept exactly where P holds, and broken exactly where it does not
 abbrev pub Exactly : Result Finding → Type 0 → Type 0
 Exactly r P = ((verdict_of r ≡ accepted kept) ↔ P) × ((verdict_of r ≡ accepted broken) ↔ (P → ⊥))
-
--- what an answer says in document 01's numbers and values
-abbrev pub judge_answer : Judged → Result Finding
-judge_answer (Kept pairs) = accepted (finding kept pairs)
-judge_answer (Broken pairs) = accepted (finding broken pairs)
-judge_answer (Refused number place) = refused number place
 
 -- the working bytes that judging asks for, one for each state that an automaton may have and each letter: 96 times 336
 -- (01, Numbers that come from the state, 25, with the figure of 02, R-2)

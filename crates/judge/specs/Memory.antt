@@ -3,7 +3,7 @@
 -- began stands in q now. Passes begin in those states alone in which a run from an initial state stands when some pass
 -- begins. Bit `met_bit` + p: the same as bit p, of a run that has stood in an accepting state since the pass began, now
 -- included and then not: a run that comes back to where it stood then is there now.
-use Rattle.std.specs.Prelude.{ℕ, zero, suc, ◌+◌, ◌*◌, ◌/◌, ◌%◌, ◌<◌, ◌≤◌, ◌≡◌, List, Bool, true, false, ◌⊎◌, get_or}
+use Rattle.std.specs.Prelude.{ℕ, zero, suc, ◌+◌, ◌*◌, ◌/◌, ◌%◌, ◌<◌, ◌≡◌, List, Bool, true, false, ◌⊎◌, get_or}
 use Rattle.std.specs.Prelude.{length}
 use Rattle.std.specs.Int.Bits.{bit_or}
 use Rattle.answer.specs.Bytes.{number_at}
@@ -39,10 +39,9 @@ Gains before after New = Is after (λ q k. Token before q k ⊎ New q k)
 abbrev pub Confined : (n : ℕ) (rows : List ℕ) → Type 0
 Confined n rows = (q k : ℕ) → Token rows q k → q < n
 
--- n words from index a on have been joined with those of another list from index b on
-pub record Ored (before : List ℕ) (a : ℕ) (from : List ℕ) (b n : ℕ) (after : List ℕ) : Type 0 where
-  pub inside : (i : ℕ) → i < n → get_or after (a + i) 0 ≡ bit_or (get_or before (a + i) 0) (get_or from (b + i) 0)
-  pub outside : (i : ℕ) → (i < a) ⊎ (a + n ≤ i) → get_or after i 0 ≡ get_or before i 0
+-- each word of a list has been joined with the one at its place in another
+abbrev pub Ored : (before from after : List ℕ) → Type 0
+Ored before from after = (i : ℕ) → i < length from → get_or after i 0 ≡ bit_or (get_or before i 0) (get_or from i 0)
 
 -- a test tells whether something holds
 pub record Tells (r : Bool) (P : Type 0) : Type 0 where

@@ -1,27 +1,23 @@
 // The call judge: whether a lasso is kept or broken by the automaton of an image.
 #![tactic(auto)]
 
-ghost use Rattle.std.specs.Prelude.{◌≡◌, true, false, ◌||◌, ℕ, ◌+◌, ◌*◌, ◌<◌, ◌≤◌, ◌++◌, length, get_or, replicate};
-ghost use Rattle.std.specs.Prelude.{drop};
-ghost use Rattle.automaton.specs.Automaton.{AcceptingPass, Accepts, Step};
+ghost use Rattle.std.specs.Prelude.{◌≡◌, true, false, ℕ, ◌+◌, ◌*◌, ◌<◌, ◌≤◌, length, get_or};
+ghost use Rattle.automaton.specs.Automaton.{AcceptingPass, Accepts};
 ghost use Rattle.automaton.specs.Limits.{max_states};
 ghost use Rattle.answer.specs.Bytes.{number_at};
-ghost use Rattle.answer.specs.Result.{fine};
+ghost use Rattle.answer.specs.Result.{accepted, answer, fine};
 ghost use Rattle.lasso.specs.Lasso.{remaining, lasso_check};
-ghost use Rattle.judge.specs.Judge.{work_bytes, judge_answer, judgement, letters_judged, judged_on, judged};
-ghost use Rattle.judge.specs.Search.{has_accepting_pass};
+ghost use Rattle.judge.specs.Judge.{work_bytes, judgement, letters_judged, judged};
 ghost use Rattle.judge.specs.Limits.{met_bit, row_bits};
 ghost use Rattle.judge.specs.Memory.{Token, Lifted, Is, Gains, Ored, Tells, Onward, ByRecord, Moved, AfterAll};
 ghost use Rattle.judge.specs.Memory.{Confined, Ran, Through, Via, Joined, Covered, Linked};
 ghost use Rattle.rest.specs.Memory.{ReachedMarked};
-ghost use Rattle.image.specs.Image.{accepting_at};
-ghost use Rattle.image.specs.Reader.{counts_at};
-ghost use Rattle.image.specs.Lookup.{image_automaton, AcceptingByte, transition_count_of, records_at, Readable};
+ghost use Rattle.image.specs.Lookup.{image_automaton, AcceptingByte, records_at};
 
-use answer::{Checked, TABLE_TOO_SHORT, number_at, zero};
-use automaton::{Counted, reads_letter};
-use image::{CONTENTS_BYTES, check};
-use lasso::{MAX_LETTERS, check_lasso, keep_remaining, none_skipped};
+use answer::{Reason, Refusal, number_at, require, zero};
+use automaton::reads_letter;
+use image::{CONTENTS_BYTES, Image};
+use lasso::{Lasso, MAX_LETTERS, keep_remaining};
 use rest::take_pairs;
 
 // How many working bytes judging asks for.
@@ -41,24 +37,44 @@ const MET: usize = 128;
 // Where the accepting byte of the first state record is.
 const ACCEPTING_AT: usize = CONTENTS_BYTES + 2;
 
-// The answer of judge: the verdict with the number of pairs taken, or a refusal's number and place.
-#[derive(Clone, Copy)]
-pub enum Judged {
-    Kept(usize),
-    Broken(usize),
-    Refused(u8, usize),
+// Whether a lasso is kept or broken.
+#[derive(Clone, Copy, Debug, PartialEq, Eq)]
+pub enum Verdict {
+    Kept,
+    Broken,
 }
 
-// n words from index a on, each joined with one of those from index b on.
-fn or_words(into: &mut [u64], a: usize, from: &[u64], b: usize, n: usize)
-    requires { (a + n ≤ length into.old) × (b + n ≤ length from.now) }
-    ensures { Ored into.old a from.now b n into.new }
+// What judging finds: the verdict, and how many pairs of position and state it took.
+#[derive(Clone, Copy, Debug, PartialEq, Eq)]
+pub struct Finding {
+    pub verdict: Verdict,
+    pub pairs: usize,
+}
+
+// Each word joined with the one at its place in `from`.
+fn or_words(into: &mut [u64], from: &[u64])
+    requires { length into.old ≡ length from.now }
+    ensures { Ored into.old from.now into.new }
 {
-    let mut i = 0;
-    while i < n {
-        into[a + i] |= from[b + i];
-        i += 1;
+    for (i, word) in from.iter().enumerate() {
+        into[i] |= *word;
     }
+}
+
+// The bits of a row joined to row q.
+fn join_row(rows: &mut Rows, q: usize, row: &Row)
+    requires { q < max_states }
+    ensures { Gains rows.old rows.new (λ r k. (r ≡ q) × Token row.now 0 k) }
+{
+    or_words(&mut rows[4 * q..4 * q + 4], row);
+}
+
+// The runs of a row, as such that have met an accepting state, joined to row q: its lower half to the upper half there.
+fn join_lifted(rows: &mut [u64], q: usize, row: &Row)
+    requires { 4 * q + 4 ≤ length rows.old }
+    ensures { Gains rows.old rows.new (λ r k. (r ≡ q) × Lifted (Token row.now) 0 k) }
+{
+    or_words(&mut rows[4 * q + 2..4 * q + 4], &row[..2]);
 }
 
 // Whether row q has bit k.
@@ -74,15 +90,16 @@ fn row_of(rows: &Rows, q: usize) -> Row
     requires { q < max_states }
     ensures { Is result (λ p k. (p ≡ 0) × Token rows.now q k) }
 {
-    let mut row = [0u64; 4];
-    or_words(&mut row, 0, rows, 4 * q, 4);
-    row
+    let at = 4 * q;
+    [rows[at], rows[at + 1], rows[at + 2], rows[at + 3]]
 }
 
-// Whether a row has no bit. Callers rest on a yes alone.
-fn row_empty(row: &Row) -> bool
-    ensures { result ≡ true → (k : ℕ) → Token row.now 0 k → ⊥ }
+// Whether row q has no bit. Callers rest on a yes alone.
+fn row_empty(rows: &Rows, q: usize) -> bool
+    requires { q < max_states }
+    ensures { result ≡ true → (k : ℕ) → Token rows.now q k → ⊥ }
 {
+    let row = row_of(rows, q);
     row[0] | row[1] | row[2] | row[3] == 0
 }
 
@@ -94,121 +111,87 @@ fn set_bit(rows: &mut [u64], q: usize, k: usize)
     rows[4 * q + k / 64] |= 1 << (k % 64);
 }
 
+// Whether state q accepts.
+#[tactic(auto, using(image::proofs::Known::few_known, image::proofs::Known::records_known))]
+fn accepts(image: &Image<'_>, q: usize) -> bool
+    requires { q < image.now.counts.states }
+    ensures { Tells result (AcceptingByte image.now.bytes.now q) }
+{
+    image.bytes[ACCEPTING_AT + 4 * q] == 1
+}
+
 // The runs of a row in the target's row, if the transition record at byte `at` reads the letter.
 fn take_transition(image: &[u8], at: usize, letter: u8, row: &Row, next: &mut Rows)
     requires { (at + 3 < length image.now) × (number_at image.now (at + 2) < max_states) }
     ensures { Gains next.old next.new
         (ByRecord image.now at letter row.now) }
 {
-    if !reads_letter(image[at], image[at + 1], letter) {
-        return;
+    if reads_letter(image[at], image[at + 1], letter) {
+        join_row(next, number_at(image, at + 2), row);
     }
-    or_words(next, 4 * number_at(image, at + 2), row, 0, 4);
 }
 
-// The runs of a row after the letter, by the transitions of state q, whose `count` records begin at byte `at`.
-fn take_transitions(
-    image: &[u8],
+// The runs of row q after the letter, by the transitions of state q, whose records begin at byte `at`: they are passed
+// over if the row is empty. Where the records of the next state begin.
+fn step_state(
+    image: &Image<'_>,
     q: usize,
     at: usize,
-    count: usize,
     letter: u8,
-    row: &Row,
+    rows: &Rows,
     next: &mut Rows,
-)
-    requires { Readable image.now × (q < (counts_at image.now).states) × (at ≡ records_at image.now q)
-        × (count ≡ transition_count_of image.now q) }
-    ensures { Gains next.old next.new
-        (λ t k. Step (image_automaton image.now) q letter t × Token row.now 0 k) }
-{
-    let mut i = 0;
-    while i < count {
-        take_transition(image, at + 4 * i, letter, row, next);
-        i += 1;
-    }
-}
-
-// The same of row q, with the transitions passed over if it is empty; where the records of the next state begin.
-fn step_state(image: &[u8], q: usize, at: usize, letter: u8, rows: &Rows, next: &mut Rows) -> usize
-    requires { Readable image.now × (q < (counts_at image.now).states) × (at ≡ records_at image.now q) }
-    ensures { (result ≡ records_at image.now (q + 1))
+) -> usize
+    requires { (q < image.now.counts.states) × (at ≡ records_at image.now.bytes.now q) }
+    ensures { (result ≡ records_at image.now.bytes.now (q + 1))
         × Gains next.old next.new
-        (Onward (image_automaton image.now) letter (Token rows.now) q) }
+        (Onward (image_automaton image.now.bytes.now) letter (Token rows.now) q) }
 {
-    let count = number_at(image, CONTENTS_BYTES + 4 * q);
+    let count = number_at(image.bytes, CONTENTS_BYTES + 4 * q);
     let end = at + 4 * count;
-    let row = row_of(rows, q);
-    if row_empty(&row) {
+    if row_empty(rows, q) {
         return end;
     }
-    take_transitions(image, q, at, count, letter, &row, next);
+    let row = row_of(rows, q);
+    for i in 0..count {
+        take_transition(image.bytes, at + 4 * i, letter, &row, next);
+    }
     end
 }
 
 // The runs of all rows after the letter.
-fn step_states(image: &[u8], n: usize, letter: u8, rows: &Rows, next: &mut Rows)
-    requires { Readable image.now × (n ≡ (counts_at image.now).states) }
-    ensures { Gains next.old next.new (λ t k. (q : ℕ) × (q < n)
-        × Onward (image_automaton image.now) letter (Token rows.now) q t k) }
+#[tactic(auto, using(image::proofs::Known::few_known, image::proofs::Known::records_known))]
+fn step_states(image: &Image<'_>, letter: u8, rows: &Rows, next: &mut Rows)
+    ensures { Gains next.old next.new (λ t k. (q : ℕ) × (q < image.now.counts.states)
+        × Onward (image_automaton image.now.bytes.now) letter (Token rows.now) q t k) }
 {
-    let mut at = CONTENTS_BYTES + 4 * n;
-    let mut q = 0;
-    while q < n {
+    let mut at = CONTENTS_BYTES + 4 * image.counts.states;
+    for q in 0..image.counts.states {
         at = step_state(image, q, at, letter, rows, next);
-        q += 1;
     }
-}
-
-// The runs of row q have met an accepting state, if q is one: the row's lower half joined to its upper half.
-fn lift_state(image: &[u8], q: usize, rows: &mut [u64])
-    requires { (accepting_at + 4 * q < length image.now) × (4 * q + 4 ≤ length rows.old) }
-    ensures { Gains rows.old rows.new (λ r k. (r ≡ q)
-        × (AcceptingByte image.now q × Lifted (Token rows.old) q k)) }
-{
-    if image[ACCEPTING_AT + 4 * q] != 1 {
-        return;
-    }
-    let at = 4 * q;
-    let first = rows[at];
-    let second = rows[at + 1];
-    rows[at + 2] |= first;
-    rows[at + 3] |= second;
 }
 
 // The runs that stand in an accepting state have met one.
-fn lift(image: &[u8], n: usize, rows: &mut Rows)
-    requires { Readable image.now × (n ≡ (counts_at image.now).states) }
+fn lift(image: &Image<'_>, rows: &mut Rows)
     ensures { Gains rows.old rows.new
-        (λ q k. Accepts (image_automaton image.now) q × Lifted (Token rows.old) q k) }
+        (λ q k. Accepts (image_automaton image.now.bytes.now) q × Lifted (Token rows.old) q k) }
 {
-    let mut q = 0;
-    while q < n {
-        lift_state(image, q, rows);
-        q += 1;
-    }
-}
-
-// The first n words 0.
-fn clear_words(rows: &mut [u64], n: usize)
-    requires { n ≤ length rows.old }
-    ensures { rows.new ≡ replicate n 0 ++ drop n rows.old }
-{
-    let mut i = 0;
-    while i < n {
-        rows[i] = 0;
-        i += 1;
+    for q in 0..image.counts.states {
+        if accepts(image, q) {
+            let row = row_of(rows, q);
+            join_lifted(rows, q, &row);
+        }
     }
 }
 
 // The runs after one letter, in `next`; what it held does not count.
-fn step(image: &[u8], n: usize, letter: u8, rows: &Rows, next: &mut Rows)
-    requires { Readable image.now × (n ≡ (counts_at image.now).states) × Confined n next.old }
+fn step(image: &Image<'_>, letter: u8, rows: &Rows, next: &mut Rows)
+    requires { Confined image.now.counts.states next.old }
     ensures { Is next.new
-        (Moved (image_automaton image.now) letter (Token rows.now)) }
+        (Moved (image_automaton image.now.bytes.now) letter (Token rows.now)) }
 {
-    clear_words(next, 4 * n);
-    step_states(image, n, letter, rows, next);
-    lift(image, n, next);
+    next[..4 * image.counts.states].fill(0);
+    step_states(image, letter, rows, next);
+    lift(image, next);
 }
 
 // Whether a run stands in one of n states. Callers rest on a no alone.
@@ -216,77 +199,52 @@ fn some_run(rows: &Rows, n: usize) -> bool
     requires { n ≤ max_states }
     ensures { result ≡ false → (q k : ℕ) → q < n → Token rows.now q k → ⊥ }
 {
-    let mut q = 0;
-    while q < n {
-        let row = row_of(rows, q);
-        if !row_empty(&row) {
-            return true;
-        }
-        q += 1;
-    }
-    false
+    (0..n).any(|q| !row_empty(rows, q))
 }
 
 // The runs after one letter, in `next`; false if none is left.
-fn advance(image: &[u8], n: usize, letter: u8, rows: &Rows, next: &mut Rows) -> bool
-    requires { Readable image.now × (n ≡ (counts_at image.now).states) × Confined n next.old }
+fn advance(image: &Image<'_>, letter: u8, rows: &Rows, next: &mut Rows) -> bool
+    requires { Confined image.now.counts.states next.old }
     ensures { Ran result next.new
-        (Moved (image_automaton image.now) letter (Token rows.now)) }
+        (Moved (image_automaton image.now.bytes.now) letter (Token rows.now)) }
 {
-    step(image, n, letter, rows, next);
-    some_run(next, n)
+    step(image, letter, rows, next);
+    some_run(next, image.counts.states)
 }
 
 // The runs after all letters of a word. False at the first letter after which none is left: then none will be. Two
 // letters lead from `rows` to `next` and back; what the last of an odd word leads to is copied.
-fn run(image: &[u8], n: usize, word: &[u8], rows: &mut Rows) -> bool
-    requires { Readable image.now × (n ≡ (counts_at image.now).states) × Confined n rows.old }
+fn run(image: &Image<'_>, word: &[u8], rows: &mut Rows) -> bool
+    requires { Confined image.now.counts.states rows.old }
     ensures { Ran result rows.new
-        (AfterAll (image_automaton image.now) word.now (Token rows.old)) }
+        (AfterAll (image_automaton image.now.bytes.now) word.now (Token rows.old)) }
 {
     let mut next = [0u64; ROWS_WORDS];
-    let mut i = 0;
-    while 1 < word.len() - i {
-        if !advance(image, n, word[i], rows, &mut next) {
+    let (pairs, rest) = word.as_chunks::<2>();
+    for pair in pairs {
+        if !advance(image, pair[0], rows, &mut next) || !advance(image, pair[1], &next, rows) {
             return false;
         }
-        if !advance(image, n, word[i + 1], &next, rows) {
+    }
+    if let Some(letter) = rest.first() {
+        if !advance(image, *letter, rows, &mut next) {
             return false;
         }
-        i += 2;
+        *rows = next;
     }
-    if i == word.len() {
-        return true;
-    }
-    if !advance(image, n, word[i], rows, &mut next) {
-        return false;
-    }
-    *rows = next;
     true
 }
 
-// A pass begins in state q, if its mark is 1. The marks begin at byte `at`.
-fn begin_pass(work: &[u8], at: usize, q: usize, rows: &mut Rows)
-    requires { (q < max_states) × (at + q < length work.now) }
+// A pass begins in each marked state: one whose mark is 1.
+fn begin_passes(marks: &[u8], rows: &mut Rows)
+    requires { length marks.now ≤ max_states }
     ensures { Gains rows.old rows.new
-        (λ r k. (r ≡ q) × ((get_or work.now (at + q) 0 ≡ 1) × (k ≡ q))) }
+        (λ q k. (q < length marks.now) × ((get_or marks.now q 0 ≡ 1) × (k ≡ q))) }
 {
-    if work[at + q] != 1 {
-        return;
-    }
-    set_bit(rows, q, q);
-}
-
-// A pass begins in each marked state.
-fn begin_passes(work: &[u8], at: usize, n: usize, rows: &mut Rows)
-    requires { (n ≤ max_states) × (at + n ≤ length work.now) }
-    ensures { Gains rows.old rows.new
-        (λ q k. (q < n) × ((get_or work.now (at + q) 0 ≡ 1) × (k ≡ q))) }
-{
-    let mut q = 0;
-    while q < n {
-        begin_pass(work, at, q, rows);
-        q += 1;
+    for (q, mark) in marks.iter().enumerate() {
+        if *mark == 1 {
+            set_bit(rows, q, q);
+        }
     }
 }
 
@@ -296,11 +254,11 @@ fn runs_to(rows: &Rows, m: usize) -> Row
     requires { m < max_states }
     ensures { Is result (λ p k. (p ≡ 0) × Through rows.now m k) }
 {
-    let mut via = row_of(rows, m);
-    if !has_bit(rows, m, MET + m) {
-        return via;
+    let row = row_of(rows, m);
+    let mut via = row;
+    if has_bit(rows, m, MET + m) {
+        join_lifted(&mut via, 0, &row);
     }
-    or_words(&mut via, 2, rows, 4 * m, 2);
     via
 }
 
@@ -315,11 +273,10 @@ fn join_state(rows: &mut Rows, q: usize, m: usize, via: &Row)
         return;
     }
     let met = has_bit(rows, q, MET + m);
-    or_words(rows, 4 * q, via, 0, 4);
-    if !met {
-        return;
+    join_row(rows, q, via);
+    if met {
+        join_lifted(rows, q, via);
     }
-    or_words(rows, 4 * q + 2, via, 0, 2);
 }
 
 // All runs that pass through state m when a pass begins, put together.
@@ -329,10 +286,8 @@ fn join_through(rows: &mut Rows, n: usize, m: usize)
         (λ q k. (q < n) × Joined (Token rows.old) m q k) }
 {
     let via = runs_to(rows, m);
-    let mut q = 0;
-    while q < n {
+    for q in 0..n {
         join_state(rows, q, m, &via);
-        q += 1;
     }
 }
 
@@ -341,10 +296,8 @@ fn close(rows: &mut Rows, n: usize)
     requires { (n ≤ max_states) × Covered rows.old }
     ensures { Is rows.new (Linked n (Token rows.old)) }
 {
-    let mut m = 0;
-    while m < n {
+    for m in 0..n {
         join_through(rows, n, m);
-        m += 1;
     }
 }
 
@@ -353,128 +306,86 @@ fn some_back(rows: &Rows, n: usize) -> bool
     requires { n ≤ max_states }
     ensures { Tells result ((q : ℕ) × (q < n) × Token rows.now q (met_bit + q)) }
 {
-    let mut q = 0;
-    while q < n {
-        if has_bit(rows, q, MET + q) {
-            return true;
-        }
-        q += 1;
-    }
-    false
+    (0..n).any(|q| has_bit(rows, q, MET + q))
 }
 
 // Whether some state accepts.
-fn some_accepting(image: &[u8], n: usize) -> bool
-    requires { Readable image.now × (n ≡ (counts_at image.now).states) }
-    ensures { Tells result ((q : ℕ) × (q < n) × (AcceptingByte image.now q)) }
+fn some_accepting(image: &Image<'_>) -> bool
+    ensures { Tells result ((q : ℕ) × (q < image.now.counts.states) × (AcceptingByte image.now.bytes.now q)) }
 {
-    let mut q = 0;
-    while q < n {
-        if image[ACCEPTING_AT + 4 * q] == 1 {
-            return true;
-        }
-        q += 1;
-    }
-    false
+    (0..image.counts.states).any(|q| accepts(image, q))
 }
 
-// Whether the automaton of an image that is not refused has an accepting pass on the lasso. The marks say in which
-// states a run stands when some pass begins: only from these can a run come back to where it stood.
-fn search(image: &[u8], n: usize, stem: &[u8], cycle: &[u8], work: &[u8]) -> bool
-    requires { Readable image.now × (n ≡ (counts_at image.now).states) × (0 < length cycle.now)
-        × (max_states * (length stem.now + length cycle.now) ≤ length work.now)
-        × ReachedMarked (image_automaton image.now) stem.now cycle.now work.now }
+// Whether the automaton of an image has an accepting pass on the lasso. The marks say in which states a run stands when
+// some pass begins: only from these can a run come back to where it stood.
+fn search(image: &Image<'_>, lasso: &Lasso<'_>, work: &[u8]) -> bool
+    requires { (0 < length lasso.now.cycle.now)
+        × (max_states * (length lasso.now.stem.now + length lasso.now.cycle.now) ≤ length work.now)
+        × ReachedMarked (image_automaton image.now.bytes.now) lasso.now.stem.now lasso.now.cycle.now work.now }
     ensures { Tells result
-        (AcceptingPass (image_automaton image.now) stem.now cycle.now) }
+        (AcceptingPass (image_automaton image.now.bytes.now) lasso.now.stem.now lasso.now.cycle.now) }
 {
-    if !some_accepting(image, n) {
+    if !some_accepting(image) {
         return false;
     }
+    let n = image.counts.states;
+    let marks_at = automaton::MAX_STATES * lasso.stem.len();
     let mut rows = [0u64; ROWS_WORDS];
-    begin_passes(work, automaton::MAX_STATES * stem.len(), n, &mut rows);
-    if !run(image, n, cycle, &mut rows) {
+    begin_passes(&work[marks_at..marks_at + n], &mut rows);
+    if !run(image, lasso.cycle, &mut rows) {
         return false;
     }
     close(&mut rows, n);
     some_back(&rows, n)
 }
 
-// Whether the lasso is kept: a pair at rest was taken, or else the full search says so, which begins at the marks that
-// the search to rest has left.
-fn is_kept(image: &[u8], n: usize, stem: &[u8], cycle: &[u8], rests: bool, work: &[u8]) -> bool
-    requires { Readable image.now × (n ≡ (counts_at image.now).states) × (0 < length cycle.now)
-        × (max_states * (length stem.now + length cycle.now) ≤ length work.now)
-        × (rests ≡ false → ReachedMarked (image_automaton image.now) stem.now cycle.now work.now) }
-    ensures { result
-        ≡ (rests || has_accepting_pass (image_automaton image.now) stem.now cycle.now) }
+// What judging finds of letters none of which is skipped; the working bytes zero. The lasso is kept where a pair at
+// rest was taken, or else where the full search says so, which begins at the marks that the search to rest has left.
+fn judge_letters(image: &Image<'_>, lasso: &Lasso<'_>, work: &mut [u8]) -> Finding
+    requires { (0 < length lasso.now.cycle.now)
+        × (max_states * (length lasso.now.stem.now + length lasso.now.cycle.now) ≤ length work.old) }
+    ensures { judgement (accepted result) work.new
+        ≡ letters_judged (image_automaton image.now.bytes.now)
+        lasso.now.stem.now lasso.now.cycle.now work.old }
 {
-    if rests {
-        return true;
-    }
-    search(image, n, stem, cycle, work)
-}
-
-// The verdict of an image that is not refused on letters none of which is skipped, and the number of pairs taken; the
-// working bytes zero.
-fn judge_letters(image: &[u8], n: usize, stem: &[u8], cycle: &[u8], work: &mut [u8]) -> Judged
-    requires { Readable image.now × (n ≡ (counts_at image.now).states) × (0 < length cycle.now)
-        × (max_states * (length stem.now + length cycle.now) ≤ length work.old) }
-    ensures { judgement (judge_answer result) work.new
-        ≡ letters_judged (image_automaton image.now)
-        stem.now cycle.now work.old }
-{
-    let taken = take_pairs(image, n, stem, cycle, work);
-    let kept = is_kept(image, n, stem, cycle, taken.rests, work);
+    let taken = take_pairs(image, lasso, work);
+    let kept = taken.rests || search(image, lasso, work);
     zero(work);
-    if kept {
-        return Judged::Kept(taken.pairs);
+    Finding {
+        verdict: if kept { Verdict::Kept } else { Verdict::Broken },
+        pairs: taken.pairs,
     }
-    Judged::Broken(taken.pairs)
 }
 
-// The verdict on the letters of a lasso that remain. Where none is skipped they are judged as they are lent; else they
-// are gathered first, once.
-fn judge_remaining(image: &[u8], n: usize, stem: &[u8], cycle: &[u8], work: &mut [u8]) -> Judged
-    requires { Readable image.now × (n ≡ (counts_at image.now).states)
-        × (fine ≡ lasso_check stem.now cycle.now) × (work_bytes ≤ length work.old) }
-    ensures { judgement (judge_answer result) work.new
-        ≡ letters_judged (image_automaton image.now)
-        (remaining stem.now) (remaining cycle.now) work.old }
+// What judging finds of the letters of a lasso that remain. Where none is skipped they are judged as they are lent;
+// else they are gathered first, once.
+fn judge_remaining(image: &Image<'_>, lasso: &Lasso<'_>, work: &mut [u8]) -> Finding
+    requires { (fine ≡ lasso_check lasso.now.stem.now lasso.now.cycle.now) × (work_bytes ≤ length work.old) }
+    ensures { judgement (accepted result) work.new
+        ≡ letters_judged (image_automaton image.now.bytes.now)
+        (remaining lasso.now.stem.now) (remaining lasso.now.cycle.now) work.old }
 {
-    if none_skipped(stem, cycle) {
-        return judge_letters(image, n, stem, cycle, work);
+    if lasso.none_skipped() {
+        return judge_letters(image, lasso, work);
     }
-    let mut stem_letters = [0u8; MAX_LETTERS];
-    let mut cycle_letters = [0u8; MAX_LETTERS];
-    let s = keep_remaining(stem, &mut stem_letters);
-    let c = keep_remaining(cycle, &mut cycle_letters);
-    judge_letters(image, n, &stem_letters[..s], &cycle_letters[..c], work)
-}
-
-// 8, 9 and 28, then the verdict of an image that is not refused.
-fn judge_lasso(image: &[u8], n: usize, stem: &[u8], cycle: &[u8], work: &mut [u8]) -> Judged
-    requires { Readable image.now × (n ≡ (counts_at image.now).states) × (work_bytes ≤ length work.old) }
-    ensures { judgement (judge_answer result) work.new
-        ≡ judged_on (image_automaton image.now)
-        stem.now cycle.now work.old }
-{
-    let checked = check_lasso(stem, cycle);
-    if let Checked::Refused(number, place) = checked {
-        return Judged::Refused(number, place);
-    }
-    judge_remaining(image, n, stem, cycle, work)
+    let mut stem = [0u8; MAX_LETTERS];
+    let mut cycle = [0u8; MAX_LETTERS];
+    let stem_len = keep_remaining(lasso.stem, &mut stem);
+    let cycle_len = keep_remaining(lasso.cycle, &mut cycle);
+    let remaining = Lasso {
+        stem: &stem[..stem_len],
+        cycle: &cycle[..cycle_len],
+    };
+    judge_letters(image, &remaining, work)
 }
 
 // The verdict on a lasso: 25, then 10 to 13 of the image, then 8, 9 and 28 of the lasso.
-pub fn judge(image: &[u8], stem: &[u8], cycle: &[u8], work: &mut [u8]) -> Judged
-    ensures { judgement (judge_answer result) work.new
-        ≡ judged image.now stem.now cycle.now work.old }
+pub fn judge(image: &[u8], lasso: &Lasso<'_>, work: &mut [u8]) -> Result<Finding, Refusal>
+    ensures { judgement (answer result) work.new
+        ≡ judged image.now lasso.now.stem.now lasso.now.cycle.now work.old }
 {
-    if work.len() < WORK_BYTES {
-        return Judged::Refused(TABLE_TOO_SHORT, 0);
-    }
-    match check(image) {
-        Counted::Refused(number, place) => Judged::Refused(number, place),
-        Counted::Accepted(counts) => judge_lasso(image, counts.states, stem, cycle, work),
-    }
+    require(WORK_BYTES <= work.len(), Reason::TableTooShort, 0)?;
+    let image = Image::parse(image)?;
+    lasso.check()?;
+    Ok(judge_remaining(&image, lasso, work))
 }

@@ -4,10 +4,9 @@
 
 ghost use Rattle.std.specs.Prelude.{◌≤◌};
 
-use answer::number_of;
-use judge::{Judged, WORK_BYTES};
-use lasso::MAX_LETTERS;
-use show::print;
+use answer::{Refusal, number_at};
+use judge::{Finding, Verdict, WORK_BYTES, judge};
+use lasso::{Lasso, MAX_LETTERS};
 use std::io;
 use std::io::{Read, Write};
 
@@ -15,17 +14,19 @@ use std::io::{Read, Write};
 // what comes after that changes no answer.
 const ENOUGH: usize = 2 + 65535 + 2 + 65535 + MAX_LETTERS + 1;
 
-fn print_judged<W: Write>(out: &mut W, answer: Judged) -> io::Result<()> {
+fn print_judged<W: Write>(out: &mut W, answer: Result<Finding, Refusal>) -> io::Result<()> {
     match answer {
-        Judged::Kept(_) => print(out, b"kept\n"),
-        Judged::Broken(_) => print(out, b"broken\n"),
-        Judged::Refused(number, place) => show::print_refusal(out, number, place),
+        Ok(finding) => match finding.verdict {
+            Verdict::Kept => writeln!(out, "kept"),
+            Verdict::Broken => writeln!(out, "broken"),
+        },
+        Err(refusal) => writeln!(out, "{refusal}"),
     }
 }
 
-fn judge_lasso<W: Write>(out: &mut W, image: &[u8], stem: &[u8], cycle: &[u8]) -> io::Result<()> {
+fn judge_lasso<W: Write>(out: &mut W, image: &[u8], lasso: &Lasso<'_>) -> io::Result<()> {
     let mut work = [0u8; WORK_BYTES];
-    print_judged(out, judge::judge(image, stem, cycle, &mut work))
+    print_judged(out, judge(image, lasso, &mut work))
 }
 
 // The input whose image ends at `end`.
@@ -33,22 +34,26 @@ fn judge_after<W: Write>(out: &mut W, input: &[u8], end: usize) -> io::Result<()
     requires { (2 ≤ end) × (end ≤ 65537) }
 {
     if input.len() < end + 2 {
-        return print(out, b"short\n");
+        return writeln!(out, "short");
     }
     let from = end + 2;
-    let n = number_of(input[end], input[end + 1]);
+    let n = number_at(input, end);
     if input.len() - from < n {
-        return print(out, b"short\n");
+        return writeln!(out, "short");
     }
     let to = from + n;
-    judge_lasso(out, &input[2..end], &input[from..to], &input[to..])
+    let lasso = Lasso {
+        stem: &input[from..to],
+        cycle: &input[to..],
+    };
+    judge_lasso(out, &input[2..end], &lasso)
 }
 
 fn judge_input<W: Write>(out: &mut W, input: &[u8]) -> io::Result<()> {
     if input.len() < 2 {
-        return print(out, b"short\n");
+        return writeln!(out, "short");
     }
-    judge_after(out, input, 2 + number_of(input[0], input[1]))
+    judge_after(out, input, 2 + number_at(input, 0))
 }
 
 fn read_and_judge<R: Read, W: Write>(

@@ -1,34 +1,17 @@
 // Lassos: refusals 8, 9 and 28, the letters that remain, and the letters at positions.
 #![tactic(auto)]
 
-ghost use Rattle.std.specs.Prelude.{◌≡◌, true, ◌↔◌, [], ◌∷◌, ◌+◌, ◌<◌, ◌≤◌, length, take, leb, ltb};
+ghost use Rattle.std.specs.Prelude.{◌≡◌, true, ◌↔◌, ◌+◌, ◌<◌, ◌≤◌, length, take, ltb};
 ghost use Rattle.answer.specs.Result.{answer};
-ghost use Rattle.lasso.specs.Lasso.{remaining, letter, after, max_letters, lasso_check};
+ghost use Rattle.lasso.specs.Lasso.{remaining, letter, after, lasso_check};
 
-use answer::Checked;
-
-// The numbers of document 01 by which a lasso is refused.
-pub const EMPTY_CYCLE: u8 = 8;
-
-pub const TOO_MANY_LETTERS: u8 = 9;
-
-pub const ALL_SKIPPED: u8 = 28;
+use answer::{Reason, Refusal, require};
 
 // A lasso has at most so many letters, stem and cycle together (`max_letters` of specs/).
 pub const MAX_LETTERS: usize = 336;
 
 // Bit 7 of a letter, which says that it is skipped (`skipped` of specs/).
 pub const SKIPPED: u8 = 0x80;
-
-// How many letters of the word a letter is: 1, or 0 if it is skipped.
-fn count_of(letter: u8) -> usize
-    ensures { result ≡ length (remaining (letter ∷ [])) }
-{
-    if letter < SKIPPED {
-        return 1;
-    }
-    0
-}
 
 // The letters that remain, in the first places of `kept`, and how many they are. A skipped letter is stored over by the
 // next one, so what is behind them may be anything.
@@ -38,12 +21,9 @@ pub fn keep_remaining(letters: &[u8], kept: &mut [u8]) -> usize
         × (take result kept.new ≡ remaining letters.now) }
 {
     let mut n = 0;
-    let mut i = 0;
-    while i < letters.len() {
-        let letter = letters[i];
-        kept[n] = letter;
-        n += count_of(letter);
-        i += 1;
+    for letter in letters {
+        kept[n] = *letter;
+        n += usize::from(*letter < SKIPPED);
     }
     n
 }
@@ -52,84 +32,67 @@ pub fn keep_remaining(letters: &[u8], kept: &mut [u8]) -> usize
 fn some_remains(letters: &[u8]) -> bool
     ensures { result ≡ ltb 0 (length (remaining letters.now)) }
 {
-    let mut i = 0;
-    while i < letters.len() {
-        if letters[i] < SKIPPED {
-            return true;
-        }
-        i += 1;
-    }
-    false
+    letters.iter().any(|letter| *letter < SKIPPED)
 }
 
-// Whether all of the letters remain: exactly then bit 7 is not among their bits, all joined.
+// Whether all of the letters remain: exactly then bit 7 is not among their bits, all joined. No letter is tested by
+// itself: this runs over all letters of every plan.
 fn all_remain(letters: &[u8]) -> bool
     ensures { (result ≡ true) ↔ (remaining letters.now ≡ letters.now) }
 {
-    let mut joined = 0u8;
-    let mut i = 0;
-    while i < letters.len() {
-        joined |= letters[i];
-        i += 1;
-    }
-    joined < SKIPPED
+    letters.iter().fold(0, |joined, letter| joined | letter) < SKIPPED
 }
 
-// Whether no letter of a lasso is skipped, so that what remains of it is the lasso as it is lent.
-pub fn none_skipped(stem: &[u8], cycle: &[u8]) -> bool
-    ensures { (result ≡ true) ↔ ((remaining stem.now ≡ stem.now)
-        × (remaining cycle.now ≡ cycle.now)) }
-{
-    all_remain(stem) && all_remain(cycle)
+// A stem, and a cycle that is taken round and round, as they are lent.
+#[derive(Clone, Copy)]
+pub struct Lasso<'a> {
+    pub stem: &'a [u8],
+    pub cycle: &'a [u8],
 }
 
-// Whether a lasso with so many letters in its stem and its cycle is within the limit.
-fn letters_fit(stem: usize, cycle: usize) -> bool
-    ensures { result ≡ leb (stem + cycle) max_letters }
-{
-    if MAX_LETTERS < stem {
-        return false;
+impl Lasso<'_> {
+    // Whether no letter of a lasso is skipped, so that what remains of it is the lasso as it is lent.
+    pub fn none_skipped(&self) -> bool
+        ensures { (result ≡ true) ↔ ((remaining self.now.stem.now ≡ self.now.stem.now)
+            × (remaining self.now.cycle.now ≡ self.now.cycle.now)) }
+    {
+        all_remain(self.stem) && all_remain(self.cycle)
     }
-    cycle <= MAX_LETTERS - stem
-}
 
-// 8, 9 and 28 of a lasso.
-pub fn check_lasso(stem: &[u8], cycle: &[u8]) -> Checked
-    ensures { answer result ≡ lasso_check stem.now cycle.now }
-{
-    if cycle.len() == 0 {
-        return Checked::Refused(EMPTY_CYCLE, 0);
+    // 8, 9 and 28 of a lasso.
+    #[tactic(auto, unfolding(crate::specs::Lasso::lasso_check))]
+    pub fn check(&self) -> Result<(), Refusal>
+        ensures { answer result ≡ lasso_check self.now.stem.now self.now.cycle.now }
+    {
+        let letters = self.stem.len() + self.cycle.len();
+        require(!self.cycle.is_empty(), Reason::EmptyCycle, 0)?;
+        require(letters <= MAX_LETTERS, Reason::TooManyLetters, 0)?;
+        require(some_remains(self.cycle), Reason::AllSkipped, 0)
     }
-    if !letters_fit(stem.len(), cycle.len()) {
-        return Checked::Refused(TOO_MANY_LETTERS, 0);
-    }
-    if !some_remains(cycle) {
-        return Checked::Refused(ALL_SKIPPED, 0);
-    }
-    Checked::Accepted
-}
 
-// The position after one.
-pub fn position_after(stem: &[u8], cycle: &[u8], position: usize) -> usize
-    requires { (position < length stem.now + length cycle.now) × (0 < length cycle.now) }
-    ensures { result ≡ after stem.now cycle.now position }
-{
-    if position < stem.len() {
-        return position + 1;
+    // The position after one.
+    #[tactic(auto, unfolding(crate::specs::Lasso::after))]
+    pub fn position_after(&self, position: usize) -> usize
+        requires { (position < length self.now.stem.now + length self.now.cycle.now) × (0 < length self.now.cycle.now) }
+        ensures { result ≡ after self.now.stem.now self.now.cycle.now position }
+    {
+        if position + 1 < self.stem.len() + self.cycle.len() {
+            position + 1
+        } else {
+            self.stem.len()
+        }
     }
-    if position - stem.len() + 1 < cycle.len() {
-        return position + 1;
-    }
-    stem.len()
-}
 
-// The letter at a position.
-pub fn letter_at(stem: &[u8], cycle: &[u8], position: usize) -> u8
-    requires { position < length stem.now + length cycle.now }
-    ensures { result ≡ letter stem.now cycle.now position }
-{
-    if position < stem.len() {
-        return stem[position];
+    // The letter at a position.
+    #[tactic(auto, using(crate::proofs::Letters::letter_early, crate::proofs::Letters::letter_cycle))]
+    pub fn letter_at(&self, position: usize) -> u8
+        requires { position < length self.now.stem.now + length self.now.cycle.now }
+        ensures { result ≡ letter self.now.stem.now self.now.cycle.now position }
+    {
+        if position < self.stem.len() {
+            self.stem[position]
+        } else {
+            self.cycle[position - self.stem.len()]
+        }
     }
-    cycle[position - stem.len()]
 }

@@ -1,21 +1,21 @@
--- From the tests that the code makes to the checks of two rules that are merged, and to the call's answer and buffer.
--- Assumes nothing.
-use Prim.Native.Nat.{ℕ, ◌+◌, ◌*◌, ◌≤◌, ◌<◌}
+-- What the checks of two rules that are merged say where they let them pass, and what the call's answer and its buffer
+-- say. Assumes nothing.
+use Prim.Native.Nat.{ℕ, ◌+◌, ◌*◌, ◌≤◌}
 use mathlib.Core.Path.{◌≡◌, refl, sym, ◌∙◌, ap}
 use mathlib.Core.List.{List}
-use native.Mathlib.Omega.{arith}
 use lib.Dec.{leb}
 use lib.ListN.{length, take}
 use lib.Seq.{take_at}
-use borrow.Author.Tests.{le-leb, lt-leb, leb-true}
-use Rattle.answer.specs.Result.{accepted, refused, and_then, Check, fine}
+use borrow.Author.Tests.{le-leb, leb-true}
+use Rattle.answer.specs.Result.{accepted, refused, and_then, Check, fine, require}
 use Rattle.answer.specs.Bytes.{filled}
 use Rattle.answer.specs.Buffer.{Buffer, buffer}
 use Rattle.answer.proofs.Filling.{filled_as}
 use Rattle.answer.proofs.Lowest.{fine_first, fine_second}
-use Rattle.answer.proofs.Results.{required, never_both}
+use Rattle.answer.proofs.Results.{require_fine, required, never_both}
 use Rattle.formula.specs.Limits.{max_nodes, max_untils, rule_bytes}
 use Rattle.formula.specs.Rule.{node_count, release_kind, syntax_check, untils, until_check}
+use Rattle.formula.proofs.Untils.{untils_most}
 use Rattle.normalform.specs.Normalize.{rule_room, rule_stored}
 use Rattle.merge.specs.Merge.{conjoined, merged_count, merge_check, merges}
 use Rattle.merge.proofs.Conjoined.{merged_length, merged_untils}
@@ -27,46 +27,23 @@ pub record Mergeable (first second : List ℕ) : Type 0 where
   pub few : merged_count first second ≤ max_nodes
   pub untils_few : until_check (conjoined first second) ≡ fine
 
+-- 7 of the merged rule by the untils of both
+pub untils_checked : (first second : List ℕ) → fine ≡ syntax_check release_kind first
+    → fine ≡ syntax_check release_kind second → until_check (conjoined first second)
+    ≡ require (leb (length (untils first (node_count first)) + length (untils second (node_count second))) max_untils)
+    7 0
+unfolding until_check
+untils_checked first second passes passes_too = rw (merged_untils first second (sym passes) (sym passes_too))
+
+-- what the checks in the code take: this one, and that a rule's untils are no more than its nodes
+pub ruleset merging = (untils_checked, untils_most)
+
+-- a buffer that 25 lets pass
+pub room_enough : (merged : List ℕ) → rule_room merged ≡ fine → rule_bytes ≤ length merged
+room_enough merged e = leb-true rule_bytes (length merged) (require_fine _ 25 0 e)
+
 module _ (first second : List ℕ) where
   -- ---- the checks
-
-  pub first_refused : {number place : ℕ} → refused number place ≡ syntax_check release_kind first
-      → refused number place ≡ merge_check first second
-  unfolding merge_check
-  first_refused e = rw (← e)
-
-  module _ (passes : syntax_check release_kind first ≡ fine) where
-    pub second_refused : {number place : ℕ} → refused number place ≡ syntax_check release_kind second
-        → refused number place ≡ merge_check first second
-    unfolding merge_check
-    second_refused e = rw (passes, ← e)
-
-    module _ (passes_too : syntax_check release_kind second ≡ fine) where
-      pub too_large : max_nodes < merged_count first second → refused 27 0 ≡ merge_check first second
-      unfolding merge_check
-      too_large lt = rw (passes, passes_too, lt-leb (merged_count first second) max_nodes lt)
-
-      -- x and y are the counts of the untils
-      module _ (few : merged_count first second ≤ max_nodes) {x y : ℕ}
-          (ex : x ≡ length (untils first (node_count first)))
-          (ey : y ≡ length (untils second (node_count second))) where
-        abbrev all : ℕ
-        all = length (untils (conjoined first second) (node_count (conjoined first second)))
-
-        together : all ≡ x + y
-        together = omega (arith, merged_untils first second passes passes_too)
-
-        pub too_many : max_untils < x + y → refused 7 0 ≡ merge_check first second
-        unfolding merge_check until_check
-        too_many lt =
-            let over = lt-leb all max_untils (omega (arith, together)) in
-            rw (passes, passes_too, le-leb (merged_count first second) max_nodes few, over)
-
-        pub mergeable : x + y ≤ max_untils → fine ≡ merge_check first second
-        unfolding merge_check until_check
-        mergeable le =
-            let within = le-leb all max_untils (omega (arith, together)) in
-            rw (passes, passes_too, le-leb (merged_count first second) max_nodes few, within)
 
   pub merge_fine : merge_check first second ≡ fine → Mergeable first second
   unfolding merge_check
@@ -84,16 +61,7 @@ module _ (first second : List ℕ) where
   -- ---- the call
 
   module _ (merged : List ℕ) where
-    pub short_refused : length merged < rule_bytes → buffer (refused 25 0) merged ≡ merges first second merged
-    unfolding merges
-    short_refused lt = rw (lt-leb rule_bytes (length merged) lt)
-
     module _ (room : rule_bytes ≤ length merged) where
-      pub check_refused : {number place : ℕ} → refused number place ≡ merge_check first second
-          → buffer (refused number place) merged ≡ merges first second merged
-      unfolding merges
-      check_refused e = rw (le-leb rule_bytes (length merged) room, ← e)
-
       pub merged_stored : (written after : List ℕ) → merge_check first second ≡ fine → length written ≡ length merged
           → take (merged_count first second * 3) written ≡ conjoined first second
           → after ≡ filled written (take (merged_count first second * 3) written)
@@ -107,7 +75,8 @@ module _ (first second : List ℕ) where
           rw (le-leb rule_bytes (length merged) room, e, filled_up)
           (ap (λ (x : ℕ). buffer (accepted x) (filled merged (conjoined first second))) (sym long))
 
-    -- what an accepted answer n and the buffer say: the rules may be merged, and the merged rule is at the buffer's start
+    -- what an accepted answer n and the buffer say: the rules may be merged, and the merged rule is at the buffer's
+    -- start
     pub record Merged (n : ℕ) (after : List ℕ) : Type 0 where
       pub may : Mergeable first second
       pub size : n ≡ merged_count first second * 3

@@ -1,5 +1,5 @@
--- R-7 with R-3: translate takes a merged rule as a written one and puts it into normal form again. That refuses nothing,
--- and the normal form has no more nodes and is satisfied by the same lassos. Assumes nothing.
+-- R-7 with R-3: translate takes a merged rule as a written one and puts it into normal form again. That refuses
+-- nothing, and the normal form has no more nodes and is satisfied by the same lassos. Assumes nothing.
 use Prim.Native.Nat.{ℕ, ◌≤◌, ◌<◌}
 use mathlib.Core.Path.{◌≡◌}
 use mathlib.Core.Logic.Iff

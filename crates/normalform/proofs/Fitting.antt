@@ -6,7 +6,8 @@ use mathlib.Core.Bool.{Bool, true, false}
 use mathlib.Core.List.{List}
 use native.Mathlib.Omega.{arith}
 use native.Mathlib.Decide.{dec_lt}
-use Rattle.answer.specs.Result.{fine}
+use Rattle.answer.specs.Result.{passes, fine}
+use Rattle.answer.proofs.Lowest.{passes_fine}
 use Rattle.formula.specs.Limits.{propositions}
 use Rattle.formula.specs.Rule.{node_count, kind_at, left_at, right_at, root, one_child, eventually_kind, node_check}
 use Rattle.formula.specs.Rule.{place_check}
@@ -163,3 +164,15 @@ well_written rule e =
       fits = subst (Fits (written_tree rule) (written_tree rule (root rule))) last
           (fits_node rule nodes (root rule) (omega (arith, formed.some)));
     }
+
+-- the same of a rule that is known to pass, as `Written` has it, and of its nodes
+module _ (rule : List ℕ) (passed : passes (written_check rule) ≡ true) where
+  pub passed_rule : WellWritten rule
+  passed_rule = well_written rule (passes_fine (written_check rule) passed)
+
+  module _ (n : ℕ) (inside : n < node_count rule) where
+    pub passed_node : WrittenNode rule n
+    passed_node = passed_rule.nodes n inside
+
+    pub passed_kind : kind_at rule n ≤ eventually_kind
+    passed_kind = passed_node.kind

@@ -1,16 +1,16 @@
 -- Flags of codes: adding codes one after another adds all of them, and from no flag set the walk of the root sets those
 -- of the needed codes. Assumes nothing.
-use Prim.Native.Nat.{ℕ, zero, suc, ◌<◌}
+use Prim.Native.Nat.{ℕ, zero, suc, ◌<◌, ◌≤◌}
 use mathlib.Core.Path.{◌≡◌, refl, sym, ◌∙◌}
 use mathlib.Core.Bool.{Bool, true, false, ◌||◌, or-false}
 use mathlib.Core.List.{List, [], ◌∷◌, ◌++◌}
 use native.Mathlib.Decide.{ℕ_discrete}
 use lib.Dec.{eqb}
-use lib.ListN.{get_or, length, set, length-set, replicate}
-use lib.Seq.{get_or-set_same, get_or-set_other}
+use lib.ListN.{get_or, length, set, length-set, replicate, length-replicate, take}
+use lib.Seq.{get_or-set_same, get_or-set_other, get_or-take, length-take-le}
 use borrow.Author.Tests.{eq-eqb, ne_eqb}
 use Rattle.formula.specs.Rule.{root}
-use Rattle.normalform.specs.NormalForm.{member}
+use Rattle.normalform.specs.NormalForm.{member, code_end}
 use Rattle.normalform.specs.Memory.{code_places, Added, node_walk, Flags}
 
 pub added_one : (flags : List Bool) (c : ℕ) → c < length flags → Added flags (set flags c true) (c ∷ [])
@@ -52,6 +52,12 @@ none_set zero c = refl
 none_set (suc n) zero = refl
 none_set (suc n) (suc c) = none_set n c
 
-pub root_flags : (rule : List ℕ) (needed : List Bool)
-    → Added (replicate code_places false) needed (node_walk rule (root rule) false) → Flags rule needed
-root_flags rule needed walked c = walked.each c ∙ rw (none_set code_places c) (or-false _)
+-- the flags of a rule's codes, behind which the walk sets none
+pub root_flags : (rule : List ℕ) (flags : List Bool) → code_end rule ≤ code_places
+    → Added (replicate code_places false) flags (node_walk rule (root rule) false)
+    → Flags rule (take (code_end rule) flags)
+root_flags rule flags few walked = record {
+  size = length-take-le (code_end rule) flags (rw (walked.same, length-replicate {A = Bool} code_places false) few);
+  each =
+      λ c l. get_or-take (code_end rule) flags c false l ∙ walked.each c ∙ rw (none_set code_places c) (or-false _);
+}

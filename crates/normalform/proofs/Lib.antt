@@ -12,6 +12,7 @@ pub mod Passes
 pub mod Again
 pub mod FirstEdition
 pub mod FirstEditionChecked
+pub mod Arms
 pub mod Turns
 pub mod Flags
 pub mod Codes

@@ -1,85 +1,82 @@
 -- The calls normalize and check_form, answer by answer: 25, 1 to 6, 26, and what stands in the buffer; then 7.
 -- Assumes nothing.
-use Prim.Native.Nat.{ℕ, ◌-◌, ◌*◌, ◌<◌, ◌≤◌}
-use mathlib.Core.Path.{◌≡◌, refl, sym, ◌∙◌, ap, subst}
-use mathlib.Core.Bool.{Bool, false}
+use Prim.Native.Nat.{ℕ, ◌+◌, ◌-◌, ◌*◌, ◌≤◌}
+use mathlib.Core.Path.{◌≡◌, refl, sym, ◌∙◌, ap}
+use mathlib.Core.Bool.{Bool, true, false}
 use mathlib.Core.List.{List}
 use native.Mathlib.Omega.{arith}
-use lib.ListN.{length, take, replicate, length-append, length-replicate}
+use lib.ListN.{length, take, replicate, length-append}
 use lib.Seq.{take_at}
-use borrow.Author.Tests.{le-leb, lt-leb}
-use Rattle.answer.specs.declared.Stored.{Stored}
-use Rattle.answer.specs.Result.{Result, accepted, refused, fine}
+use lib.Dec.{leb}
+use borrow.Author.Tests.{le-leb, leb-true}
+use Rattle.std.specs.Prelude.{Ok}
+use Rattle.answer.specs.Result.{Result, accepted, refused, require, passes, fine}
 use Rattle.answer.specs.Bytes.{filled}
 use Rattle.answer.specs.Buffer.{Buffer, buffer}
-use Rattle.answer.proofs.Results.{never_both}
+use Rattle.answer.proofs.Results.{never_both, require_fine}
 use Rattle.formula.specs.Limits.{max_nodes, rule_bytes}
-use Rattle.formula.specs.Rule.{root, eventually_kind, syntax_check, until_check, checked}
+use Rattle.formula.specs.Rule.{node_count, until_check, checked}
 use Rattle.normalform.specs.Written.{written_check}
-use Rattle.normalform.specs.NormalForm.{is_needed, codes_of, code_end, size, normal_bytes, sized, normal_form}
+use Rattle.normalform.specs.NormalForm.{rank, code_end, size, normal_bytes, sized, normal_form}
 use Rattle.normalform.specs.NormalForm.{written_checked}
 use Rattle.normalform.specs.Normalize.{rule_stored, normalizes}
-use Rattle.normalform.specs.Memory.{code_places, Added, node_walk, flagged, Numbered, Ready, Forms}
-use Rattle.normalform.proofs.Fitting.{well_written}
+use Rattle.normalform.specs.Memory.{code_places, Added, node_walk, flagged, Numbered, Flags, Ready, Forms}
+use Rattle.normalform.proofs.Fitting.{passed_rule}
 use Rattle.normalform.proofs.Flags.{root_flags}
-use Rattle.normalform.proofs.Writing.{rank_agree}
+use Rattle.normalform.proofs.Walking.{few_codes}
+use Rattle.normalform.proofs.Writing.{flags_rank}
 use Rattle.normalform.proofs.Passes.{result_length, normal_form_checked}
 
 -- ---- a rule that 1 to 6 let pass
 
-module _ (rule : List ℕ) (passes : written_check rule ≡ fine) {needed : List Bool} {numbers : List ℕ} {count : ℕ}
-    (walked : Added (replicate code_places false) needed (node_walk rule (root rule) false))
-    (numbered : Numbered needed (code_end rule) numbers count) where
-  sizes : count ≡ size rule
+module _ (rule : List ℕ) (passed : passes (written_check rule) ≡ true) {n : ℕ} (en : n ≡ node_count rule)
+    {flags : List Bool} {numbers : List ℕ} {count : ℕ}
+    (walked : Added (replicate code_places false) flags (node_walk rule (n - 1) false))
+    (numbered : Numbered (take (n * 2 + 2) flags) numbers count) where
+  abbrev needed : List Bool
+  needed = take (n * 2 + 2) flags
+
+  flagged_codes : Flags rule needed
+  flagged_codes = rw en (root_flags rule flags (few_codes rule passed) (rw en at walked))
+
+  pub sizes : count ≡ size rule
   unfolding size
   sizes =
-      numbered.size
-      ∙ rank_agree (flagged needed) (is_needed (codes_of rule)) (root_flags rule needed walked) (code_end rule)
+      numbered.size ∙ ap (rank (flagged needed)) flagged_codes.size
+      ∙ flags_rank flagged_codes (code_end rule) (omega arith)
 
-  module _ (form : List ℕ) (room : rule_bytes ≤ length form) where
-    pub too_large : max_nodes < count → buffer (refused 26 0) form ≡ rule_stored (sized rule) form
-    too_large lt = rw (lt-leb (size rule) max_nodes (omega (arith, sizes)))
+  module _ (form : List ℕ) where
+    pub too_large : {number place : ℕ} → refused number place ≡ require (leb count max_nodes) 26 0
+        → buffer (refused number place) form ≡ rule_stored (sized rule) form
+    too_large e = rw (← sizes, ← e) refl
 
-    module _ (few : count ≤ max_nodes) where
-      pub readied : length numbers ≡ code_places → Ready rule needed numbers count form
-      readied places = record {
-        passes = passes;
-        flags = root_flags rule needed walked;
-        numbered = numbered;
-        flags_room = walked.same ∙ length-replicate {A = Bool} code_places false;
+    module _ (few : fine ≡ require (leb count max_nodes) 26 0) where
+      most : leb count max_nodes ≡ true
+      most = require_fine (leb count max_nodes) 26 0 (sym few)
+
+      pub readied : rule_bytes ≤ length form → length numbers ≡ code_places → Ready rule needed numbers form
+      readied room places = record {
+        flags = flagged_codes;
+        numbered = numbered.each;
         numbers_room = places;
-        room = omega arith;
+        room = omega (arith, leb-true count max_nodes most, sizes);
       }
 
       pub form_stored : (written after : List ℕ) → length written ≡ length form
-          → take (count * 3) written ≡ normal_bytes rule
+          → take (size rule * 3) written ≡ normal_bytes rule
           → after ≡ filled written (take (count * 3) written)
           → buffer (accepted (count * 3)) after ≡ rule_stored (sized rule) form
       form_stored written after same is put =
           let long : length (normal_bytes rule) ≡ count * 3 =
-          result_length rule (well_written rule passes) ∙ ap (λ (x : ℕ). x * 3) (sym sizes) in
-          let filled_up : after ≡ filled form (normal_bytes rule) = put ∙ rw (is, same) in
-          rw (le-leb (size rule) max_nodes (omega (arith, sizes)), filled_up)
+          result_length rule (passed_rule rule passed) ∙ ap (λ (x : ℕ). x * 3) (sym sizes) in
+          let filled_up : after ≡ filled form (normal_bytes rule) = put ∙ rw (sizes, is, same) in
+          rw (← sizes, most, filled_up)
           (ap (λ (x : ℕ). buffer (accepted x) (filled form (normal_bytes rule))) (sym long))
 
 -- ---- any bytes
 
 module _ (rule form : List ℕ) where
-  pub short_refused : length form < rule_bytes → buffer (refused 25 0) form ≡ normalizes rule form
-  unfolding normalizes
-  short_refused lt = rw (lt-leb rule_bytes (length form) lt)
-
   module _ (room : rule_bytes ≤ length form) where
-    pub syntax_refused : {number place : ℕ} → refused number place ≡ syntax_check eventually_kind rule
-        → buffer (refused number place) form ≡ normalizes rule form
-    unfolding normalizes normal_form written_check
-    syntax_refused e = rw (le-leb rule_bytes (length form) room, ← e)
-
-    pub built : {o : Buffer} → syntax_check eventually_kind rule ≡ fine → o ≡ rule_stored (sized rule) form
-        → o ≡ normalizes rule form
-    unfolding normalizes normal_form written_check
-    built passes e = e ∙ rw (le-leb rule_bytes (length form) room, passes)
-
     -- what the answer and the buffer say of the normal form
     module _ (after : List ℕ) {told : Result ℕ} (normalized : buffer told after ≡ normalizes rule form) where
       stores : buffer told after ≡ rule_stored (normal_form rule) form
@@ -131,13 +128,8 @@ module _ (rule form : List ℕ) where
             → (normal_form rule ≡ accepted (take n after)) × (checked (take n after) ≡ fine) × (n ≤ length after)
         form_passes e = (made.is, normal_form_checked rule (take n after) made.is ∙ sym e, made.inside)
 
--- what check_form's answer says, by its variant, and of the rule alone
-pub forms_as : (rule form : List ℕ) {r told : Stored} → r ≡ told → Forms rule r form → Forms rule told form
-forms_as rule form e = subst (λ (x : Stored). Forms rule x form) e
-
-pub form_accepted : (rule form : List ℕ) (n : ℕ)
-    → (normal_form rule ≡ accepted (take n form)) × (checked (take n form) ≡ fine) × (n ≤ length form)
-    → fine ≡ written_checked rule
+-- what check_form's answer says of the rule alone
+pub form_accepted : (rule form : List ℕ) (n : ℕ) → Forms rule (Ok n) form → fine ≡ written_checked rule
 unfolding written_checked
 form_accepted rule form n (is, passes, inside) =
     rw is (sym (sym (normal_form_checked rule (take n form) is) ∙ passes))

@@ -1,6 +1,6 @@
 -- The walk from a node by its kind, as code that descends from node to node takes it: by the node's tree it computes.
 -- Assumes nothing.
-use Prim.Native.Nat.{ℕ, zero, suc, ◌<◌}
+use Prim.Native.Nat.{ℕ, ◌<◌}
 use mathlib.Core.Path.{◌≡◌, refl}
 use mathlib.Core.Bool.{Bool, true, false, not}
 use mathlib.Core.List.{List, [], ◌∷◌, ◌++◌}
@@ -11,19 +11,6 @@ use Rattle.normalform.specs.NormalForm.{turned, bit, left_constant, pair_code, c
 use Rattle.normalform.specs.Memory.{node_walk}
 use Rattle.normalform.proofs.Nodes.{Pair, four, five, seven, eight}
 use Rattle.normalform.proofs.Fitting.{WrittenNode, leaf_built, inner_built}
-
--- the kinds of two children that keep their sides' sense
-pub pair_kind : (k : ℕ) → 3 < k → k < 9 → (k ≡ 6 → ⊥) → Pair k
-pair_kind zero a b c = absurd (omega arith)
-pair_kind (suc zero) a b c = absurd (omega arith)
-pair_kind (suc (suc zero)) a b c = absurd (omega arith)
-pair_kind (suc (suc (suc zero))) a b c = absurd (omega arith)
-pair_kind (suc (suc (suc (suc zero)))) a b c = four
-pair_kind (suc (suc (suc (suc (suc zero))))) a b c = five
-pair_kind (suc (suc (suc (suc (suc (suc zero)))))) a b c = absurd (c refl)
-pair_kind (suc (suc (suc (suc (suc (suc (suc zero))))))) a b c = seven
-pair_kind (suc (suc (suc (suc (suc (suc (suc (suc zero)))))))) a b c = eight
-pair_kind (suc (suc (suc (suc (suc (suc (suc (suc (suc k))))))))) a b c = absurd (omega arith)
 
 module _ (rule : List ℕ) (n : ℕ) (node : WrittenNode rule n) (s : Bool) where
   abbrev l : ℕ

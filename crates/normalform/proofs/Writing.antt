@@ -1,28 +1,27 @@
 -- The bytes under all needed codes: what a loop over rising codes has written. Assumes nothing.
 use Prim.Native.Nat.{ℕ, zero, suc, ◌+◌, ◌-◌, ◌*◌, ◌/◌, ◌<◌, ◌≤◌}
 use mathlib.Core.Path.{◌≡◌, refl, sym, ◌∙◌, ap, subst}
-use mathlib.Core.Bool.{Bool, true, false, cond, not, false≢true}
-use mathlib.Core.List.{List, [], ◌++◌, append-nil}
+use mathlib.Core.Bool.{Bool, true, false, not, false≢true}
+use mathlib.Core.List.{List, [], ◌∷◌, append-nil}
 use native.Mathlib.Omega.{arith}
 use native.Mathlib.Numerals.{add-one}
 use native.Mathlib.Decide.{dec_lt}
-use lib.ListN.{length, take}
-use lib.Seq.{sets}
+use lib.ListN.{get_or, length, take}
+use lib.Seq.{sets, length-sets}
 use borrow.Author.Tests.{lt-ltb, le-ltb}
-use Rattle.answer.specs.Result.{fine}
+use Rattle.answer.specs.Result.{passes}
 use Rattle.answer.proofs.Filling.{front_more}
 use Rattle.formula.specs.Rule.{node_count, kind_at, root, one_child}
 use Rattle.normalform.specs.Written.{Written, constant, literal, negation, next, binary, future}
 use Rattle.normalform.specs.Written.{written_tree, written_check}
 use Rattle.normalform.specs.NormalForm.{turned, bit, left_sense, left_constant, pair_code, code, entry}
 use Rattle.normalform.specs.NormalForm.{sense, rank, emit, is_needed, number, entry_of, codes_of, code_end}
-use Rattle.normalform.specs.NormalForm.{normal_bytes}
-use Rattle.normalform.specs.Memory.{OwnPlace, Named, flagged, number_in}
-use Rattle.normalform.specs.Memory.{code_bytes, with_code, Ready}
+use Rattle.normalform.specs.NormalForm.{size, normal_bytes}
+use Rattle.normalform.specs.Memory.{OwnPlace, Named, flagged, Flags, number_in, code_bytes, Ready}
 use Rattle.normalform.proofs.Ranks.{rank_needed, rank_passed, rank_below}
 use Rattle.normalform.proofs.Shape.{Fits, bit_low, pair_high, code_low, entry_length}
 use Rattle.normalform.proofs.Fitting.{Made, made_constant, made_literal, made_negation, made_next, made_binary}
-use Rattle.normalform.proofs.Fitting.{made_future, leaf_made, fits_node, WellWritten, well_written}
+use Rattle.normalform.proofs.Fitting.{made_future, leaf_made, fits_node, WellWritten, passed_rule}
 use Rattle.normalform.proofs.Nodes.{Within, own, walk_low, root_within, within_negation}
 use Rattle.normalform.proofs.Placed.{visit}
 
@@ -54,9 +53,9 @@ standing_place rule n made h = go _ refl made h
         record { constant = omega arith; negation = λ z. false≢true (sym two ∙ not_one k (sym e ∙ z)) }
     go k e (made_future _ all high) h = record { constant = omega arith; negation = λ z. omega arith }
 
-module _ (rule : List ℕ) (passes : written_check rule ≡ fine) where
+module _ (rule : List ℕ) (passed : passes (written_check rule) ≡ true) where
   abbrev formed : WellWritten rule
-  formed = well_written rule passes
+  formed = passed_rule rule passed
 
   abbrev look : ℕ → Written
   look = written_tree rule
@@ -87,7 +86,7 @@ module _ (rule : List ℕ) (passes : written_check rule ≡ fine) where
       pair_named le =
           let inside = pair_inside n s needed in
           let (a, b, made) = leaf_made rule n (formed.nodes n inside) in
-          rw (half s) (record { inside = inside; passes = passes }, standing_place rule n made stands)
+          rw (half s) (inside, standing_place rule n made stands)
 
   constant_named : (v : Bool) → Named rule (bit v)
   constant_named true le = absurd (omega arith)
@@ -113,10 +112,10 @@ module _ (rule : List ℕ) (passes : written_check rule ≡ fine) where
 
 -- ---- numbers in memory
 
-pub rank_agree : (f g : ℕ → Bool) → ((c : ℕ) → f c ≡ g c) → (c : ℕ) → rank f c ≡ rank g c
+pub rank_agree : (f g : ℕ → Bool) (n : ℕ) → ((c : ℕ) → c < n → f c ≡ g c) → (c : ℕ) → c ≤ n → rank f c ≡ rank g c
 unfolding rank
-rank_agree f g h zero = refl
-rank_agree f g h (suc c) = rw (rank_agree f g h c, h c)
+rank_agree f g n h zero l = refl
+rank_agree f g n h (suc c) l = rw (rank_agree f g n h c (omega arith), h c (omega arith))
 
 -- an entry has only numbers of codes below its node's
 module _ (f g : ℕ → ℕ) (look : ℕ → Written) where
@@ -138,34 +137,33 @@ module _ (f g : ℕ → ℕ) (look : ℕ → Written) where
         h (code a s) (omega (arith, fits.0, code_low look a n s fits.2)),
       )
 
-module _ {rule : List ℕ} {needed : List Bool} {numbers : List ℕ} {count : ℕ} {form : List ℕ}
-    (ready : Ready rule needed numbers count form) where
+-- the number of a code by the flags
+pub flags_rank : {rule : List ℕ} {needed : List Bool} → Flags rule needed → (c : ℕ) → c ≤ code_end rule
+    → rank (flagged needed) c ≡ number (codes_of rule) c
+flags_rank {rule} {needed} flags c l =
+    rank_agree (flagged needed) (is_needed (codes_of rule)) (code_end rule) flags.each c l
+
+module _ {rule : List ℕ} {needed : List Bool} {numbers : List ℕ} {form : List ℕ}
+    (passed : passes (written_check rule) ≡ true) (ready : Ready rule needed numbers form) where
   abbrev codes : List ℕ
   codes = codes_of rule
 
   at_number : (c : ℕ) → c < code_end rule → number_in numbers c ≡ number codes c
-  at_number c l = ready.numbered.each c l ∙ rank_agree (flagged needed) (is_needed codes) ready.flags c
-
-  count_size : count ≡ number codes (code_end rule)
-  count_size = ready.numbered.size ∙ rank_agree (flagged needed) (is_needed codes) ready.flags (code_end rule)
+  at_number c l =
+      ready.numbered c (omega (arith, ready.flags.size)) ∙ flags_rank ready.flags c (omega arith)
 
   module _ (c : ℕ) (l : c < code_end rule) (n : flagged needed c ≡ true) where
     is_needed_lem : is_needed codes c ≡ true
-    is_needed_lem = sym (ready.flags c) ∙ n
+    is_needed_lem = sym (ready.flags.each c l) ∙ n
 
     names : Named rule c
-    names = needed_named rule ready.passes c is_needed_lem
+    names = needed_named rule passed c is_needed_lem
 
     pub code_named : Named rule c × (number_in numbers c * 3 + 3 ≤ length form)
+    unfolding size
     code_named = (
       names,
-      omega (
-        arith,
-        at_number c l,
-        count_size,
-        rank_below (is_needed codes) c (code_end rule) is_needed_lem l,
-        ready.room,
-      ),
+      omega (arith, at_number c l, rank_below (is_needed codes) c (code_end rule) is_needed_lem l, ready.room),
     )
 
     bytes_are : code_bytes rule numbers c ≡ entry_of codes (written_tree rule) c
@@ -178,8 +176,8 @@ module _ {rule : List ℕ} {needed : List Bool} {numbers : List ℕ} {count : �
             (sense c) tt at)
         go (no high) =
             let k = (c - 2) / 2 in
-            let inside = (names (omega arith)).0.inside in
-            let fits = fits_node rule (well_written rule ready.passes).nodes k inside in
+            let inside = (names (omega arith)).0 in
+            let fits = fits_node rule (passed_rule rule passed).nodes k inside in
             rw (le-ltb c 2 (omega arith))
             (entry_agree (number_in numbers) (number codes) (written_tree rule) (written_tree rule k) (suc k) (sense c)
             fits
@@ -190,59 +188,74 @@ module _ {rule : List ℕ} {needed : List Bool} {numbers : List ℕ} {count : �
 
 -- ---- the loop
 
+three_bytes : (xs : List ℕ) → length xs ≡ 3 → get_or xs 0 0 ∷ (get_or xs 1 0 ∷ (get_or xs 2 0 ∷ [])) ≡ xs
+three_bytes [] e = absurd (omega arith)
+three_bytes (x ∷ []) e = absurd (omega arith)
+three_bytes (x ∷ y ∷ []) e = absurd (omega arith)
+three_bytes (x ∷ y ∷ z ∷ []) e = refl
+three_bytes (x ∷ y ∷ z ∷ u ∷ xs) e = absurd (omega arith)
+
 -- a loop over the codes that stands at c: the bytes under the needed ones before stand at the form's start
 pub record Emitting (rule before form : List ℕ) (c : ℕ) : Type 0 where
-  pub within : c ≤ code_end rule
   pub room : length form ≡ length before
   pub written : take (number (codes_of rule) c * 3) form
       ≡ emit (is_needed (codes_of rule)) (entry_of (codes_of rule) (written_tree rule)) c
 
 pub emit_begins : (rule before : List ℕ) → Emitting rule before before 0
 unfolding rank emit
-emit_begins rule before = record { within = omega arith; room = refl; written = refl }
+emit_begins rule before = record { room = refl; written = refl }
 
-module _ {rule : List ℕ} {needed : List Bool} {numbers : List ℕ} {count : ℕ} {before : List ℕ}
-    (ready : Ready rule needed numbers count before) (form : List ℕ) (c : ℕ) (inv : Emitting rule before form c) where
+module _ {rule : List ℕ} {needed : List Bool} {numbers : List ℕ} {before : List ℕ}
+    (passed : passes (written_check rule) ≡ true) (ready : Ready rule needed numbers before) (form : List ℕ) (c : ℕ)
+    (inv : Emitting rule before form c) where
   abbrev entries : ℕ → List ℕ
   entries = entry_of (codes_of rule) (written_tree rule)
 
   abbrev wanted : ℕ → Bool
   wanted = is_needed (codes_of rule)
 
-  pub code_room : c < code_end rule → flagged needed c ≡ true
-      → Named rule c × (number_in numbers c * 3 + 3 ≤ length form)
-  code_room l n =
-      let (names, fits) = code_named ready c l n in
-      (names, omega (arith, inv.room))
+  module _ (inside : c < length needed) where
+    l : c < code_end rule
+    l = omega (arith, ready.flags.size)
 
-  pub emit_steps : c < code_end rule → (after : List ℕ) → length after ≡ length form
-      → after ≡ with_code rule needed numbers c form → Emitting rule before after (c + 1)
-  unfolding emit
-  emit_steps l after same e = record {
-    within = omega arith;
-    room = same ∙ inv.room;
-    written = rw (add-one c) (go (flagged needed c) refl e);
-  }
-    where
-      go : (b : Bool) → flagged needed c ≡ b
-          → after ≡ cond b (sets form (number_in numbers c * 3) (code_bytes rule numbers c)) form
-          → take (rank wanted (suc c) * 3) after ≡ emit wanted entries c ++ cond (wanted c) (entries c) []
-      go true n put =
-          let yes : wanted c ≡ true = is_needed_lem ready c l n in
-          let (_, fits) = code_room l n in
-          let place : number_in numbers c * 3 ≡ rank wanted c * 3 = ap (λ (x : ℕ). x * 3) (at_number ready c l) in
-          let stored : after ≡ sets form (rank wanted c * 3) (entries c) = put ∙ rw (place, bytes_are ready c l n) in
-          let size : suc (rank wanted c) * 3 ≡ rank wanted c * 3 + length (entries c) = omega (arith, three ready c) in
-          let inside : suc (rank wanted c) * 3 ≤ length form = omega (arith, at_number ready c l) in
-          rw (rank_needed wanted c yes, yes)
-          (front_more form after (rank wanted c * 3) (suc (rank wanted c) * 3) (entries c) size inside stored
-          ∙ rw inv.written)
-      go false n put =
-          let no : wanted c ≡ false = sym (ready.flags c) ∙ n in
-          rw (rank_passed wanted c no, no, put, append-nil) inv.written
+    pub code_room : flagged needed c ≡ true → Named rule c × (number_in numbers c * 3 + 3 ≤ length form)
+    code_room n =
+        let (names, fits) = code_named passed ready c l n in
+        (names, omega (arith, inv.room))
 
-  pub emit_ends : code_end rule ≤ c → take (count * 3) form ≡ normal_bytes rule
-  unfolding normal_bytes
-  emit_ends le =
-      let e : code_end rule ≡ c = omega (arith, inv.within) in
-      rw (count_size ready, e) inv.written
+    -- a needed code, whose bytes are put; and one that is passed over
+    pub emit_puts : flagged needed c ≡ true → (after bytes : List ℕ) (at : ℕ) → bytes ≡ code_bytes rule numbers c
+        → at ≡ number_in numbers c
+        → after ≡ sets form (at * 3) (get_or bytes 0 0 ∷ (get_or bytes 1 0 ∷ (get_or bytes 2 0 ∷ [])))
+        → Emitting rule before after (c + 1)
+    unfolding emit
+    emit_puts n after bytes at is ea put =
+        let yes : wanted c ≡ true = is_needed_lem passed ready c l n in
+        let (_, fits) = code_room n in
+        let place : at * 3 ≡ rank wanted c * 3 = ap (λ (x : ℕ). x * 3) (ea ∙ at_number passed ready c l) in
+        let same : bytes ≡ entries c = is ∙ bytes_are passed ready c l n in
+        let all = three_bytes bytes (ap length same ∙ three passed ready c) in
+        let stored : after ≡ sets form (rank wanted c * 3) (entries c) =
+        put ∙ ap (sets form (at * 3)) all ∙ rw (place, same) in
+        let long : suc (rank wanted c) * 3 ≡ rank wanted c * 3 + length (entries c) =
+        omega (arith, three passed ready c) in
+        let fit : suc (rank wanted c) * 3 ≤ length form = omega (arith, at_number passed ready c l) in
+        record {
+          room = rw stored (length-sets form (rank wanted c * 3) (entries c)) ∙ inv.room;
+          written =
+              rw (add-one c, rank_needed wanted c yes, yes)
+              (front_more form after (rank wanted c * 3) (suc (rank wanted c) * 3) (entries c) long fit stored
+              ∙ rw inv.written);
+        }
+
+    pub emit_passes : flagged needed c ≡ false → Emitting rule before form (c + 1)
+    unfolding emit
+    emit_passes n =
+        let no : wanted c ≡ false = sym (ready.flags.each c l) ∙ n in
+        record { room = inv.room; written = rw (add-one c, rank_passed wanted c no, no, append-nil) inv.written }
+
+  pub emit_ends : c ≡ length needed → take (size rule * 3) form ≡ normal_bytes rule
+  unfolding normal_bytes size
+  emit_ends e =
+      let same : code_end rule ≡ c = sym (e ∙ ready.flags.size) in
+      rw same inv.written

@@ -3,3 +3,4 @@ pub mod Written
 pub mod NormalForm
 pub mod Normalize
 pub mod Memory
+pub mod Parsed

@@ -1,25 +1,19 @@
 -- What the code holds of a written rule on the way to its normal form: the needed codes as flags, and their numbers.
-use Rattle.std.specs.Prelude.{ℕ, ◌+◌, ◌-◌, ◌*◌, ◌/◌, ◌<◌, ◌≤◌, ◌≡◌, Bool, false, cond, ◌||◌, List, [], ◌∷◌, get_or}
-use Rattle.std.specs.Prelude.{length, take, eqb, ltb}
-use Rattle.std.proofs.lemmas.List.Edits.{sets}
-use Rattle.answer.specs.declared.Stored.{Stored}
-use Rattle.answer.specs.declared.Stored.TheVariants.{Accepted, Refused}
-use Rattle.answer.specs.Result.{accepted, refused, fine}
+use Rattle.std.specs.Prelude.{ℕ, ◌+◌, ◌-◌, ◌*◌, ◌/◌, ◌<◌, ◌≤◌, ◌≡◌, Bool, false, cond, not, ◌||◌, List, [], ◌∷◌}
+use Rattle.std.specs.Prelude.{get_or, length, take, eqb, ltb}
+use Rattle.std.specs.Prelude.{Result as Returned, Ok, Err}
+use Rattle.answer.specs.declared.Refusal.{Refusal}
+use Rattle.answer.specs.Result.{accepted, refused, fine, reason_number}
 use Rattle.formula.specs.Limits.{max_nodes}
 use Rattle.formula.specs.Rule.{node_count, kind_at, checked}
-use Rattle.normalform.specs.Written.{constant, build_written, written_tree, written_check}
+use Rattle.normalform.specs.Written.{constant, build_written, written_tree}
 use Rattle.normalform.specs.NormalForm.{turned, bit, left_constant, pair_code, code, walk, entry, subject, sense}
-use Rattle.normalform.specs.NormalForm.{member, rank, is_needed, codes_of, code_end}
+use Rattle.normalform.specs.NormalForm.{member, rank, is_needed, codes_of, code_end, size}
 use Rattle.normalform.specs.NormalForm.{normal_form, written_checked}
 
 -- a place for each code
 abbrev pub code_places : ℕ
 code_places = max_nodes * 2 + 2
-
--- node n of a written rule that 1 to 6 let pass
-pub record Walkable (rule : List ℕ) (n : ℕ) : Type 0 where
-  pub inside : n < node_count rule
-  pub passes : written_check rule ≡ fine
 
 -- a flag for each code, true where it is needed: those before, and these codes
 pub record Added (before after : List Bool) (codes : List ℕ) : Type 0 where
@@ -41,25 +35,30 @@ own_code kind n s = cond (ltb kind 2) (bit (turned (eqb kind 1) s)) (pair_code n
 abbrev pub constant_code : (kind : ℕ) (s : Bool) → ℕ
 constant_code kind s = bit (left_constant (eqb kind 11) s)
 
+-- the sense of the left side: not and implies negate it
+abbrev pub left_turned : (kind : ℕ) (s : Bool) → Bool
+left_turned kind s = cond (eqb kind 9 || eqb kind 10) (not s) s
+
 -- the node's own codes on the walk: a leaf's; none for not; else its pair's, for always and eventually with the
 -- constant's
 abbrev pub own_codes : (kind n : ℕ) (s : Bool) → List ℕ
 own_codes kind n s =
     cond (ltb kind 4) (own_code kind n s ∷ [])
-    (cond (eqb kind 9) [] (pair_code n s ∷ cond (ltb 10 kind) (constant_code kind s ∷ []) []))
+    (cond (eqb kind 9) [] (pair_code n s ∷ cond (eqb kind 11 || eqb kind 12) (constant_code kind s ∷ []) []))
 
 -- what the flags say of a code
 abbrev pub flagged : List Bool → ℕ → Bool
 flagged needed c = get_or needed c false
 
--- the flags of the walk from the root of a rule
-abbrev pub Flags : (rule : List ℕ) (needed : List Bool) → Type 0
-Flags rule needed = (c : ℕ) → flagged needed c ≡ is_needed (codes_of rule) c
+-- the flags of the walk from the root of a rule, one for each code of the rule
+pub record Flags (rule : List ℕ) (needed : List Bool) : Type 0 where
+  pub size : length needed ≡ code_end rule
+  pub each : (c : ℕ) → c < code_end rule → flagged needed c ≡ is_needed (codes_of rule) c
 
--- each code below end has its number, and count of them are needed
-pub record Numbered (needed : List Bool) (end : ℕ) (numbers : List ℕ) (count : ℕ) : Type 0 where
-  pub size : count ≡ rank (flagged needed) end
-  pub each : (c : ℕ) → c < end → get_or numbers c 0 ≡ rank (flagged needed) c
+-- each code that has a flag has its number, and count of them are needed
+pub record Numbered (needed : List Bool) (numbers : List ℕ) (count : ℕ) : Type 0 where
+  pub size : count ≡ rank (flagged needed) (length needed)
+  pub each : (c : ℕ) → c < length needed → get_or numbers c 0 ≡ rank (flagged needed) c
 
 -- a code's number, as it stands in memory
 abbrev pub number_in : List ℕ → ℕ → ℕ
@@ -83,24 +82,17 @@ code_bytes rule numbers c = entry (number_in numbers) (subject (written_tree rul
 
 -- a code names false, true, or a node with a place of its own
 abbrev pub Named : (rule : List ℕ) (c : ℕ) → Type 0
-Named rule c = 2 ≤ c → Walkable rule ((c - 2) / 2) × OwnPlace rule ((c - 2) / 2)
+Named rule c = 2 ≤ c → ((c - 2) / 2 < node_count rule) × OwnPlace rule ((c - 2) / 2)
 
--- the needed codes of a rule and their numbers, count of them, and room for their bytes
-pub record Ready (rule : List ℕ) (needed : List Bool) (numbers : List ℕ) (count : ℕ) (form : List ℕ) : Type 0 where
-  pub passes : written_check rule ≡ fine
+-- the needed codes of a rule and their numbers, and room for their bytes
+pub record Ready (rule : List ℕ) (needed : List Bool) (numbers : List ℕ) (form : List ℕ) : Type 0 where
   pub flags : Flags rule needed
-  pub numbered : Numbered needed (code_end rule) numbers count
-  pub flags_room : length needed ≡ code_places
+  pub numbered : (c : ℕ) → c < length needed → number_in numbers c ≡ rank (flagged needed) c
   pub numbers_room : length numbers ≡ code_places
-  pub room : count * 3 ≤ length form
-
--- a form with the bytes under a code, where it is needed
-abbrev pub with_code : (rule : List ℕ) (needed : List Bool) (numbers : List ℕ) (c : ℕ) (form : List ℕ) → List ℕ
-with_code rule needed numbers c form =
-    cond (flagged needed c) (sets form (number_in numbers c * 3) (code_bytes rule numbers c)) form
+  pub room : size rule * 3 ≤ length form
 
 -- the answer of check_form, and what stands at the front of the buffer where it accepts
-abbrev pub Forms : (rule : List ℕ) → Stored → (form : List ℕ) → Type 0
-Forms rule (Accepted n) form =
+abbrev pub Forms : (rule : List ℕ) → Returned ℕ Refusal → (form : List ℕ) → Type 0
+Forms rule (Ok n) form =
     (normal_form rule ≡ accepted (take n form)) × (checked (take n form) ≡ fine) × (n ≤ length form)
-Forms rule (Refused number place) form = written_checked rule ≡ refused number place
+Forms rule (Err r) form = written_checked rule ≡ refused (reason_number r.reason) r.place

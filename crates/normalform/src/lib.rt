@@ -4,214 +4,178 @@
 
 ghost use Rattle.std.specs.Prelude.{◌≡◌, [], ◌∷◌, true, false, ◌+◌, ◌*◌, ◌<◌, ◌≤◌, length, take};
 ghost use Rattle.std.proofs.lemmas.List.Edits.{sets};
-ghost use Rattle.answer.specs.Result.{fine, answer};
-ghost use Rattle.answer.specs.Buffer.{stored_answer, buffer};
+ghost use Rattle.answer.specs.Result.{answer};
+ghost use Rattle.answer.specs.Buffer.{buffer};
 ghost use Rattle.formula.specs.Limits.{max_nodes, rule_bytes};
-ghost use Rattle.formula.specs.Rule.{eventually_kind};
-ghost use Rattle.normalform.specs.Written.{written_check};
-ghost use Rattle.normalform.specs.NormalForm.{bit, pair_code, normal_bytes, sized, written_checked};
+ghost use Rattle.formula.specs.Kind.{kind_number};
+ghost use Rattle.formula.specs.Rule.{node_count};
+ghost use Rattle.normalform.specs.NormalForm.{pair_code, size, normal_bytes, sized, written_checked};
 ghost use Rattle.normalform.specs.Normalize.{rule_stored, normalizes};
-ghost use Rattle.normalform.specs.Memory.{code_places, Walkable, Added, node_walk, node_code, own_code};
-ghost use Rattle.normalform.specs.Memory.{constant_code, own_codes, flagged, Numbered, number_in, form_kind};
-ghost use Rattle.normalform.specs.Memory.{OwnPlace, node_bytes, code_bytes, Named, Ready, with_code, Forms};
+ghost use Rattle.normalform.specs.Memory.{code_places, Added, node_walk, node_code, own_code};
+ghost use Rattle.normalform.specs.Memory.{constant_code, left_turned, own_codes, Numbered, number_in, form_kind};
+ghost use Rattle.normalform.specs.Memory.{OwnPlace, node_bytes, code_bytes, Named, Ready, Forms};
 
-use answer::{Checked, Stored, TABLE_TOO_SHORT, wide, zero_behind};
-use formula::{
-    ALWAYS, AND, EVENTUALLY, IMPLIES, MAX_BYTES, MAX_NODES, NEXT, NOT, PROPOSITION, TRUE,
-    check_syntax, check_untils, kind_of, left_of, one_child, right_of,
-};
+use answer::{Reason, Refusal, require, zero_behind};
+use formula::{Kind, MAX_BYTES, MAX_NODES, check_untils};
 
-// By kind, what a node becomes as it stands and negated: implies an or, always a release, eventually an until; negation
-// trades false with true, a proposition with its negation, and with or, until with release. A not has no place.
-const PLAIN_KINDS: [u8; 13] = [0, 1, 2, 3, 4, 5, 6, 7, 8, 1, 5, 8, 7];
+mod written;
 
-const NEGATED_KINDS: [u8; 13] = [1, 0, 3, 2, 5, 4, 6, 8, 7, 0, 4, 7, 8];
-
-// The number of document 02 by which a written rule is refused whose normal form has too many nodes.
-pub const TOO_MANY_NODES: u8 = 26;
+use written::Written;
 
 // A place for each code (specs/NormalForm.antt): false, true, and each node as it stands and negated.
 const CODE_PLACES: usize = MAX_NODES * 2 + 2;
-
-// 1 or 0.
-fn bit_of(value: bool) -> usize
-    ensures { (result ≡ bit value) × (result ≤ 1) }
-{
-    if value { 1 } else { 0 }
-}
 
 // The code of node n in a sense.
 fn pair_code(n: usize, negated: bool) -> usize
     requires { n < max_nodes }
     ensures { (result ≡ pair_code n negated) × (result < code_places) }
 {
-    n * 2 + 2 + bit_of(negated)
+    n * 2 + 2 + usize::from(negated)
 }
 
 // The code of a node that is no not.
-fn own_code(kind: u8, n: usize, negated: bool) -> usize
+fn own_code(kind: Kind, n: usize, negated: bool) -> usize
     requires { n < max_nodes }
-    ensures { (result ≡ own_code kind n negated) × (result < code_places) }
+    ensures { (result ≡ own_code (kind_number kind) n negated) × (result < code_places) }
 {
-    if kind < PROPOSITION {
-        if kind == TRUE {
-            return bit_of(!negated);
-        }
-        return bit_of(negated);
+    match kind {
+        Kind::False => usize::from(negated),
+        Kind::True => usize::from(!negated),
+        _ => pair_code(n, negated),
     }
-    pair_code(n, negated)
 }
 
 // The code of the constant on the left of what always and eventually become.
-fn constant_code(kind: u8, negated: bool) -> usize
-    ensures { (result ≡ constant_code kind negated) × (result < code_places) }
+fn constant_code(kind: Kind, negated: bool) -> usize
+    ensures { (result ≡ constant_code (kind_number kind) negated) × (result < code_places) }
 {
-    if kind == ALWAYS {
-        return bit_of(negated);
+    match kind {
+        Kind::Always => usize::from(negated),
+        _ => usize::from(!negated),
     }
-    bit_of(!negated)
 }
 
-fn add_code(needed: &mut [bool], c: usize)
-    requires { c < length needed.old }
-    ensures { Added needed.old needed.new (c ∷ []) }
+// The sense of a node's left side: not and implies negate it.
+fn left_sense(kind: Kind, negated: bool) -> bool
+    ensures { result ≡ left_turned (kind_number kind) negated }
 {
-    needed[c] = true;
-}
-
-fn add_codes(needed: &mut [bool], c: usize, d: usize)
-    requires { (c < length needed.old) × (d < length needed.old) }
-    ensures { Added needed.old needed.new (c ∷ (d ∷ [])) }
-{
-    add_code(needed, c);
-    add_code(needed, d);
+    negated != matches!(kind, Kind::Not | Kind::Implies)
 }
 
 // The codes of a node itself, without its children's.
-fn add_own(kind: u8, n: usize, negated: bool, needed: &mut [bool])
+fn add_own(kind: Kind, n: usize, negated: bool, needed: &mut [bool])
     requires { (n < max_nodes) × (length needed.old ≡ code_places) }
-    ensures { Added needed.old needed.new (own_codes kind n negated) }
+    ensures { Added needed.old needed.new (own_codes (kind_number kind) n negated) }
 {
-    if kind < AND {
-        add_code(needed, own_code(kind, n, negated));
-        return;
+    match kind {
+        Kind::Not => {}
+        Kind::Always | Kind::Eventually => {
+            needed[pair_code(n, negated)] = true;
+            needed[constant_code(kind, negated)] = true;
+        }
+        _ => needed[own_code(kind, n, negated)] = true,
     }
-    if kind == NOT {
-        return;
-    }
-    if IMPLIES < kind {
-        add_codes(needed, pair_code(n, negated), constant_code(kind, negated));
-        return;
-    }
-    add_code(needed, pair_code(n, negated));
 }
+
+// The two walks of a rule are two functions, as document 01 asks: one of a node as it stands, one of its negation. Each
+// calls the other at the left of not and implies, and the node's number falls at each call.
 
 // The codes that node n needs as it stands: its own and its children's.
 #[cycle(walk_negated_walk_plain)]
-fn walk_plain(rule: &[u8], n: usize, needed: &mut [bool])
-    requires { Walkable rule.now n × (length needed.old ≡ code_places) }
-    ensures { Added needed.old needed.new (node_walk rule.now n false) }
+fn walk_plain(rule: &Written<'_>, n: usize, needed: &mut [bool])
+    requires { (n < node_count rule.now.bytes.now) × (length needed.old ≡ code_places) }
+    ensures { Added needed.old needed.new (node_walk rule.now.bytes.now n false) }
 {
-    let kind = kind_of(rule, n);
+    let kind = rule.kind(n);
     add_own(kind, n, false, needed);
-    if kind < AND {
-        return;
+    match kind {
+        Kind::False | Kind::True | Kind::Proposition | Kind::NegatedProposition => {}
+        Kind::Not => walk_negated(rule, rule.left(n), needed),
+        Kind::Next | Kind::Always | Kind::Eventually => walk_plain(rule, rule.left(n), needed),
+        Kind::Implies => {
+            walk_negated(rule, rule.left(n), needed);
+            walk_plain(rule, rule.right(n), needed);
+        }
+        Kind::And | Kind::Or | Kind::Until | Kind::Release => {
+            walk_plain(rule, rule.left(n), needed);
+            walk_plain(rule, rule.right(n), needed);
+        }
     }
-    let left = left_of(rule, n);
-    if kind == NOT {
-        walk_negated(rule, left, needed);
-        return;
-    }
-    let right = right_of(rule, n);
-    if kind == IMPLIES {
-        walk_negated(rule, left, needed);
-        walk_plain(rule, right, needed);
-        return;
-    }
-    walk_plain(rule, left, needed);
-    if one_child(kind) {
-        return;
-    }
-    walk_plain(rule, right, needed);
 }
 
 // The codes that the negation of node n needs.
 #[cycle(walk_negated_walk_plain)]
-fn walk_negated(rule: &[u8], n: usize, needed: &mut [bool])
-    requires { Walkable rule.now n × (length needed.old ≡ code_places) }
-    ensures { Added needed.old needed.new (node_walk rule.now n true) }
+fn walk_negated(rule: &Written<'_>, n: usize, needed: &mut [bool])
+    requires { (n < node_count rule.now.bytes.now) × (length needed.old ≡ code_places) }
+    ensures { Added needed.old needed.new (node_walk rule.now.bytes.now n true) }
 {
-    let kind = kind_of(rule, n);
+    let kind = rule.kind(n);
     add_own(kind, n, true, needed);
-    if kind < AND {
-        return;
+    match kind {
+        Kind::False | Kind::True | Kind::Proposition | Kind::NegatedProposition => {}
+        Kind::Not => walk_plain(rule, rule.left(n), needed),
+        Kind::Next | Kind::Always | Kind::Eventually => walk_negated(rule, rule.left(n), needed),
+        Kind::Implies => {
+            walk_plain(rule, rule.left(n), needed);
+            walk_negated(rule, rule.right(n), needed);
+        }
+        Kind::And | Kind::Or | Kind::Until | Kind::Release => {
+            walk_negated(rule, rule.left(n), needed);
+            walk_negated(rule, rule.right(n), needed);
+        }
     }
-    let left = left_of(rule, n);
-    if kind == NOT {
-        walk_plain(rule, left, needed);
-        return;
-    }
-    let right = right_of(rule, n);
-    if kind == IMPLIES {
-        walk_plain(rule, left, needed);
-        walk_negated(rule, right, needed);
-        return;
-    }
-    walk_negated(rule, left, needed);
-    if one_child(kind) {
-        return;
-    }
-    walk_negated(rule, right, needed);
 }
 
 // The code of what stands for node n in a sense: that of the first node from it on that is no not.
-fn code_of(rule: &[u8], n: usize, negated: bool) -> usize
-    requires { Walkable rule.now n }
-    ensures { (result ≡ node_code rule.now n negated) × (result < code_places) }
+fn code_of(rule: &Written<'_>, n: usize, negated: bool) -> usize
+    requires { n < node_count rule.now.bytes.now }
+    ensures { (result ≡ node_code rule.now.bytes.now n negated) × (result < code_places) }
 {
-    let mut at = n;
-    let mut sense = negated;
-    loop {
-        let kind = kind_of(rule, at);
-        if kind != NOT {
-            return own_code(kind, at, sense);
-        }
-        at = left_of(rule, at);
-        sense = !sense;
+    match rule.kind(n) {
+        Kind::Not => code_of(rule, rule.left(n), !negated),
+        kind => own_code(kind, n, negated),
     }
 }
 
-// The numbers of the codes below end, the needed ones counted from 0; how many are needed.
-fn number_codes(needed: &[bool], end: usize, numbers: &mut [u8]) -> usize
-    requires { (end ≤ length needed.now) × (end ≤ length numbers.old) × (end ≤ code_places) }
-    ensures { Numbered needed.now end numbers.new result }
+// The numbers of the codes, the needed ones counted from 0; how many are needed.
+fn number_codes(needed: &[bool], numbers: &mut [u8]) -> usize
+    requires { (length needed.now ≤ length numbers.old) × (length needed.now ≤ code_places) }
+    ensures { Numbered needed.now numbers.new result }
 {
     let mut count = 0;
-    let mut c = 0;
-    while c < end {
+    for (c, is_needed) in needed.iter().enumerate() {
         numbers[c] = count as u8;
-        count += bit_of(needed[c]);
-        c += 1;
+        count += usize::from(*is_needed);
     }
     count
 }
 
-// The kind of what stands for a node of a kind in a sense.
-fn form_kind(kind: u8, negated: bool) -> u8
-    requires { kind ≤ eventually_kind }
-    ensures { result ≡ form_kind kind negated }
+// The kind of what stands for a node of a kind in a sense, where the node has a place of its own: implies becomes an
+// or, always a release, eventually an until; negation trades a proposition with its negation, and with or, until with
+// release.
+#[tactic(auto, unfolding(crate::specs::NormalForm::entry))]
+fn form_kind(kind: Kind, negated: bool) -> u8
+    requires { (2 ≤ kind_number kind) × (kind_number kind ≡ 9 → ⊥) }
+    ensures { result ≡ form_kind (kind_number kind) negated }
 {
-    let i = wide(kind);
-    if negated {
-        return NEGATED_KINDS[i];
-    }
-    PLAIN_KINDS[i]
+    let new = match (kind, negated) {
+        (Kind::Proposition, false) | (Kind::NegatedProposition, true) => Kind::Proposition,
+        (Kind::Proposition, true) | (Kind::NegatedProposition, false) => Kind::NegatedProposition,
+        (Kind::And, false) | (Kind::Or | Kind::Implies, true) => Kind::And,
+        (Kind::And, true) | (Kind::Or | Kind::Implies, false) => Kind::Or,
+        (Kind::Until | Kind::Eventually, false) | (Kind::Release | Kind::Always, true) =>
+            Kind::Until,
+        (Kind::Until | Kind::Eventually, true) | (Kind::Release | Kind::Always, false) =>
+            Kind::Release,
+        _ => Kind::Next,
+    };
+    new as u8
 }
 
 // The number of what stands for node n in a sense.
-fn form_node(rule: &[u8], n: usize, negated: bool, numbers: &[u8]) -> u8
-    requires { Walkable rule.now n × (length numbers.now ≡ code_places) }
-    ensures { result ≡ number_in numbers.now (node_code rule.now n negated) }
+fn form_node(rule: &Written<'_>, n: usize, negated: bool, numbers: &[u8]) -> u8
+    requires { (n < node_count rule.now.bytes.now) × (length numbers.now ≡ code_places) }
+    ensures { result ≡ number_in numbers.now (node_code rule.now.bytes.now n negated) }
 {
     numbers[code_of(rule, n, negated)]
 }
@@ -221,157 +185,99 @@ pub fn put_node(form: &mut [u8], at: usize, kind: u8, left: u8, right: u8)
     requires { at + 3 ≤ length form.old }
     ensures { form.new ≡ sets form.old at (kind ∷ (left ∷ (right ∷ []))) }
 {
-    form[at] = kind;
-    form[at + 1] = left;
-    form[at + 2] = right;
+    form[at..at + 3].copy_from_slice(&[kind, left, right]);
 }
 
 // The bytes of what stands for node n in a sense.
-fn put_pair(rule: &[u8], n: usize, negated: bool, numbers: &[u8], form: &mut [u8], at: usize)
-    requires { Walkable rule.now n × OwnPlace rule.now n × (length numbers.now ≡ code_places)
-        × (at + 3 ≤ length form.old) }
-    ensures { form.new
-        ≡ sets form.old at (node_bytes rule.now numbers.now n negated) }
+fn node_bytes(rule: &Written<'_>, n: usize, negated: bool, numbers: &[u8]) -> [u8; 3]
+    requires { (n < node_count rule.now.bytes.now) × OwnPlace rule.now.bytes.now n
+        × (length numbers.now ≡ code_places) }
+    ensures { result ≡ node_bytes rule.now.bytes.now numbers.now n negated }
 {
-    let kind = kind_of(rule, n);
+    let kind = rule.kind(n);
     let new = form_kind(kind, negated);
-    if kind < AND {
-        put_node(form, at, new, rule[n * 3 + 1], 0);
-        return;
+    match kind {
+        Kind::Proposition | Kind::NegatedProposition => [new, rule.bytes[n * 3 + 1], 0],
+        Kind::Next => [new, form_node(rule, rule.left(n), negated, numbers), 0],
+        Kind::Always | Kind::Eventually => {
+            let constant = numbers[constant_code(kind, negated)];
+            let child = form_node(rule, rule.left(n), negated, numbers);
+            [new, constant, child]
+        }
+        _ => {
+            let left = form_node(rule, rule.left(n), left_sense(kind, negated), numbers);
+            let right = form_node(rule, rule.right(n), negated, numbers);
+            [new, left, right]
+        }
     }
-    let left = left_of(rule, n);
-    if kind == NEXT {
-        put_node(form, at, new, form_node(rule, left, negated, numbers), 0);
-        return;
-    }
-    if IMPLIES < kind {
-        let constant = numbers[constant_code(kind, negated)];
-        put_node(
-            form,
-            at,
-            new,
-            constant,
-            form_node(rule, left, negated, numbers),
-        );
-        return;
-    }
-    let right = form_node(rule, right_of(rule, n), negated, numbers);
-    if kind == IMPLIES {
-        put_node(
-            form,
-            at,
-            new,
-            form_node(rule, left, !negated, numbers),
-            right,
-        );
-        return;
-    }
-    put_node(
-        form,
-        at,
-        new,
-        form_node(rule, left, negated, numbers),
-        right,
-    );
 }
 
-// The bytes under a code, at its number's place.
-fn put_code(rule: &[u8], c: usize, numbers: &[u8], form: &mut [u8])
-    requires { Named rule.now c × (c < code_places) × (length numbers.now ≡ code_places)
-        × (number_in numbers.now c * 3 + 3 ≤ length form.old) }
-    ensures { form.new
-        ≡ sets form.old (number_in numbers.now c * 3)
-        (code_bytes rule.now numbers.now c) }
+// The bytes under a code.
+fn code_bytes(rule: &Written<'_>, c: usize, numbers: &[u8]) -> [u8; 3]
+    requires { Named rule.now.bytes.now c × (c < code_places) × (length numbers.now ≡ code_places) }
+    ensures { result ≡ code_bytes rule.now.bytes.now numbers.now c }
 {
-    let at = wide(numbers[c]) * 3;
     if c < 2 {
-        put_node(form, at, c as u8, 0, 0);
-        return;
+        return [c as u8, 0, 0];
     }
-    put_pair(rule, (c - 2) / 2, c % 2 == 1, numbers, form, at);
-}
-
-// The bytes under a code, if it is needed.
-fn write_code(rule: &[u8], needed: &[bool], c: usize, numbers: &[u8], form: &mut [u8])
-    requires { (flagged needed.now c ≡ true
-        → Named rule.now c × (number_in numbers.now c * 3 + 3 ≤ length form.old))
-        × (c < code_places) × (length needed.now ≡ code_places) × (length numbers.now ≡ code_places) }
-    ensures { form.new
-        ≡ with_code rule.now needed.now numbers.now c form.old }
-{
-    if needed[c] {
-        put_code(rule, c, numbers, form);
-    }
+    node_bytes(rule, (c - 2) / 2, c % 2 == 1, numbers)
 }
 
 // The bytes under all needed codes, by rising codes from the form's start.
-fn write_codes(rule: &[u8], needed: &[bool], numbers: &[u8], count: usize, form: &mut [u8])
-    requires { Ready rule.now needed.now numbers.now count form.old }
-    ensures { take (count * 3) form.new ≡ normal_bytes rule.now }
+fn write_codes(rule: &Written<'_>, needed: &[bool], numbers: &[u8], form: &mut [u8])
+    requires { Ready rule.now.bytes.now needed.now numbers.now form.old }
+    ensures { take (size rule.now.bytes.now * 3) form.new ≡ normal_bytes rule.now.bytes.now }
 {
-    let end = rule.len() / 3 * 2 + 2;
-    let mut c = 0;
-    while c < end {
-        write_code(rule, needed, c, numbers, form);
-        c += 1;
+    for (c, is_needed) in needed.iter().enumerate() {
+        if *is_needed {
+            let [kind, left, right] = code_bytes(rule, c, numbers);
+            put_node(form, usize::from(numbers[c]) * 3, kind, left, right);
+        }
     }
 }
 
 // The normal form of a rule that 1 to 6 let pass at the form's start, and zeros behind it; or 26.
-fn build_form(rule: &[u8], form: &mut [u8]) -> Stored
-    requires { (written_check rule.now ≡ fine) × (rule_bytes ≤ length form.old) }
-    ensures { buffer (stored_answer result) form.new
-        ≡ rule_stored (sized rule.now) form.old }
+fn build_form(rule: &Written<'_>, form: &mut [u8]) -> Result<usize, Refusal>
+    requires { rule_bytes ≤ length form.old }
+    ensures { buffer (answer result) form.new
+        ≡ rule_stored (sized rule.now.bytes.now) form.old }
 {
-    let n = rule.len() / 3;
-    let mut needed = [false; CODE_PLACES];
+    let n = rule.count();
+    let mut flags = [false; CODE_PLACES];
+    walk_plain(rule, n - 1, &mut flags);
+    let needed = &flags[..n * 2 + 2];
     let mut numbers = [0u8; CODE_PLACES];
-    walk_plain(rule, n - 1, &mut needed);
-    let count = number_codes(&needed, n * 2 + 2, &mut numbers);
-    if MAX_NODES < count {
-        return Stored::Refused(TOO_MANY_NODES, 0);
-    }
-    write_codes(rule, &needed, &numbers, count, form);
+    let count = number_codes(needed, &mut numbers);
+    require(count <= MAX_NODES, Reason::TooManyNodes, 0)?;
+    write_codes(rule, needed, &numbers, form);
     zero_behind(form, count * 3);
-    Stored::Accepted(count * 3)
+    Ok(count * 3)
 }
 
 // The normal form of a written rule, at the start of a buffer for the longest rule, with zeros behind it.
-pub fn normalize(rule: &[u8], form: &mut [u8]) -> Stored
-    ensures { buffer (stored_answer result) form.new
+#[tactic(auto, unfolding(crate::specs::Normalize::normalizes, crate::specs::NormalForm::normal_form))]
+pub fn normalize(rule: &[u8], form: &mut [u8]) -> Result<usize, Refusal>
+    ensures { buffer (answer result) form.new
         ≡ normalizes rule.now form.old }
 {
-    if form.len() < MAX_BYTES {
-        return Stored::Refused(TABLE_TOO_SHORT, 0);
-    }
-    let syntax = check_syntax(EVENTUALLY, rule);
-    if let Checked::Refused(number, place) = syntax {
-        return Stored::Refused(number, place);
-    }
-    build_form(rule, form)
+    require(MAX_BYTES <= form.len(), Reason::TableTooShort, 0)?;
+    build_form(&Written::parse(rule)?, form)
 }
 
 // 1 to 6 and 26 of a written rule, then 7 of its normal form, which stands at the form's start where all let it pass.
-pub fn check_form(rule: &[u8], form: &mut [u8]) -> Stored
+pub fn check_form(rule: &[u8], form: &mut [u8]) -> Result<usize, Refusal>
     requires { rule_bytes ≤ length form.old }
     ensures { Forms rule.now result form.new }
 {
-    match normalize(rule, form) {
-        Stored::Refused(number, place) => Stored::Refused(number, place),
-        Stored::Accepted(n) => match check_untils(&form[..n], n / 3) {
-            Checked::Refused(number, place) => Stored::Refused(number, place),
-            Checked::Accepted => Stored::Accepted(n),
-        },
-    }
+    let n = normalize(rule, form)?;
+    check_untils(&form[..n], n / 3)?;
+    Ok(n)
 }
 
 // The same, of the rule alone.
-pub fn check(rule: &[u8]) -> Checked
+pub fn check(rule: &[u8]) -> Result<(), Refusal>
     ensures { answer result ≡ written_checked rule.now }
 {
-    let mut form = [0u8; MAX_BYTES];
-    match check_form(rule, &mut form) {
-        Stored::Refused(number, place) => Checked::Refused(number, place),
-        Stored::Accepted(_) => Checked::Accepted,
-    }
+    check_form(rule, &mut [0u8; MAX_BYTES])?;
+    Ok(())
 }

@@ -10,7 +10,8 @@ use Rattle.automaton.specs.Tables.{Counts}
 use Rattle.translation.specs.Translate.{translated}
 use Rattle.translation.specs.Conflicts.{translated_conflicts, translates}
 use Rattle.image.specs.Calls.{read_into}
-use Rattle.judge.specs.Judge.{Verdict, kept, broken, Finding, judged}
+use Rattle.judge.specs.declared.Verdict.TheVariants.{Kept, Broken}
+use Rattle.judge.specs.Judge.{Verdict, Finding, judged}
 use Rattle.profile.specs.Profile.{profile_translated, profile_conflicts, profile_translates}
 use Rattle.demands.specs.Demand.{decided}
 use Rattle.office.specs.Packing.{pack_counts, pack_conflicts, pack_translated, pack_finding, pack_verdict}
@@ -32,8 +33,8 @@ counts_none (accepted c) p = omega arith
 counts_none (refused number place) p = omega (arith, (p.refusal number place refl).byte)
 
 finding_none : (v : Verdict) (pairs : ℕ) → conflicts_of (pack_finding v pairs) ≡ 0
-finding_none kept pairs = omega arith
-finding_none broken pairs = omega arith
+finding_none Kept pairs = omega arith
+finding_none Broken pairs = omega arith
 
 verdict_none : (r : Result Finding) → Proper r → conflicts_of (pack_verdict r) ≡ 0
 unfolding pack_verdict

@@ -4,10 +4,9 @@ use Prim.Native.Nat.{ℕ, ◌<◌, ◌≤◌}
 use mathlib.Core.Path.{◌≡◌, ap, sym, ◌∙◌}
 use mathlib.Core.List.{List, ◌++◌}
 use mathlib.Core.Bool.{true}
-use native.Mathlib.Omega.{arith}
 use lib.ListN.{length, take, drop}
 use lib.Dec.{leb}
-use lib.Seq.{take_all, take_at}
+use lib.Seq.{take_at}
 use borrow.Author.Tests.{le-leb, lt-leb}
 use Rattle.judge.specs.Judge.{judged}
 use Rattle.report.specs.Report.{report_bytes, Reporting, reporting, reported, SameVerdict}
@@ -29,12 +28,12 @@ module _ (number : ℕ) (image stem cycle work lent : List ℕ) where
 
   pub sent_bytes : report_bytes ≤ length lent
       → {bytes after stored : List ℕ} → reporting bytes after ≡ reported number image stem cycle work
-      → stored ≡ take report_bytes bytes ++ drop report_bytes lent → {r : ℕ} → r ≡ 0
+      → stored ≡ bytes ++ drop (length bytes) lent → {r : ℕ} → r ≡ 0
       → packed_result r after stored ≡ sent number image stem cycle work lent
   sent_bytes le {bytes} says e none =
       let long : length bytes ≡ report_bytes =
       ap (λ (r : Reporting). length r.bytes) says ∙ report_length number image stem cycle work in
-      rw (sent_report le, none, e, take_all report_bytes bytes (omega (arith, long)))
+      rw (sent_report le, none, e, long)
       (ap (λ (r : Reporting). pack_report true r work lent) says)
 
   -- the answer is 0, whatever judging says

@@ -40,10 +40,12 @@ use Rattle.image.proofs.Tables.{counts_back}
 use Rattle.image.proofs.Outcomes.{writes_of, reads_of}
 use Rattle.lasso.specs.Lasso.{remaining, lasso_check}
 use Rattle.sameword.specs.Words.{compared}
-use Rattle.judge.specs.Judge.{work_bytes, Verdict, kept, broken, Finding, finding, found, judged}
+use Rattle.judge.specs.declared.Verdict.TheVariants.{Kept, Broken}
+use Rattle.judge.specs.Judge.{work_bytes, Verdict, Finding, finding, found, judged}
 use Rattle.judge.proofs.VerdictIff.{image_in_range}
 use Rattle.judge.proofs.Pairs.{found_few, judged_few}
-use Rattle.explain.specs.Explain.{part_from, Explanation, kept as holds, broken as breaks, never_comes}
+use Rattle.explain.specs.declared.Explanation.TheVariants.{Kept as Holds, Broken as Breaks, NeverComes}
+use Rattle.explain.specs.Explain.{part_from, Explanation}
 use Rattle.explain.specs.Call.{explained, broken_part}
 use Rattle.explain.specs.Satisfied.{satisfied}
 use Rattle.explain.proofs.Answered.{told_small, never_small}
@@ -320,7 +322,7 @@ LengthRead packed n = length_of packed ≡ n
 
 -- the verdict, 1 for kept and 0 for broken, and how many pairs were taken
 pub record VerdictRead (packed : ℕ) (f : Finding) : Type 0 where
-  pub verdict : kept_of packed ≡ elim f.verdict [ kept ↦ 1 | broken ↦ 0 ]
+  pub verdict : kept_of packed ≡ elim f.verdict [ Kept ↦ 1 | Broken ↦ 0 ]
   pub pairs : pairs_of packed ≡ f.pairs
 
 -- whether two lassos are one word, the alarm is raised, or a rule is satisfied: 1 for yes and 0 for no
@@ -334,9 +336,9 @@ pub data PartRead (stem packed from : ℕ) : Type 0 where
 
 -- what is told, for a stem with so many letters: the clause, one higher, and the part
 abbrev pub ExplanationRead : (stem packed : ℕ) → Explanation → Type 0
-ExplanationRead stem packed holds = (clause_of packed ≡ 0) × (slice_of packed ≡ 0)
-ExplanationRead stem packed (breaks clause from) = (clause_of packed ≡ clause + 1) × PartRead stem packed from
-ExplanationRead stem packed (never_comes clause) = (clause_of packed ≡ clause + 1) × (slice_of packed ≡ 0)
+ExplanationRead stem packed Holds = (clause_of packed ≡ 0) × (slice_of packed ≡ 0)
+ExplanationRead stem packed (Breaks clause from) = (clause_of packed ≡ clause + 1) × PartRead stem packed from
+ExplanationRead stem packed (NeverComes clause) = (clause_of packed ≡ clause + 1) × (slice_of packed ≡ 0)
 
 -- ---- the packings
 
@@ -425,10 +427,10 @@ length_unpacks (refused number place) p fits = unpacks_refused number place (p.r
 
 finding_unpacks : (v : Verdict) (pairs : ℕ) → pairs ≤ work_bytes
     → Unpacks VerdictRead (pack_finding v pairs) (accepted (finding v pairs))
-finding_unpacks kept pairs few =
-    unpacks_accepted _ (finding kept pairs) (omega arith) (record { verdict = omega arith; pairs = omega arith })
-finding_unpacks broken pairs few =
-    unpacks_accepted _ (finding broken pairs) (omega arith) (record { verdict = omega arith; pairs = omega arith })
+finding_unpacks Kept pairs few =
+    unpacks_accepted _ (finding Kept pairs) (omega arith) (record { verdict = omega arith; pairs = omega arith })
+finding_unpacks Broken pairs few =
+    unpacks_accepted _ (finding Broken pairs) (omega arith) (record { verdict = omega arith; pairs = omega arith })
 
 verdict_unpacks : (r : Result Finding) → Proper r → ((f : Finding) → r ≡ accepted f → f.pairs ≤ work_bytes)
     → Unpacks VerdictRead (pack_verdict r) r
@@ -472,18 +474,18 @@ module _ (stem clause from : ℕ) (few : clause < 255) (near : from < 65536) whe
       go (no l) = rw (le-ltb from stem (omega arith)) (omega arith)
 
 explained_unpacks : (stem : ℕ) (r : Result Explanation) → Proper r
-    → ((c from : ℕ) → r ≡ accepted (breaks c from) → (c < 255) × (from < 65536))
-    → ((c : ℕ) → r ≡ accepted (never_comes c) → c < 255)
+    → ((c from : ℕ) → r ≡ accepted (Breaks c from) → (c < 255) × (from < 65536))
+    → ((c : ℕ) → r ≡ accepted (NeverComes c) → c < 255)
     → Unpacks (ExplanationRead stem) (pack_explained stem r) r
 unfolding pack_explained
-explained_unpacks stem (accepted holds) p fits never = unpacks_accepted _ holds (omega arith) (omega arith, omega arith)
-explained_unpacks stem (accepted (breaks c from)) p fits never =
+explained_unpacks stem (accepted Holds) p fits never = unpacks_accepted _ Holds (omega arith) (omega arith, omega arith)
+explained_unpacks stem (accepted (Breaks c from)) p fits never =
     let (few, near) = fits c from refl in
-    unpacks_accepted _ (breaks c from) (part_zero stem c from few near)
+    unpacks_accepted _ (Breaks c from) (part_zero stem c from few near)
     (part_packed stem c from few near, part_read stem c from few near)
-explained_unpacks stem (accepted (never_comes c)) p fits never =
+explained_unpacks stem (accepted (NeverComes c)) p fits never =
     let few = never c refl in
-    unpacks_accepted _ (never_comes c) (omega arith) (omega arith, omega arith)
+    unpacks_accepted _ (NeverComes c) (omega arith) (omega arith, omega arith)
 explained_unpacks stem (refused number place) p fits never =
     unpacks_refused number place (p.refusal number place refl)
 
@@ -599,11 +601,11 @@ cut_nothing stem cycle packed e =
 pub cut_is_part : (rule stem cycle : List ℕ) (x : Explanation) → explained rule stem cycle ≡ accepted x
     → cut_out stem cycle (pack_explained (length stem) (explained rule stem cycle)) ≡ broken_part rule stem cycle
 unfolding broken_part pack_explained
-cut_is_part rule stem cycle holds e = rw e (cut_nothing stem cycle 0 refl)
-cut_is_part rule stem cycle (breaks c from) e =
+cut_is_part rule stem cycle Holds e = rw e (cut_nothing stem cycle 0 refl)
+cut_is_part rule stem cycle (Breaks c from) e =
     let (few, near) = told_small rule stem cycle c from e in
     rw e (cut_shown stem cycle _ from (part_read (length stem) c from (omega arith) (omega arith)))
-cut_is_part rule stem cycle (never_comes c) e = rw e (cut_nothing stem cycle (pack_clause c) (omega arith))
+cut_is_part rule stem cycle (NeverComes c) e = rw e (cut_nothing stem cycle (pack_clause c) (omega arith))
 
 -- zimboralo_satisfies
 pub satisfies_unpacks : (rule stem cycle : List ℕ)

@@ -8,8 +8,10 @@ use Rattle.automaton.specs.Tables.{Counts, Outcome}
 use Rattle.translation.specs.Conflicts.{Carried}
 use Rattle.answer.specs.Buffer.{Buffer}
 use Rattle.field.specs.Calls.{Watch}
-use Rattle.judge.specs.Judge.{Verdict, kept, broken, Finding, Judgement}
-use Rattle.explain.specs.Explain.{Explanation, kept as holds, broken as breaks, never_comes}
+use Rattle.judge.specs.declared.Verdict.TheVariants.{Kept, Broken}
+use Rattle.judge.specs.Judge.{Verdict, Finding, Judgement}
+use Rattle.explain.specs.declared.Explanation.TheVariants.{Kept as Holds, Broken as Breaks, NeverComes}
+use Rattle.explain.specs.Explain.{Explanation}
 use Rattle.demands.specs.Demand.{Decision}
 
 -- number in bits 0 to 7, place in bits 8 to 39
@@ -43,8 +45,8 @@ pack_pairs n = 65536 * (n % 65536)
 
 -- and the verdict in bit 8
 abbrev pub pack_finding : Verdict → (pairs : ℕ) → ℕ
-pack_finding kept pairs = 256 + pack_pairs pairs
-pack_finding broken pairs = pack_pairs pairs
+pack_finding Kept pairs = 256 + pack_pairs pairs
+pack_finding Broken pairs = pack_pairs pairs
 
 unfoldable pub pack_verdict : Result Finding → ℕ
 pack_verdict (accepted f) = pack_finding f.verdict f.pairs
@@ -69,9 +71,9 @@ pack_part stem from =
 
 -- 0 where the rule is kept; a clause alone where its right side never comes
 unfoldable pub pack_explained : (stem : ℕ) → Result Explanation → ℕ
-pack_explained stem (accepted holds) = 0
-pack_explained stem (accepted (breaks clause from)) = pack_clause clause + pack_part stem from
-pack_explained stem (accepted (never_comes clause)) = pack_clause clause
+pack_explained stem (accepted Holds) = 0
+pack_explained stem (accepted (Breaks clause from)) = pack_clause clause + pack_part stem from
+pack_explained stem (accepted (NeverComes clause)) = pack_clause clause
 pack_explained stem (refused number place) = pack_refusal number place
 
 -- a packed answer with the three tables afterwards

@@ -6,40 +6,40 @@ ghost use Rattle.normalform.specs.Normalize.{normalizes};
 ghost use Rattle.merge.specs.Merge.{merges};
 ghost use Rattle.translation.specs.Conflicts.{told_counts, told_conflicts, translates};
 ghost use Rattle.image.specs.Calls.{read_into, writes};
-ghost use Rattle.answer.specs.Buffer.{stored_answer};
-ghost use Rattle.automaton.specs.Tables.{told};
-ghost use Rattle.judge.specs.Judge.{judge_answer, judged};
-ghost use Rattle.field.specs.Calls.{watch_answer, started, stepped};
-ghost use Rattle.explain.specs.Call.{explain_answer, explained};
-ghost use Rattle.explain.specs.Satisfied.{satisfied_answer, satisfied};
+ghost use Rattle.answer.specs.Result.{answer, reason_number};
+ghost use Rattle.judge.specs.Judge.{judged};
+ghost use Rattle.field.specs.Calls.{started, stepped};
+ghost use Rattle.explain.specs.Call.{explained};
+ghost use Rattle.explain.specs.Satisfied.{satisfied};
 ghost use Rattle.profile.specs.Profile.{profile_translates};
 ghost use Rattle.demands.specs.Demand.{decided};
-ghost use Rattle.sameword.specs.Words.{compared, comparison};
-ghost use Rattle.office.specs.Packing.{pack_refusal, pack_three, pack_size, pack_pairs, pack_counts, pack_length};
+ghost use Rattle.sameword.specs.Words.{compared};
+ghost use Rattle.office.specs.Packing.{pack_refusal, pack_three, pack_size, pack_counts, pack_length};
 ghost use Rattle.office.specs.Packing.{pack_verdict, packed_tables, pack_outcome, packed_slice, pack_buffer};
 ghost use Rattle.office.specs.Packing.{pack_judgement};
 ghost use Rattle.office.specs.Packing.{packed_decision, pack_decision, counts_of, pack_conflicts, pack_translated};
 ghost use Rattle.office.specs.Packing.{pack_bit, pack_watch, pack_clause, pack_part, pack_explained, packed_result};
 ghost use Rattle.office.specs.Sending.{sent};
 
-use answer::{Stored, TABLE_TOO_SHORT, copy};
-use automaton::{Counted, Counts};
+use answer::{Reason, Refusal, copy};
+use automaton::Counts;
 use demands::decide;
-use explain::{Explained, Satisfied, explain, satisfies};
-use field::{Watched, start, step};
+use explain::{Explanation, explain, satisfies};
+use field::{start, step};
 use image::{read, write};
-use judge::{Judged, judge};
+use judge::{Finding, Verdict, judge};
+use lasso::Lasso;
 use merge::merge;
 use normalform::normalize;
 use report::REPORT_BYTES;
-use sameword::{Compared, compare};
+use sameword::compare;
 use translation::{Translated, translate};
 
 // A refusal's number and place.
-fn pack_refusal(number: u8, place: usize) -> u64
-    ensures { result ≡ pack_refusal number place }
+fn pack_refusal(refusal: Refusal) -> u64
+    ensures { result ≡ pack_refusal (reason_number refusal.reason) refusal.place }
 {
-    (number as u64) + 256 * ((place % 4294967296) as u64)
+    u64::from(u8::from(refusal.reason)) + 256 * ((refusal.place % 4294967296) as u64)
 }
 
 // The three counts.
@@ -59,73 +59,57 @@ fn pack_size(length: usize) -> u64
 }
 
 // The answer of read: the counts, or the refusal.
-fn pack_counted(counted: Counted) -> u64
-    ensures { result ≡ pack_counts (told counted) }
+#[tactic(auto, unfolding(crate::specs::Packing::pack_counts))]
+fn pack_counted(counted: Result<Counts, Refusal>) -> u64
+    ensures { result ≡ pack_counts (answer counted) }
 {
-    match counted {
-        Counted::Accepted(counts) => pack_three(counts),
-        Counted::Refused(number, place) => pack_refusal(number, place),
-    }
+    counted.map_or_else(pack_refusal, pack_three)
 }
 
 // The answer of translate: the counts and above them the conflicts, or the refusal.
-fn pack_translated(translated: Translated) -> u64
+#[tactic(auto, unfolding(crate::specs::Packing::pack_counts, crate::specs::Packing::pack_conflicts,),)]
+fn pack_translated(translated: Result<Translated, Refusal>) -> u64
     ensures { result ≡ pack_counts (told_counts translated) + pack_conflicts (told_conflicts translated) }
 {
     match translated {
-        Translated::Accepted(counts, conflicts) => pack_three(counts)
-            + 1099511627776 * (conflicts as u64),
-        Translated::Refused(number, place) => pack_refusal(number, place),
+        Ok(found) => pack_three(found.counts) + 1099511627776 * u64::from(found.conflicts),
+        Err(refusal) => pack_refusal(refusal),
     }
 }
 
 // The answer of normalize, merge or write: the length, or the refusal.
-fn pack_stored(stored: Stored) -> u64
-    ensures { result ≡ pack_length (stored_answer stored) }
+#[tactic(auto, unfolding(crate::specs::Packing::pack_length))]
+fn pack_stored(stored: Result<usize, Refusal>) -> u64
+    ensures { result ≡ pack_length (answer stored) }
 {
-    match stored {
-        Stored::Accepted(length) => pack_size(length),
-        Stored::Refused(number, place) => pack_refusal(number, place),
-    }
-}
-
-// How many pairs were taken.
-fn pack_pairs(pairs: usize) -> u64
-    ensures { result ≡ pack_pairs pairs }
-{
-    65536 * ((pairs % 65536) as u64)
+    stored.map_or_else(pack_refusal, pack_size)
 }
 
 // The answer of judge: 1 above the lowest byte for kept, 0 for broken, and above that the pairs taken; or the refusal.
-fn pack_judged(judged: Judged) -> u64
-    ensures { result ≡ pack_verdict (judge_answer judged) }
+#[tactic(auto, unfolding(crate::specs::Packing::pack_verdict))]
+fn pack_judged(judged: Result<Finding, Refusal>) -> u64
+    ensures { result ≡ pack_verdict (answer judged) }
 {
     match judged {
-        Judged::Kept(pairs) => 256 + pack_pairs(pairs),
-        Judged::Broken(pairs) => pack_pairs(pairs),
-        Judged::Refused(number, place) => pack_refusal(number, place),
+        Ok(finding) => {
+            let pairs = 65536 * ((finding.pairs % 65536) as u64);
+            match finding.verdict {
+                Verdict::Kept => 256 + pairs,
+                Verdict::Broken => pairs,
+            }
+        }
+        Err(refusal) => pack_refusal(refusal),
     }
 }
 
-// The answer of compare: 1 above the lowest byte for one word, 0 for two; or the refusal.
-fn pack_compared(compared: Compared) -> u64
-    ensures { result ≡ pack_bit (comparison compared) }
+// The answer of compare, start, step or satisfies: 1 above the lowest byte for yes, 0 for no; or the refusal.
+#[tactic(auto, unfolding(crate::specs::Packing::pack_bit))]
+fn pack_bit(answered: Result<bool, Refusal>) -> u64
+    ensures { result ≡ pack_bit (answer answered) }
 {
-    match compared {
-        Compared::Same => 256,
-        Compared::Different => 0,
-        Compared::Refused(number, place) => pack_refusal(number, place),
-    }
-}
-
-// The answer of start and step: 1 above the lowest byte where the alarm is raised, else 0; or the refusal.
-fn pack_watched(watched: Watched) -> u64
-    ensures { result ≡ pack_bit (watch_answer watched) }
-{
-    match watched {
-        Watched::Quiet => 0,
-        Watched::Alarm => 256,
-        Watched::Refused(number, place) => pack_refusal(number, place),
+    match answered {
+        Ok(yes) => 256 * u64::from(yes),
+        Err(refusal) => pack_refusal(refusal),
     }
 }
 
@@ -148,25 +132,15 @@ fn pack_part(stem: usize, from: usize) -> u64
 
 // The answer of explain, for a lasso with so many letters in its stem: 0 for kept, the clause that is broken and the part
 // that shows where, or the clause alone; or the refusal.
-fn pack_explained(explained: Explained, stem: usize) -> u64
-    ensures { result ≡ pack_explained stem (explain_answer explained) }
+#[tactic(auto, unfolding(crate::specs::Packing::pack_explained))]
+fn pack_explained(explained: Result<Explanation, Refusal>, stem: usize) -> u64
+    ensures { result ≡ pack_explained stem (answer explained) }
 {
     match explained {
-        Explained::Kept => 0,
-        Explained::Broken(clause, from) => pack_clause(clause) + pack_part(stem, from),
-        Explained::NeverComes(clause) => pack_clause(clause),
-        Explained::Refused(number, place) => pack_refusal(number, place),
-    }
-}
-
-// The answer of satisfies: 1 above the lowest byte for kept, 0 for broken; or the refusal.
-fn pack_satisfied(satisfied: Satisfied) -> u64
-    ensures { result ≡ pack_bit (satisfied_answer satisfied) }
-{
-    match satisfied {
-        Satisfied::Kept => 256,
-        Satisfied::Broken => 0,
-        Satisfied::Refused(number, place) => pack_refusal(number, place),
+        Ok(Explanation::Kept) => 0,
+        Ok(Explanation::Broken(clause, from)) => pack_clause(clause) + pack_part(stem, from),
+        Ok(Explanation::NeverComes(clause)) => pack_clause(clause),
+        Err(refusal) => pack_refusal(refusal),
     }
 }
 
@@ -247,7 +221,7 @@ pub extern "C" fn zimboralo_judge(image: &[u8], stem: &[u8], cycle: &[u8], work:
     ensures { packed_slice result work.new
         ≡ pack_judgement (judged image.now stem.now cycle.now work.old) }
 {
-    pack_judged(judge(image, stem, cycle, work))
+    pack_judged(judge(image, &Lasso { stem, cycle }, work))
 }
 
 // A lasso against a rule: its automaton in the three tables, its image, and the verdict on the letters that remain; or
@@ -269,7 +243,8 @@ pub extern "C" fn zimboralo_decide(
         states.old transitions.old initial.old
         image.old work.old) }
 {
-    pack_judged(decide(rule, stem, cycle, states, transitions, initial, image, work))
+    let lasso = Lasso { stem, cycle };
+    pack_judged(decide(rule, &lasso, states, transitions, initial, image, work))
 }
 
 // Whether the letters of two lassos that remain are one word; or a refusal, at place 0 for the first lasso and 1 for
@@ -284,7 +259,11 @@ pub extern "C" fn zimboralo_same_word(
     ensures { result ≡ pack_bit (compared stem.now cycle.now
         other_stem.now other_cycle.now) }
 {
-    pack_compared(compare(stem, cycle, other_stem, other_cycle))
+    let other = Lasso {
+        stem: other_stem,
+        cycle: other_cycle,
+    };
+    pack_bit(compare(&Lasso { stem, cycle }, &other))
 }
 
 // The automaton of a written rule that the field unit takes, as of zimboralo_translate; or a refusal, 29 for an until.
@@ -307,7 +286,7 @@ pub extern "C" fn zimboralo_field_translate(
 pub extern "C" fn zimboralo_field_start(image: &[u8], set: &mut [u8]) -> u64
     ensures { packed_slice result set.new ≡ pack_watch (started image.now set.old) }
 {
-    pack_watched(start(image, set))
+    pack_bit(start(image, set))
 }
 
 // The field unit's set after one letter more. Whether the alarm is raised, or a refusal.
@@ -316,7 +295,7 @@ pub extern "C" fn zimboralo_field_step(image: &[u8], set: &mut [u8], letter: u8)
     ensures { packed_slice result set.new
         ≡ pack_watch (stepped image.now set.old letter) }
 {
-    pack_watched(step(image, set, letter))
+    pack_bit(step(image, set, letter))
 }
 
 // The first clause of a rule that a lasso breaks, and the part of the lasso that shows where; or a refusal.
@@ -325,7 +304,7 @@ pub extern "C" fn zimboralo_explain(rule: &[u8], stem: &[u8], cycle: &[u8]) -> u
     ensures { result ≡ pack_explained (length stem.now)
         (explained rule.now stem.now cycle.now) }
 {
-    pack_explained(explain(rule, stem, cycle), stem.len())
+    pack_explained(explain(rule, &Lasso { stem, cycle }), stem.len())
 }
 
 // Whether a lasso satisfies a written rule, by the meaning of rules and with no automaton; or a refusal.
@@ -333,7 +312,7 @@ pub extern "C" fn zimboralo_explain(rule: &[u8], stem: &[u8], cycle: &[u8]) -> u
 pub extern "C" fn zimboralo_satisfies(rule: &[u8], stem: &[u8], cycle: &[u8]) -> u64
     ensures { result ≡ pack_bit (satisfied rule.now stem.now cycle.now) }
 {
-    pack_satisfied(satisfies(rule, stem, cycle))
+    pack_bit(satisfies(rule, &Lasso { stem, cycle }))
 }
 
 // What is sent of a lasso against an image, for the rule of that number, at the start of the lent bytes. 0, whatever
@@ -352,9 +331,12 @@ pub extern "C" fn zimboralo_report(
         work.old report.old }
 {
     if report.len() < REPORT_BYTES {
-        return pack_refusal(TABLE_TOO_SHORT, 0);
+        return pack_refusal(Refusal {
+            reason: Reason::TableTooShort,
+            place: 0,
+        });
     }
-    let bytes = report::report(number, image, stem, cycle, work);
-    copy(report, &bytes, REPORT_BYTES);
+    let bytes = report::report(number, image, &Lasso { stem, cycle }, work);
+    copy(report, &bytes);
     0
 }

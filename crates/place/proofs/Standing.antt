@@ -2,14 +2,14 @@
 use Prim.Native.Nat.{ℕ, zero, suc, ◌+◌, ◌-◌, ◌<◌, ◌≤◌}
 use mathlib.Core.Path.{◌≡◌, refl, sym, ◌∙◌, ap}
 use mathlib.Core.List.{List, [], ◌∷◌}
-use mathlib.Core.Bool.{Bool, true, false, cond, ◌&&◌}
+use mathlib.Core.Bool.{Bool, true, false, cond}
 use native.Mathlib.Omega.{arith}
 use native.Mathlib.Numerals.{add-one}
 use lib.ListN.{get_or, length, drop, length-drop}
 use lib.Seq.{drop-cons}
-use lib.Dec.{eqb, ltb}
-use borrow.Author.Tests.{ne_eqb, lt-ltb, le-ltb}
-use Rattle.lasso.specs.Lasso.{remains, remaining}
+use lib.Dec.{ltb}
+use borrow.Author.Tests.{lt-ltb, le-ltb}
+use Rattle.lasso.specs.Lasso.{skipped, remains, remaining}
 use Rattle.lasso.proofs.Skipping.{remaining_kept, remaining_skipped}
 use Rattle.place.specs.Place.{place_in, place_of}
 
@@ -23,36 +23,24 @@ place_few (x ∷ xs) zero = go (remains x) (place_few xs zero)
     go false ih = omega arith
 place_few (x ∷ xs) (suc i) = omega (arith, place_few xs (cond (remains x) i (suc i)))
 
-place_here : (x : ℕ) (xs : List ℕ) (left : ℕ) → (remains x && eqb left 0) ≡ true → place_in (x ∷ xs) left ≡ 0
-unfolding place_in
-place_here x xs zero e = go (remains x) e
-  where
-    go : (b : Bool) → (b && true) ≡ true → cond b zero (suc (place_in xs zero)) ≡ 0
-    go true e = refl
-    go false e = absurd (let z : ◌≡◌ {A = ℕ} 0 1 = cc in omega arith)
-place_here x xs (suc left) e = absurd (go (remains x) (rw (ne_eqb (suc left) 0 (λ q. omega arith)) at e))
-  where
-    go : (b : Bool) → (b && false) ≡ true → ⊥
-    go true e = let z : ◌≡◌ {A = ℕ} 0 1 = cc in omega arith
-    go false e = let z : ◌≡◌ {A = ℕ} 0 1 = cc in omega arith
+module _ (x : ℕ) (xs : List ℕ) where
+  place_here : (left : ℕ) → x < skipped → left ≡ 0 → place_in (x ∷ xs) left ≡ 0
+  unfolding place_in
+  place_here zero l none = rw (lt-ltb x skipped l)
+  place_here (suc left) l none = absurd (omega arith)
 
--- where it is not the one looked for, one is passed or it is skipped
-place_behind : (x : ℕ) (xs : List ℕ) (left : ℕ) → (remains x && eqb left 0) ≡ false
-    → place_in (x ∷ xs) left ≡ suc (place_in xs (cond (remains x) (left - 1) left))
-unfolding place_in
-place_behind x xs zero e = go (remains x) e
-  where
-    go : (b : Bool) → (b && true) ≡ false
-        → cond b zero (suc (place_in xs zero)) ≡ suc (place_in xs (cond b (zero - 1) zero))
-    go false e = refl
-    go true e = absurd (let z : ◌≡◌ {A = ℕ} 0 1 = cc in omega arith)
-place_behind x xs (suc left) e =
-    let q : left ≡ suc left - 1 = omega arith in
-    ap (λ (k : ℕ). suc (place_in xs (cond (remains x) k (suc left)))) q
+  -- where one is left to pass, it is passed
+  place_passed : (left : ℕ) → x < skipped → (left ≡ 0 → ⊥) → place_in (x ∷ xs) left ≡ suc (place_in xs (left - 1))
+  unfolding place_in
+  place_passed zero l some = absurd (some refl)
+  place_passed (suc left) l some =
+      let one : suc left - 1 ≡ left = omega arith in
+      rw (lt-ltb x skipped l, one)
 
-pub passed : (b : Bool) (left : ℕ) → (b && eqb left 0) ≡ false → b ≡ true → 0 < left
-passed b zero e f = absurd (let z : ◌≡◌ {A = ℕ} 0 1 = cc in omega arith)
-passed b (suc left) e f = omega arith
+  place_skipped : (left : ℕ) → skipped ≤ x → place_in (x ∷ xs) left ≡ suc (place_in xs left)
+  unfolding place_in
+  place_skipped zero l = rw (le-ltb x skipped l)
+  place_skipped (suc left) l = rw (le-ltb x skipped l)
 
 -- the search stands at index `at`, with `left` letters to pass
 pub record Seeking (letters : List ℕ) (i left at : ℕ) : Type 0 where
@@ -60,35 +48,40 @@ pub record Seeking (letters : List ℕ) (i left at : ℕ) : Type 0 where
   pub rest : at + place_in (drop at letters) left ≡ place_in letters i
 
 module _ (letters : List ℕ) (i : ℕ) where
-  pub seek_begins : Seeking letters i i 0
-  seek_begins = record { within = omega arith; rest = omega arith }
+  module _ (left at : ℕ) (inv : Seeking letters i left at) where
+    module _ (lt : at < length letters) where
+      abbrev x : ℕ
+      x = get_or letters at 0
 
-  pub seek_finds : (left at : ℕ) → at < length letters → (remains (get_or letters at 0) && eqb left 0) ≡ true
-      → Seeking letters i left at → at ≡ place_in letters i
-  seek_finds left at lt e inv =
-      let h =
-      ap (λ (xs : List ℕ). place_in xs left) (drop-cons letters at 0 lt)
-      ∙ place_here (get_or letters at 0) (drop (suc at) letters) left e in
-      omega (arith, h, inv.rest)
+      begins : place_in (drop at letters) left ≡ place_in (x ∷ drop (suc at) letters) left
+      begins = ap (λ (xs : List ℕ). place_in xs left) (drop-cons letters at 0 lt)
 
-  pub seek_steps : (left next at : ℕ) → at < length letters → (remains (get_or letters at 0) && eqb left 0) ≡ false
-      → next ≡ cond (remains (get_or letters at 0)) (left - 1) left → Seeking letters i left at
-      → Seeking letters i next (at + 1)
-  seek_steps left next at lt e q inv = rw q (
-      let h =
-      ap (λ (xs : List ℕ). place_in xs left) (drop-cons letters at 0 lt)
-      ∙ place_behind (get_or letters at 0) (drop (suc at) letters) left e in
-      record { within = omega arith; rest = rw (add-one at) (omega (arith, h, inv.rest)) })
+      pub seek_finds : get_or letters at 0 < skipped → left ≡ 0 → at ≡ place_in letters i
+      seek_finds l none =
+          omega (arith, begins, place_here x (drop (suc at) letters) left l none, inv.rest)
 
-  pub seek_ends : (left at : ℕ) → length letters ≤ at → Seeking letters i left at → at ≡ place_in letters i
-  unfolding place_in
-  seek_ends left at le inv =
-      let e = nothing left (drop at letters) (omega (arith, length-drop at letters)) in
-      omega (arith, e, inv.rest)
-    where
-      nothing : (left : ℕ) (xs : List ℕ) → length xs ≡ 0 → place_in xs left ≡ 0
-      nothing left [] e = refl
-      nothing left (x ∷ xs) e = absurd (omega arith)
+      pub seek_passes : get_or letters at 0 < skipped → (left ≡ 0 → ⊥) → Seeking letters i (left - 1) (at + 1)
+      seek_passes l some =
+          let h = begins ∙ place_passed x (drop (suc at) letters) left l some in
+          record { within = omega arith; rest = rw (add-one at) (omega (arith, h, inv.rest)) }
+
+      pub seek_skips : skipped ≤ get_or letters at 0 → Seeking letters i left (at + 1)
+      seek_skips l =
+          let h = begins ∙ place_skipped x (drop (suc at) letters) left l in
+          record { within = omega arith; rest = rw (add-one at) (omega (arith, h, inv.rest)) }
+
+    pub seek_ends : length letters ≤ at → length letters ≡ place_in letters i
+    unfolding place_in
+    seek_ends le =
+        let e = nothing left (drop at letters) (omega (arith, length-drop at letters)) in
+        omega (arith, e, inv.within, inv.rest)
+      where
+        nothing : (left : ℕ) (xs : List ℕ) → length xs ≡ 0 → place_in xs left ≡ 0
+        nothing left [] e = refl
+        nothing left (x ∷ xs) e = absurd (omega arith)
+
+-- what the search goes by
+pub ruleset seeking = (seek_finds, seek_passes, seek_skips, seek_ends)
 
 module _ (stem cycle : List ℕ) (i s : ℕ) (es : s ≡ length (remaining stem)) where
   pub place_stem : i < s → place_in stem i ≡ place_of stem cycle i
@@ -98,6 +91,9 @@ module _ (stem cycle : List ℕ) (i s : ℕ) (es : s ≡ length (remaining stem)
   pub place_cycle : s ≤ i → length stem + place_in cycle (i - s) ≡ place_of stem cycle i
   unfolding place_of
   place_cycle l = rw es (sym (rw (le-ltb i (length (remaining stem)) (omega arith)) refl))
+
+-- the two ways of it
+pub ruleset placing = (place_few, place_stem, place_cycle)
 
 -- it is at most the number of letters
 pub place_within : (stem cycle : List ℕ) (i : ℕ) → place_of stem cycle i ≤ length stem + length cycle

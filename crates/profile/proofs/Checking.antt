@@ -6,33 +6,23 @@ use mathlib.Core.Bool.{Bool, true, not}
 use native.Mathlib.Omega.{arith}
 use lib.ListN.{length}
 use lib.Dec.{eqb}
-use borrow.Author.Tests.{eq-eqb, ne_eqb, not-true}
-use Rattle.answer.specs.Result.{Result, accepted, refused, and_then, Check, fine}
+use borrow.Author.Tests.{not-true}
+use Rattle.answer.specs.Result.{Result, accepted, refused, and_then, Check, fine, require, reason_number}
 use Rattle.answer.proofs.Lowest.{lowest_each, fine_first, fine_second}
 use Rattle.answer.proofs.Results.{require_fine, never_both, then_accepted}
 use Rattle.formula.specs.Rule.{node_count, kind_at, untils, until_check, checked}
 use Rattle.normalform.specs.NormalForm.{normal_form, written_checked}
 use Rattle.normalform.proofs.Passes.{normal_form_checked}
 use Rattle.automaton.specs.Automaton.{Automaton}
-use Rattle.automaton.specs.Tables.{Counts, Outcome, outcome, table_check, lengths_fit, TablesRoom}
-use Rattle.automaton.proofs.Room.{tables_short, fine_room}
+use Rattle.automaton.specs.Tables.{Counts, Outcome, outcome, table_check, lengths_fit}
 use Rattle.translation.specs.Degeneralized.{translation}
-use Rattle.translation.specs.declared.Translated.{Translated}
-use Rattle.translation.specs.declared.Translated.TheVariants.{Refused as Turned}
+use Rattle.std.specs.Prelude.{Err}
+use Rattle.answer.specs.declared.Refusal.{Refusal}
 use Rattle.translation.specs.Translate.{written_translation, stored, unless, translated}
-use Rattle.translation.specs.Conflicts.{written_conflicts, Carried, carried, told_with}
-use Rattle.translation.specs.Memory.{Builds}
+use Rattle.translation.specs.Conflicts.{written_conflicts, Carried, told_with}
 use Rattle.profile.specs.Profile.{until_at, no_untils, profile_checked, profile_translation}
 use Rattle.profile.specs.Profile.{profile_translated, profile_conflicts, profile_translates}
 use Rattle.profile.specs.Memory.{form_translates}
-
--- ---- one node
-module _ (form : List ℕ) (n kind : ℕ) (is : kind ≡ kind_at form n) where
-  pub node_until : kind ≡ 7 → refused 29 n ≡ until_at form n
-  node_until e = rw (← is, eq-eqb kind 7 e) refl
-
-  pub node_free : (kind ≡ 7 → ⊥) → fine ≡ until_at form n
-  node_free d = rw (← is, ne_eqb kind 7 d) refl
 
 -- ---- no until
 none_below : (form : List ℕ) (n : ℕ) → ((k : ℕ) → k < n → not (eqb (kind_at form k) 7) ≡ true) → untils form n ≡ []
@@ -89,34 +79,33 @@ module _ (rule : List ℕ) where
       go (accepted form) e = last (until_check form) e (no_untils form)
       go (refused n p) e = let q : ◌≡◌ {A = Check} (refused n p) (refused number place) = cc in q
 
--- ---- a first-edition rule that 1 to 7 let pass
-module _ (form s t i : List ℕ) where
-  pub until_refused : {number place : ℕ} → refused number place ≡ no_untils form
-      → told_with (Turned number place) s t i ≡ form_translates form s t i
-  until_refused e = rw (← e) refl
-
-  pub free_built : {r : Translated} {s' t' i' : List ℕ} → fine ≡ no_untils form → Builds form r s t i s' t' i'
-      → told_with r s' t' i' ≡ form_translates form s t i
-  free_built e done = (λ k. carried (done.tables k) (done.conflicts k)) ∙ rw (← e) refl
-
 -- ---- any bytes
 module _ (rule s t i : List ℕ) where
-  pub short_refused : {r : Bool} → r ≡ lengths_fit (length s) (length t) (length i) → not r ≡ true
-      → told_with (Turned 25 0) s t i ≡ profile_translates rule s t i
-  unfolding profile_translated profile_conflicts
-  short_refused fit f = rw (tables_short s t i fit f)
+  -- 25 is asked of the lengths as the code does
+  module _ {fits : Bool} (as_told : fits ≡ lengths_fit (length s) (length t) (length i)) where
+    room_check : require fits 25 0 ≡ table_check s t i
+    unfolding table_check
+    room_check = rw as_told refl
 
-  module _ (room : TablesRoom s t i) where
-    pub form_refused : {number place : ℕ} → written_checked rule ≡ refused number place
-        → told_with (Turned number place) s t i ≡ profile_translates rule s t i
+    pub short_refused : (r : Refusal) → refused (reason_number r.reason) r.place ≡ require fits 25 0
+        → told_with (Err r) s t i ≡ profile_translates rule s t i
     unfolding profile_translated profile_conflicts
-    form_refused e = rw (fine_room s t i room, written_refused rule e)
+    short_refused r e = rw (sym room_check ∙ sym e)
 
-    pub form_translated : {done : Carried} (form : List ℕ) → normal_form rule ≡ accepted form → checked form ≡ fine
-        → done ≡ form_translates form s t i → done ≡ profile_translates rule s t i
-    unfolding profile_translated profile_conflicts profile_checked written_translation written_conflicts
-    form_translated form made passes e =
-        e ∙ rw (fine_room s t i room, made, sym (normal_form_checked rule form made) ∙ passes)
+    module _ (room : fine ≡ require fits 25 0) where
+      roomy : table_check s t i ≡ fine
+      roomy = sym room_check ∙ sym room
+
+      pub form_refused : (r : Refusal) → written_checked rule ≡ refused (reason_number r.reason) r.place
+          → told_with (Err r) s t i ≡ profile_translates rule s t i
+      unfolding profile_translated profile_conflicts
+      form_refused r e = rw (roomy, written_refused rule e)
+
+      pub form_translated : {done : Carried} (form : List ℕ) → normal_form rule ≡ accepted form → checked form ≡ fine
+          → done ≡ form_translates form s t i → done ≡ profile_translates rule s t i
+      unfolding profile_translated profile_conflicts profile_checked written_translation written_conflicts
+      form_translated form made passes e =
+          e ∙ rw (roomy, made, sym (normal_form_checked rule form made) ∙ passes)
 
   -- what an accepted answer says: the profile takes the rule, and translate accepts it alike
   pub profile_accepted : (s' t' i' : List ℕ) (c : Counts)

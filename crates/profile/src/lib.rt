@@ -2,66 +2,48 @@
 #![tactic(auto)]
 
 ghost use Rattle.std.specs.Prelude.{◌≡◌, ◌<◌};
-ghost use Rattle.answer.specs.Result.{answer, fine};
+ghost use Rattle.answer.specs.Result.{answer};
 ghost use Rattle.formula.specs.Rule.{node_count};
-ghost use Rattle.formula.specs.Rule;
 ghost use Rattle.automaton.specs.Tables.{TablesRoom};
 ghost use Rattle.translation.specs.Conflicts.{told_with};
 ghost use Rattle.profile.specs.Profile.{until_at, no_untils, profile_translates};
 ghost use Rattle.profile.specs.Memory.{form_translates};
 
-use answer::{Checked, Stored, TABLE_TOO_SHORT};
+use answer::{Reason, Refusal, first_refused, require};
 use automaton::tables_fit;
-use formula::{MAX_BYTES, UNTIL, kind_of};
+use formula::{Kind, MAX_BYTES, Rule};
 use normalform::check_form;
 use translation::{Translated, build_tabled};
 
-// The number of document 02 for a rule with an until, where the field unit is to take it (R-10).
-pub const HAS_UNTIL: u8 = 29;
-
 // 29 for node n.
-fn check_node(form: &[u8], n: usize) -> Checked
-    requires { n < node_count form.now }
-    ensures { answer result ≡ until_at form.now n }
+fn check_node(form: &Rule<'_>, n: usize) -> Result<(), Refusal>
+    requires { n < node_count form.now.bytes.now }
+    ensures { answer result ≡ until_at form.now.bytes.now n }
 {
-    if kind_of(form, n) == UNTIL {
-        return Checked::Refused(HAS_UNTIL, n);
-    }
-    Checked::Accepted
+    require(form.kind(n) != Kind::Until, Reason::HasUntil, n)
 }
 
 // 29.
-fn check_no_untils(form: &[u8]) -> Checked
-    ensures { answer result ≡ no_untils form.now }
+#[tactic(auto, unfolding(crate::specs::Profile::no_untils))]
+fn check_no_untils(form: &Rule<'_>) -> Result<(), Refusal>
+    ensures { answer result ≡ no_untils form.now.bytes.now }
 {
-    let count = form.len() / 3;
-    let mut n = 0;
-    while n < count {
-        let node = check_node(form, n);
-        let Checked::Accepted = node else {
-            return node;
-        };
-        n += 1;
-    }
-    Checked::Accepted
+    first_refused(form.count(), |n| check_node(form, n))
 }
 
-// The automaton of a first-edition rule that 1 to 7 let pass in tables that fit, if it has no until.
+// The automaton of a first-edition rule in tables that fit, if it has no until.
 fn translate_form(
-    form: &[u8],
+    form: &Rule<'_>,
     states: &mut [u8],
     transitions: &mut [u8],
     initial: &mut [u8],
-) -> Translated
-    requires { (Rule.checked form.now ≡ fine) × TablesRoom states.old transitions.old initial.old }
+) -> Result<Translated, Refusal>
+    requires { TablesRoom states.old transitions.old initial.old }
     ensures { told_with result states.new transitions.new initial.new
-        ≡ form_translates form.now
+        ≡ form_translates form.now.bytes.now
         states.old transitions.old initial.old }
 {
-    let checked = check_no_untils(form);
-    if let Checked::Refused(number, place) = checked {
-        return Translated::Refused(number, place);
-    }
+    check_no_untils(form)?;
     build_tabled(form, states, transitions, initial)
 }
 
@@ -71,17 +53,14 @@ pub fn translate(
     states: &mut [u8],
     transitions: &mut [u8],
     initial: &mut [u8],
-) -> Translated
+) -> Result<Translated, Refusal>
     ensures { told_with result states.new transitions.new initial.new
         ≡ profile_translates rule.now
         states.old transitions.old initial.old }
 {
-    if !tables_fit(states.len(), transitions.len(), initial.len()) {
-        return Translated::Refused(TABLE_TOO_SHORT, 0);
-    }
+    let fits = tables_fit(states.len(), transitions.len(), initial.len());
+    require(fits, Reason::TableTooShort, 0)?;
     let mut form = [0u8; MAX_BYTES];
-    match check_form(rule, &mut form) {
-        Stored::Refused(number, place) => Translated::Refused(number, place),
-        Stored::Accepted(n) => translate_form(&form[..n], states, transitions, initial),
-    }
+    let n = check_form(rule, &mut form)?;
+    translate_form(&Rule::new(&form[..n]), states, transitions, initial)
 }

@@ -8,7 +8,8 @@ use lib.ListN.{length, get_or}
 use Rattle.answer.specs.Result.{Result, accepted, refused}
 use Rattle.answer.specs.Bytes.{two_bytes}
 use Rattle.automaton.specs.Automaton.{Automaton}
-use Rattle.judge.specs.Judge.{Verdict, kept, broken, Finding, finding, verdict_of, judgeable, judged_by, judged}
+use Rattle.judge.specs.declared.Verdict.TheVariants.{Kept, Broken}
+use Rattle.judge.specs.Judge.{Verdict, Finding, finding, verdict_of, judgeable, judged_by, judged}
 use Rattle.report.specs.Report.{verdict_byte, report_bytes, composed, reporting, reported}
 use Rattle.report.specs.Report.{SameVerdict, same, refusals}
 
@@ -21,8 +22,8 @@ byte_alike (refusals number place otherNumber otherPlace) = refl
 -- no verdict has the byte of a refusal
 byte_small : (v : Verdict) → verdict_byte (accepted v) ≤ 1
 unfolding verdict_byte
-byte_small kept = omega arith
-byte_small broken = omega arith
+byte_small Kept = omega arith
+byte_small Broken = omega arith
 
 -- one byte is of the same verdict
 byte_tells : (a b : Result Finding) → verdict_byte (verdict_of a) ≡ verdict_byte (verdict_of b) → SameVerdict a b
@@ -31,10 +32,10 @@ byte_tells (accepted f) (accepted g) e = go f.verdict g.verdict e
   where
     go : (v w : Verdict) → verdict_byte (accepted v) ≡ verdict_byte (accepted w)
         → SameVerdict (accepted (finding v f.pairs)) (accepted (finding w g.pairs))
-    go kept kept e = same kept _ _
-    go broken broken e = same broken _ _
-    go kept broken e = absurd (omega (arith, e))
-    go broken kept e = absurd (omega (arith, e))
+    go Kept Kept e = same Kept _ _
+    go Broken Broken e = same Broken _ _
+    go Kept Broken e = absurd (omega (arith, e))
+    go Broken Kept e = absurd (omega (arith, e))
 byte_tells (refused number place) (refused otherNumber otherPlace) e = refusals number place otherNumber otherPlace
 byte_tells (accepted f) (refused number place) e = absurd (omega (arith, e, byte_small f.verdict))
 byte_tells (refused number place) (accepted f) e = absurd (omega (arith, e, byte_small f.verdict))

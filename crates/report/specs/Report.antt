@@ -3,7 +3,8 @@
 use Rattle.std.specs.Prelude.{ℕ, List, ◌∷◌, ◌++◌, replicate}
 use Rattle.answer.specs.Result.{Result, accepted, refused}
 use Rattle.answer.specs.Bytes.{two_bytes}
-use Rattle.judge.specs.Judge.{Verdict, kept, broken, Finding, finding, verdict_of, Judgement, judged}
+use Rattle.judge.specs.declared.Verdict.TheVariants.{Kept, Broken}
+use Rattle.judge.specs.Judge.{Verdict, Finding, finding, verdict_of, Judgement, judged}
 
 -- how many bytes a report has (R-12, sentence 1)
 abbrev pub report_bytes : ℕ
@@ -11,8 +12,8 @@ report_bytes = 32
 
 -- the byte of a verdict: 1 for kept, 0 for broken, 2 for refused, whatever refuses (R-12, sentence 1)
 unfoldable pub verdict_byte : Result Verdict → ℕ
-verdict_byte (accepted kept) = 1
-verdict_byte (accepted broken) = 0
+verdict_byte (accepted Kept) = 1
+verdict_byte (accepted Broken) = 0
 verdict_byte (refused number place) = 2
 
 -- the number of the rule in two bytes, the low one first, the byte of the verdict, and 29 zeros (R-12, sentence 1)

@@ -1,14 +1,12 @@
 -- Points are met one after another, and the buffers show them: what each turn of a loop meets is put together. Assumes
 -- nothing.
-use Prim.Native.Nat.{ℕ, ◌+◌, ◌-◌, ◌*◌, ◌<◌, ◌≤◌}
+use Prim.Native.Nat.{ℕ, ◌+◌, ◌*◌, ◌<◌, ◌≤◌}
 use mathlib.Core.Path.{◌≡◌, refl, sym, ◌∙◌, ap, subst}
 use mathlib.Core.Logic.{inl, inr}
 use mathlib.Core.List.{List, [], ◌∷◌, ◌++◌, map, map-append}
-use mathlib.Core.Bool.{Bool, true, false, not}
-use native.Mathlib.Omega.{arith}
+use mathlib.Core.Bool.{Bool, true, false}
 use native.Mathlib.Numerals.{add-one}
-use lib.ListN.{get_or, length, drop, set}
-use borrow.Author.Tests.{not-true, not-false}
+use lib.ListN.{get_or, drop, set}
 use Rattle.sets.specs.Sets.{In}
 use Rattle.sets.proofs.Members.{All}
 use Rattle.automaton.specs.Automaton.{Transition, no_state, reads}
@@ -17,7 +15,7 @@ use Rattle.answer.specs.Bytes.{number_at}
 use Rattle.image.specs.Image.{initial_at}
 use Rattle.image.specs.Reader.{counts_at, transitions_from, numbers_from, automaton_from}
 use Rattle.image.specs.Lookup.{image_automaton, record_at, records_at, transition_count_of, Readable}
-use Rattle.image.proofs.Lookup.{automaton_transitions, records_more, numbers_more, initial_offset}
+use Rattle.image.proofs.Lookup.{automaton_transitions, records_more, numbers_more}
 use Rattle.image.proofs.Lookup.{target_inside, step_target}
 use Rattle.rest.specs.Search.{Point, point, visit, visit_all, read_targets, starts}
 use Rattle.rest.specs.Memory.{Buffers, buffers, Shows, Ready, Fills}
@@ -58,10 +56,10 @@ module _ {n p : ℕ} {b : Buffers} {q : ℕ} (state : q < n) where
   fills_met e = record { fills = λ older met h. shows_met h q state e }
 
   pub fills_new : (get_or b.work (max_states * p + q) 0 ≡ 1 → ⊥)
-      → Fills n p b (buffers (set b.work (max_states * p + q) 1) (set b.list b.count q) (b.count + 1))
-      (point p q ∷ [])
+      → Fills n p b (buffers (set b.work (max_states * p + q) 1)
+      (record { states = set b.level.states b.level.count q; count = b.level.count + 1 })) (point p q ∷ [])
   unfolding visit_all
-  fills_new e = rw (add-one b.count) (record { fills = λ older met h. shows_new h q state e })
+  fills_new e = rw (add-one b.level.count) (record { fills = λ older met h. shows_new h q state e })
 
 module _ {n p : ℕ} {b c : Buffers} {xs : List Point} (first : Fills n p b c xs) where
   pub fills_ready : Ready n p b → Ready n p c
@@ -79,7 +77,7 @@ module _ {n p : ℕ} {b c : Buffers} {xs : List Point} (first : Fills n p b c xs
   }
 
 -- where all n states are listed, there is nothing more to meet at the position
-fills_full : {n p : ℕ} {b : Buffers} {xs : List Point} → n ≤ b.count
+fills_full : {n p : ℕ} {b : Buffers} {xs : List Point} → n ≤ b.level.count
     → ((x : Point) → In x xs → (x.position ≡ p) × (x.state < n)) → Fills n p b b xs
 fills_full {n} {p} {b} {xs} full inside = record {
   fills = λ older met h. subst (Shows n p b older) (sym (visit_none xs met (λ x m. old older met h x (inside x m)))) h;
@@ -90,75 +88,60 @@ fills_full {n} {p} {b} {xs} full inside = record {
     old older met h x (e, lt) =
         visit_old x met (subst (λ (k : ℕ). In (point k x.state) met) (sym e) (shows_full h full x.state lt))
 
--- a loop whose first i turns have met these points
-pub record Filling (n p turns : ℕ) (before after : Buffers) (xs : List Point) (i : ℕ) : Type 0 where
-  pub within : i ≤ turns
-  pub works : length after.work ≡ length before.work
-  pub met : Fills n p before after xs
-
-module _ {n p turns : ℕ} {b : Buffers} where
-  filling_begins : Filling n p turns b b [] 0
-  filling_begins = record { within = omega arith; works = refl; met = fills_none }
-
-  filling_steps : {c d : Buffers} {xs ys : List Point} (i : ℕ) → i < turns → Filling n p turns b c xs i
-      → length d.work ≡ length c.work → Fills n p c d ys → Filling n p turns b d (xs ++ ys) (i + 1)
-  filling_steps i lt inv e f = record { within = omega arith; works = e ∙ inv.works; met = fills_on inv.met f }
-
 -- ---- the transitions of a state
 
-module _ {n p : ℕ} {b : Buffers} (x : ℕ) (t : Transition) {r : Bool} (test : r ≡ reads t x) where
+module _ {n p : ℕ} {b : Buffers} (x : ℕ) (t : Transition) where
   -- a transition that does not read the letter leads nowhere, one that does to its target
-  pub follow_skips : not r ≡ true → Fills n p b b (read_targets x p (t ∷ []))
+  pub follow_skips : reads t x ≡ false → Fills n p b b (read_targets x p (t ∷ []))
   unfolding read_targets
-  follow_skips e = rw (sym test ∙ not-true r e, read_targets) fills_none
+  follow_skips e = rw (e, read_targets) fills_none
 
-  pub follow_meets : not r ≡ false → {c : Buffers} → Fills n p b c (point p t.target ∷ [])
+  pub follow_meets : reads t x ≡ true → {c : Buffers} → Fills n p b c (point p t.target ∷ [])
       → Fills n p b c (read_targets x p (t ∷ []))
   unfolding read_targets
-  follow_meets e f = rw (sym test ∙ not-false r e, read_targets) f
+  follow_meets e f = rw (e, read_targets) f
 
 -- the points that the first i records from byte `at` on lead to
 abbrev pub led_to : (image : List ℕ) (at x p i : ℕ) → List Point
 led_to image at x p i = read_targets x p (transitions_from i (drop at image))
 
-module _ {n p turns : ℕ} {b : Buffers} (image : List ℕ) (at x : ℕ) where
-  pub follows_begin : Filling n p turns b b (led_to image at x p 0) 0
+module _ {n p : ℕ} {b : Buffers} (image : List ℕ) (at x : ℕ) where
+  pub follows_begin : Fills n p b b (led_to image at x p 0)
   unfolding transitions_from read_targets
-  follows_begin = filling_begins
+  follows_begin = fills_none
 
-  pub follows_step : {c d : Buffers} (i : ℕ) → i < turns → Filling n p turns b c (led_to image at x p i) i
-      → length d.work ≡ length c.work → Fills n p c d (read_targets x p (record_at image (at + 4 * i) ∷ []))
-      → Filling n p turns b d (led_to image at x p (i + 1)) (i + 1)
-  follows_step {c} {d} i lt inv e f =
+  pub follows_step : {c d : Buffers} (i : ℕ) → Fills n p b c (led_to image at x p i)
+      → Fills n p c d (read_targets x p (record_at image (at + 4 * i) ∷ []))
+      → Fills n p b d (led_to image at x p (i + 1))
+  follows_step {c} {d} i met f =
       let new : List Point = read_targets x p (record_at image (at + 4 * i) ∷ []) in
       let more : led_to image at x p (i + 1) ≡ led_to image at x p i ++ new =
       ap (led_to image at x p) (add-one i) ∙ ap (read_targets x p) (records_more i at image)
       ∙ targets_append x p (transitions_from i (drop at image)) (record_at image (at + 4 * i) ∷ []) in
-      subst (λ (ys : List Point). Filling n p turns b d ys (i + 1)) (sym more) (filling_steps i lt inv e f)
+      subst (Fills n p b d) (sym more) (fills_on met f)
 
 -- a record of state q leads to a state
-pub target_below : {n at records : ℕ} (image : List ℕ) → Readable image → (q : ℕ) → n ≡ (counts_at image).states
-    → q < (counts_at image).states → at ≡ records_at image q → records ≡ transition_count_of image q
-    → (i : ℕ) → i < records → number_at image (at + 4 * i + 2) < n
-target_below image fine q en lq ea er i lt = rw (en, ea) (target_inside image fine q i lq (rw er at lt))
+pub target_below : {at records : ℕ} (image : List ℕ) → Readable image → (q : ℕ) → q < (counts_at image).states
+    → at ≡ records_at image q → records ≡ transition_count_of image q
+    → (i : ℕ) → i < records → number_at image (at + 4 * i + 2) < (counts_at image).states
+target_below image fine q lq ea er i lt = rw ea (target_inside image fine q i lq (rw er at lt))
 
 -- the points that the transitions of state q lead to
 abbrev targets_of : (image : List ℕ) (q x p : ℕ) → List Point
 targets_of image q x p = read_targets x p (get_or (image_automaton image).states q no_state).transitions
 
-pub follows_end : {n p turns at : ℕ} {b c : Buffers} (image : List ℕ) (q x i : ℕ) → q < (counts_at image).states
-    → at ≡ records_at image q → turns ≡ transition_count_of image q → turns ≤ i
-    → Filling n p turns b c (led_to image at x p i) i → Fills n p b c (targets_of image q x p)
-follows_end {n} {p} {turns} {at} {b} {c} image q x i lq ea et le inv =
-    let e : i ≡ transition_count_of image q = omega (arith, inv.within) in
+pub follows_end : {n p at i : ℕ} {b c : Buffers} (image : List ℕ) (q x : ℕ) → q < (counts_at image).states
+    → at ≡ records_at image q → i ≡ transition_count_of image q
+    → Fills n p b c (led_to image at x p i) → Fills n p b c (targets_of image q x p)
+follows_end {n} {p} {at} {i} {b} {c} image q x lq ea ei met =
     let same : led_to image at x p i ≡ targets_of image q x p =
-    (λ j. read_targets x p (transitions_from (e j) (drop (ea j) image)))
+    (λ j. read_targets x p (transitions_from (ei j) (drop (ea j) image)))
     ∙ ap (read_targets x p) (sym (automaton_transitions image q lq)) in
-    subst (Fills n p b c) same inv.met
+    subst (Fills n p b c) same met
 
 -- all states are listed already
 pub follows_full : {n p : ℕ} {b : Buffers} (image : List ℕ) → Readable image → (q x : ℕ)
-    → n ≡ (counts_at image).states → n ≤ b.count → Fills n p b b (targets_of image q x p)
+    → n ≡ (counts_at image).states → n ≤ b.level.count → Fills n p b b (targets_of image q x p)
 follows_full {n} {p} image fine q x en full =
     fills_full full (λ y h.
     let (e, step) = targets_in x p (get_or (image_automaton image).states q no_state).transitions y h in
@@ -170,26 +153,22 @@ follows_full {n} {p} image fine q x en full =
 abbrev pub numbered : (image : List ℕ) (at i : ℕ) → List Point
 numbered image at i = map (point 0) (numbers_from i (drop at image))
 
-module _ {n turns : ℕ} {b : Buffers} (image : List ℕ) (at : ℕ) where
-  pub begin_holds : Filling n 0 turns b b (numbered image at 0) 0
+module _ {n : ℕ} {b : Buffers} (image : List ℕ) (at : ℕ) where
+  pub begin_holds : Fills n 0 b b (numbered image at 0)
   unfolding numbers_from
-  begin_holds = filling_begins
+  begin_holds = fills_none
 
-  pub begin_steps : {c d : Buffers} (i : ℕ) → i < turns → Filling n 0 turns b c (numbered image at i) i
-      → length d.work ≡ length c.work → Fills n 0 c d (point 0 (number_at image (at + 2 * i)) ∷ [])
-      → Filling n 0 turns b d (numbered image at (i + 1)) (i + 1)
-  begin_steps {c} {d} i lt inv e f =
+  pub begin_steps : {c d : Buffers} (i : ℕ) → Fills n 0 b c (numbered image at i)
+      → Fills n 0 c d (point 0 (number_at image (at + 2 * i)) ∷ []) → Fills n 0 b d (numbered image at (i + 1))
+  begin_steps {c} {d} i met f =
       let more : numbered image at (i + 1) ≡ numbered image at i ++ (point 0 (number_at image (at + 2 * i)) ∷ []) =
       ap (numbered image at) (add-one i) ∙ ap (map (point 0)) (numbers_more i at image)
       ∙ map-append (point 0) (numbers_from i (drop at image)) (number_at image (at + 2 * i) ∷ []) in
-      subst (λ (ys : List Point). Filling n 0 turns b d ys (i + 1)) (sym more) (filling_steps i lt inv e f)
+      subst (Fills n 0 b d) (sym more) (fills_on met f)
 
-pub begin_ends : {n turns : ℕ} {b c : Buffers} (image : List ℕ) → Readable image → (i : ℕ)
-    → turns ≡ (counts_at image).initial → turns ≤ i
-    → Filling n 0 turns b c (numbered image (length image - 2 * turns) i) i
+pub begin_ends : {n at i : ℕ} {b c : Buffers} (image : List ℕ) → at ≡ initial_at (counts_at image)
+    → i ≡ (counts_at image).initial → Fills n 0 b c (numbered image at i)
     → (stem cycle : List ℕ) → Fills n 0 b c (starts (image_automaton image) stem cycle)
 unfolding starts automaton_from
-begin_ends {n} {turns} {b} {c} image fine i et le inv stem cycle =
-    let e : i ≡ (counts_at image).initial = omega (arith, inv.within) in
-    let f : length image - 2 * turns ≡ initial_at (counts_at image) = initial_offset image fine turns et in
-    subst (Fills n 0 b c) (λ j. numbered image (f j) (e j)) inv.met
+begin_ends {n} {b = b} {c = c} image ea ei met stem cycle =
+    subst (Fills n 0 b c) (λ j. numbered image (ea j) (ei j)) met

@@ -4,7 +4,8 @@
 use Prim.Native.Nat.{ℕ, suc, ◌+◌, ◌*◌, ◌<◌, ◌≤◌}
 use mathlib.Core.Path.{◌≡◌, refl, sym, ◌∙◌, ap, subst}
 use mathlib.Core.List.{List, [], ◌++◌, map, append-nil}
-use mathlib.Core.Bool.{Bool, true, false, true≢false, cond}
+use Rattle.std.specs.Prelude.{None}
+use mathlib.Core.Bool.{Bool, true, false, cond}
 use native.Mathlib.Omega.{arith}
 use native.Mathlib.Nat.{mul-le-mul_right}
 use native.Mathlib.Numerals.{add-one}
@@ -20,9 +21,10 @@ use Rattle.image.specs.Reader.{counts_at}
 use Rattle.image.specs.Image.{rest_at}
 use Rattle.image.specs.Lookup.{image_automaton, Readable}
 use Rattle.answer.proofs.Zeros.{zeros_at}
+use Rattle.rest.specs.declared.Level.{Level}
 use Rattle.rest.specs.Search.{Point, point, visit_all, read_targets, onward, starts}
 use Rattle.rest.specs.Rest.{resting, rest_taken, pairs_taken}
-use Rattle.rest.specs.Memory.{Marked, Marks, Buffers, buffers, Shows, Ready, Fills}
+use Rattle.rest.specs.Memory.{Marked, Marks, Buffers, buffers, Shows, Fills}
 use Rattle.rest.specs.Memory.{Searching, ReachedMarked, Before, Ended}
 use Rattle.rest.proofs.Queue.{at}
 use Rattle.rest.proofs.Marking.{shows_long}
@@ -52,9 +54,10 @@ module _ (image : List ℕ) (fine : Readable image) (q : ℕ) (lt : q < (counts_
 -- ---- one level
 
 -- an empty list beside the marks
-pub fresh_shows : {n p : ℕ} {work list : List ℕ} {met : List Point} → n ≤ max_states → max_states * suc p ≤ length work
-    → length list ≡ max_states → Marks work met → Shows n p (buffers work list 0) met met
-fresh_shows {met = met} small bytes size marks = record {
+pub fresh_shows : {n p : ℕ} {work : List ℕ} {met : List Point} (states : List ℕ) → n ≤ max_states
+    → max_states * suc p ≤ length work → length states ≡ max_states → Marks work met
+    → Shows n p (buffers work (record { states = states; count = 0 })) met met
+fresh_shows {met = met} states small bytes size marks = record {
   small = small;
   bytes = bytes;
   size = size;
@@ -65,46 +68,44 @@ fresh_shows {met = met} small bytes size marks = record {
 }
 
 module _ (a : Automaton) (stem cycle : List ℕ) where
-  -- the loop over a level of `count` states at position p, `taken` points having been taken before it, that stands at i
-  pub record Taking (n p taken : ℕ) (level : List ℕ) (count : ℕ) (work : List ℕ) (b : Buffers) (i : ℕ) : Type 0 where
-    pub within : i ≤ count
-    pub works : length b.work ≡ length work
+  -- the loop over a level at position p, `taken` points having been taken before it, that stands at i
+  pub record Taking (n p taken : ℕ) (level : Level) (b : Buffers) (i : ℕ) : Type 0 where
     pub older : List Point
     pub met : List Point
-    pub long : length older ≡ taken + count
-    pub queue : (j : ℕ) → j < count → at older (taken + j) ≡ point p (get_or level j 0)
+    pub long : length older ≡ taken + level.count
+    pub queue : (j : ℕ) → j < level.count → at older (taken + j) ≡ point p (get_or level.states j 0)
     pub shows : Shows n (after stem cycle p) b older met
     pub searching : Searching a stem cycle (taken + i) met
 
   -- before a level
   module _ {n p taken : ℕ} {b : Buffers} (t : Before a stem cycle n p taken b) where
     abbrev listed : List Point
-    listed = map (point p) (take b.count b.list)
+    listed = map (point p) (take b.level.count b.level.states)
 
-    before_long : length t.met ≡ taken + b.count
+    before_long : length t.met ≡ taken + b.level.count
     before_long =
         ap length t.shows.listed ∙ length-append t.older listed
-        ∙ omega (arith, t.long, length-map (take b.count b.list) (point p), shows_long t.shows)
+        ∙ omega (arith, t.long, length-map (take b.level.count b.level.states) (point p), shows_long t.shows)
 
     -- the pairs taken, with those of the level, are at most as many as there are bytes
     pub before_few : InRange a → 0 < length cycle → n ≡ length a.states
-        → max_states * (length stem + length cycle) ≤ length b.work → taken + b.count ≤ length b.work
+        → max_states * (length stem + length cycle) ≤ length b.work → taken + b.level.count ≤ length b.work
     before_few range pos en bytes =
         let few = searching_few a stem cycle t.searching range pos in
         let product = mul-le-mul_right (length stem + length cycle) t.shows.small in
         let same = ap (λ (k : ℕ). k * (length stem + length cycle)) en in
         omega (arith, few, product, same, before_long)
 
-    before_queue : (j : ℕ) → j < b.count → at t.met (taken + j) ≡ point p (get_or b.list j 0)
+    before_queue : (j : ℕ) → j < b.level.count → at t.met (taken + j) ≡ point p (get_or b.level.states j 0)
     before_queue j l =
         let e : taken + j ≡ length t.older + j = omega (arith, t.long) in
         ap (λ (xs : List Point). at xs (taken + j)) t.shows.listed ∙ ap (at (t.older ++ listed)) e
         ∙ get_or-append-add t.older listed j (point 0 0)
-        ∙ map_at (point p) 0 (point 0 0) (take b.count b.list) j (omega (arith, shows_long t.shows))
-        ∙ ap (point p) (get_or-take b.count b.list j 0 l)
+        ∙ map_at (point p) 0 (point 0 0) (take b.level.count b.level.states) j (omega (arith, shows_long t.shows))
+        ∙ ap (point p) (get_or-take b.level.count b.level.states j 0 l)
 
     -- there is no state in it
-    pub before_none : b.count ≤ 0 → max_states * (length stem + length cycle) ≤ length b.work
+    pub before_none : b.level.count ≤ 0 → max_states * (length stem + length cycle) ≤ length b.work
         → (false ≡ rest_taken a stem cycle) × (taken ≡ pairs_taken a stem cycle)
         × ReachedMarked a stem cycle b.work
     before_none none bytes =
@@ -115,46 +116,37 @@ module _ (a : Automaton) (stem cycle : List ℕ) where
           λ p lt. subst (Marked p b.work) same (t.shows.marks p (omega arith)),
         )
 
-  module _ (range : InRange a) (pos : 0 < length cycle) {n p taken count : ℕ} {level work : List ℕ} where
-    pub taking_begins : {next : List ℕ} → max_states * (length stem + length cycle) ≤ length work
-        → length next ≡ max_states → Before a stem cycle n p taken (buffers work level count)
-        → Taking n p taken level count work (buffers work next 0) 0
-    taking_begins bytes size b = record {
-      within = omega arith;
-      works = refl;
+  module _ (range : InRange a) (pos : 0 < length cycle) {n p taken : ℕ} {level : Level} where
+    pub taking_begins : {work : List ℕ} (states : List ℕ) → max_states * (length stem + length cycle) ≤ length work
+        → length states ≡ max_states → Before a stem cycle n p taken (buffers work level)
+        → Taking n p taken level (buffers work (record { states = states; count = 0 })) 0
+    taking_begins states bytes size b = record {
       older = b.met;
       met = b.met;
       long = before_long b;
       queue = before_queue b;
-      shows = fresh_shows b.shows.small (omega (arith, after_small stem cycle pos p)) size b.shows.marks;
+      shows = fresh_shows states b.shows.small (omega (arith, after_small stem cycle pos p)) size b.shows.marks;
       searching = subst (λ (k : ℕ). Searching a stem cycle k b.met) (omega arith) b.searching;
     }
 
-    module _ {b : Buffers} (i : ℕ) (t : Taking n p taken level count work b i) where
+    module _ {b : Buffers} (i : ℕ) (t : Taking n p taken level b i) where
       abbrev newer : List Point
-      newer = map (point (after stem cycle p)) (take b.count b.list)
+      newer = map (point (after stem cycle p)) (take b.level.count b.level.states)
 
       short : length t.older ≤ length t.met
       short = omega (arith, ap length t.shows.listed, length-append t.older newer)
 
-      pub taking_ends : {pairs : ℕ} → count ≤ i → Ended a stem cycle n p (taken + count) false pairs b
-      taking_ends le = record {
-        rested = λ r. absurd (true≢false (sym r));
-        goes = λ r. record {
-          older = t.older;
-          met = t.met;
-          inside = after_small stem cycle pos p;
-          shows = t.shows;
-          long = t.long;
-          searching = subst (λ (k : ℕ). Searching a stem cycle k t.met) (omega (arith, t.within)) t.searching;
-        };
+      pub taking_ends : i ≡ level.count → Ended a stem cycle n p (taken + level.count) None b
+      taking_ends e = record {
+        older = t.older;
+        met = t.met;
+        inside = after_small stem cycle pos p;
+        shows = t.shows;
+        long = t.long;
+        searching = subst (λ (k : ℕ). Searching a stem cycle k t.met) (omega arith) t.searching;
       }
 
-      -- the list for the next level, whose position is the one after this
-      pub taking_ready : {next : ℕ} → next ≡ after stem cycle p → Ready n next b
-      taking_ready e = rw e (record { older = t.older; met = t.met; shows = t.shows })
-
-      module _ (lt : i < count) (q : ℕ) (is : q ≡ get_or level i 0) where
+      module _ (lt : i < level.count) (q : ℕ) (is : q ≡ get_or level.states i 0) where
         -- the next point to be taken
         next_inside : taken + i < length t.met
         next_inside = omega (arith, t.long, short)
@@ -170,14 +162,11 @@ module _ (a : Automaton) (stem cycle : List ℕ) where
           here : resting a stem cycle (at t.met (taken + i)) ≡ true
           here = ap (resting a stem cycle) next_point ∙ e
 
-          pub taking_rests : {total : ℕ} {c : Buffers} → Ended a stem cycle n p total true (taken + i + 1) c
-          taking_rests = record {
-            rested = λ r. (
-              rest_taken_lem a stem cycle t.searching next_inside here,
-              add-one (taken + i) ∙ rest_pairs a stem cycle t.searching next_inside here,
-            );
-            goes = λ r. absurd (true≢false r);
-          }
+          pub taking_rests : (true ≡ rest_taken a stem cycle) × (taken + i + 1 ≡ pairs_taken a stem cycle)
+          taking_rests = (
+            rest_taken_lem a stem cycle t.searching next_inside here,
+            add-one (taken + i) ∙ rest_pairs a stem cycle t.searching next_inside here,
+          )
 
         -- it is not, and what it leads to is met
         module _ (e : at_rest q (get_or a.states q no_state) ≡ false) where
@@ -192,14 +181,11 @@ module _ (a : Automaton) (stem cycle : List ℕ) where
               subst (λ (x : Point). Searching a stem cycle k (visit_all (onward a stem cycle x) t.met)) next_point
               (searching_goes a stem cycle t.searching range pos next_inside calm)
 
-          pub taking_steps : {c : Buffers} {x next : ℕ} → length c.work ≡ length b.work
-              → x ≡ letter stem cycle p → next ≡ after stem cycle p
+          pub taking_steps : {c : Buffers} {x next : ℕ} → x ≡ letter stem cycle p → next ≡ after stem cycle p
               → Fills n next b c (read_targets x next (get_or a.states q no_state).transitions)
-              → Taking n p taken level count work c (i + 1)
+              → Taking n p taken level c (i + 1)
           unfolding onward more
-          taking_steps ew ex en f = record {
-            within = omega arith;
-            works = ew ∙ t.works;
+          taking_steps ex en f = record {
             older = t.older;
             met = more;
             long = t.long;
@@ -221,25 +207,13 @@ blank_marks {work} e p row = record {
 }
 
 -- the first level: the initial states
-pub before_first : (a : Automaton) (stem cycle : List ℕ) → 0 < length cycle → {n m : ℕ} {b c : Buffers} → n ≡ m
-    → Shows m 0 b [] [] → Fills m 0 b c (starts a stem cycle) → Before a stem cycle n 0 0 c
-before_first a stem cycle pos {b = b} {c = c} e h f = rw e (record {
+pub before_first : (a : Automaton) (stem cycle : List ℕ) → 0 < length cycle → {n : ℕ} {b c : Buffers}
+    → Shows n 0 b [] [] → Fills n 0 b c (starts a stem cycle) → Before a stem cycle n 0 0 c
+before_first a stem cycle pos {b = b} {c = c} h f = record {
   older = [];
   met = visit_all (starts a stem cycle) [];
   inside = omega arith;
   shows = f.fills [] [] h;
   long = refl;
   searching = searching_begins a stem cycle;
-})
-
--- the loop over the levels
-pub record Turning (a : Automaton) (stem cycle : List ℕ) (n : ℕ) (work₀ work level next : List ℕ) (count p taken : ℕ)
-    : Type 0 where
-  pub works : length work ≡ length work₀
-  pub size : length next ≡ max_states
-  pub before : Before a stem cycle n p taken (buffers work level count)
-
-pub turning_steps : {a : Automaton} {stem cycle : List ℕ} {n next total more : ℕ} {work₀ work list : List ℕ} (p : ℕ)
-    → Before a stem cycle n (after stem cycle p) total (buffers work list more) → next ≡ after stem cycle p
-    → length work ≡ length work₀ → Turning a stem cycle n work₀ work list list more next total
-turning_steps p b e works = record { works = works; size = b.shows.size; before = rw e b }
+}

@@ -33,35 +33,37 @@ visit_new x met new = go (member x met) refl
 
 module _ {n p : ℕ} {b : Buffers} {older met : List Point} (shows : Shows n p b older met) where
   -- the states listed are at most n
-  pub shows_few : b.count ≤ n
-  shows_few = go (dec_lt n b.count)
+  pub shows_few : b.level.count ≤ n
+  shows_few = go (dec_lt n b.level.count)
     where
-      clash : n < b.count → (i j : ℕ) × (i < j) × (j ≤ n) × (get_or b.list i 0 ≡ get_or b.list j 0) → ⊥
+      clash : n < b.level.count
+          → (i j : ℕ) × (i < j) × (j ≤ n) × (get_or b.level.states i 0 ≡ get_or b.level.states j 0) → ⊥
       clash l (i, j, lt, le, e) = shows.apart i j lt (omega arith) e
 
-      go : Dec (n < b.count) → b.count ≤ n
-      go (yes l) = absurd (clash l (pigeon n (λ i. get_or b.list i 0) (λ i le. shows.below i (omega arith))))
+      go : Dec (n < b.level.count) → b.level.count ≤ n
+      go (yes l) = absurd (clash l (pigeon n (λ i. get_or b.level.states i 0) (λ i le. shows.below i (omega arith))))
       go (no l) = omega arith
 
-  pub shows_long : length (take b.count b.list) ≡ b.count
-  shows_long = length-take-le b.count b.list (omega (arith, shows_few, shows.small, shows.size))
+  pub shows_long : length (take b.level.count b.level.states) ≡ b.level.count
+  shows_long = length-take-le b.level.count b.level.states (omega (arith, shows_few, shows.small, shows.size))
 
   -- a state that is listed was met
-  listed_met : (i : ℕ) → i < b.count → In (point p (get_or b.list i 0)) met
+  listed_met : (i : ℕ) → i < b.level.count → In (point p (get_or b.level.states i 0)) met
   listed_met i lt =
-      let here = at_in 0 (take b.count b.list) i (omega (arith, shows_long)) in
-      let among = subst (λ (q : ℕ). In q (take b.count b.list)) (get_or-take b.count b.list i 0 lt) here in
-      let behind = in_map (point p) (get_or b.list i 0) (take b.count b.list) among in
-      subst (In (point p (get_or b.list i 0))) (sym shows.listed) (in_append _ older _ (inr behind))
+      let here = at_in 0 (take b.level.count b.level.states) i (omega (arith, shows_long)) in
+      let same = get_or-take b.level.count b.level.states i 0 lt in
+      let among = subst (λ (q : ℕ). In q (take b.level.count b.level.states)) same here in
+      let behind = in_map (point p) (get_or b.level.states i 0) (take b.level.count b.level.states) among in
+      subst (In (point p (get_or b.level.states i 0))) (sym shows.listed) (in_append _ older _ (inr behind))
 
   -- where all n are listed, each was met
-  pub shows_full : n ≤ b.count → (q : ℕ) → q < n → In (point p q) met
+  pub shows_full : n ≤ b.level.count → (q : ℕ) → q < n → In (point p q) met
   shows_full full q lt = find (pigeon n state small)
     where
       state : ℕ → ℕ
-      state i = cond (ltb i n) (get_or b.list i 0) q
+      state i = cond (ltb i n) (get_or b.level.states i 0) q
 
-      early : (i : ℕ) → i < n → state i ≡ get_or b.list i 0
+      early : (i : ℕ) → i < n → state i ≡ get_or b.level.states i 0
       early i l = rw (lt-ltb i n l)
 
       late : (i : ℕ) → n ≤ i → state i ≡ q
@@ -80,7 +82,7 @@ module _ {n p : ℕ} {b : Buffers} {older met : List Point} (shows : Shows n p b
           go : Dec (j < n) → In (point p q) met
           go (yes l) = absurd (shows.apart i j less (omega arith) (sym (early i (omega arith)) ∙ e ∙ early j l))
           go (no l) =
-              let same : get_or b.list i 0 ≡ q = sym (early i (omega arith)) ∙ e ∙ late j (omega arith) in
+              let same : get_or b.level.states i 0 ≡ q = sym (early i (omega arith)) ∙ e ∙ late j (omega arith) in
               subst (λ (k : ℕ). In (point p k) met) same (listed_met i (omega arith))
 
   module _ (q : ℕ) (state : q < n) where
@@ -102,10 +104,10 @@ module _ {n p : ℕ} {b : Buffers} {older met : List Point} (shows : Shows n p b
       new h = unset ((shows.marks p shows.bytes).marked q (omega (arith, shows.small)) h)
 
       -- there is room in the list
-      pub shows_room : b.count < n
-      shows_room = go (dec_lt b.count n)
+      pub shows_room : b.level.count < n
+      shows_room = go (dec_lt b.level.count n)
         where
-          go : Dec (b.count < n) → b.count < n
+          go : Dec (b.level.count < n) → b.level.count < n
           go (yes l) = l
           go (no l) = absurd (new (shows_full (omega arith) q state))
 
@@ -113,31 +115,31 @@ module _ {n p : ℕ} {b : Buffers} {older met : List Point} (shows : Shows n p b
       work = set b.work place 1
 
       abbrev list : List ℕ
-      list = set b.list b.count q
+      list = set b.level.states b.level.count q
 
-      old : (i : ℕ) → i < b.count → get_or list i 0 ≡ get_or b.list i 0
+      old : (i : ℕ) → i < b.level.count → get_or list i 0 ≡ get_or b.level.states i 0
       old i lt =
-          let other : i ≡ b.count → ⊥ = λ e. omega arith in
-          get_or-set_other b.list b.count i q 0 other
+          let other : i ≡ b.level.count → ⊥ = λ e. omega arith in
+          get_or-set_other b.level.states b.level.count i q 0 other
 
-      last : (i : ℕ) → i ≡ b.count → get_or list i 0 ≡ q
+      last : (i : ℕ) → i ≡ b.level.count → get_or list i 0 ≡ q
       last i e =
           ap (λ (k : ℕ). get_or list k 0) e
-          ∙ get_or-set_same b.list b.count q 0 (omega (arith, shows_room, shows.small, shows.size))
+          ∙ get_or-set_same b.level.states b.level.count q 0 (omega (arith, shows_room, shows.small, shows.size))
 
-      apart : (i j : ℕ) → i < j → j < suc b.count → get_or list i 0 ≡ get_or list j 0 → ⊥
-      apart i j lt m e = go (ℕ_discrete j b.count)
+      apart : (i j : ℕ) → i < j → j < suc b.level.count → get_or list i 0 ≡ get_or list j 0 → ⊥
+      apart i j lt m e = go (ℕ_discrete j b.level.count)
         where
-          go : Dec (j ≡ b.count) → ⊥
+          go : Dec (j ≡ b.level.count) → ⊥
           go (yes f) =
-              let same : get_or b.list i 0 ≡ q = sym (old i (omega arith)) ∙ e ∙ last j f in
+              let same : get_or b.level.states i 0 ≡ q = sym (old i (omega arith)) ∙ e ∙ last j f in
               new (subst (λ (k : ℕ). In (point p k) met) same (listed_met i (omega arith)))
           go (no f) = shows.apart i j lt (omega arith) (sym (old i (omega arith)) ∙ e ∙ old j (omega arith))
 
-      below : (i : ℕ) → i < suc b.count → get_or list i 0 < n
-      below i m = go (ℕ_discrete i b.count)
+      below : (i : ℕ) → i < suc b.level.count → get_or list i 0 < n
+      below i m = go (ℕ_discrete i b.level.count)
         where
-          go : Dec (i ≡ b.count) → get_or list i 0 < n
+          go : Dec (i ≡ b.level.count) → get_or list i 0 < n
           go (yes f) = rw (last i f) state
           go (no f) = rw (old i (omega arith)) (shows.below i (omega arith))
 
@@ -173,23 +175,24 @@ module _ {n p : ℕ} {b : Buffers} {older met : List Point} (shows : Shows n p b
               in_append (point r t) met (point p q ∷ []) (only t lt (ℕ_discrete (max_states * r + t) place) e);
         }
 
-      listed : more ≡ older ++ map (point p) (take (suc b.count) list)
+      listed : more ≡ older ++ map (point p) (take (suc b.level.count) list)
       unfolding more
       listed =
-          let room : b.count < length b.list = omega (arith, shows_room, shows.small, shows.size) in
-          let states : take (suc b.count) list ≡ take b.count b.list ++ (q ∷ []) =
-          take-suc-set b.list b.count q room in
+          let room : b.level.count < length b.level.states = omega (arith, shows_room, shows.small, shows.size) in
+          let states : take (suc b.level.count) list ≡ take b.level.count b.level.states ++ (q ∷ []) =
+          take-suc-set b.level.states b.level.count q room in
           ap (λ (xs : List Point). xs ++ (point p q ∷ [])) shows.listed
-          ∙ append_assoc older (map (point p) (take b.count b.list)) (point p q ∷ [])
+          ∙ append_assoc older (map (point p) (take b.level.count b.level.states)) (point p q ∷ [])
           ∙ ap (λ (xs : List Point). older ++ xs)
-          (sym (ap (map (point p)) states ∙ map-append (point p) (take b.count b.list) (q ∷ [])))
+          (sym (ap (map (point p)) states ∙ map-append (point p) (take b.level.count b.level.states) (q ∷ [])))
 
-      pub shows_new : Shows n p (buffers work list (suc b.count)) older (visit (point p q) met)
+      pub shows_new : Shows n p (buffers work (record { states = list; count = suc b.level.count })) older
+          (visit (point p q) met)
       unfolding more
       shows_new = rw (visit_new (point p q) met new) (record {
         small = shows.small;
         bytes = omega (arith, length-set b.work place 1, shows.bytes);
-        size = length-set b.list b.count q ∙ shows.size;
+        size = length-set b.level.states b.level.count q ∙ shows.size;
         marks = λ r row. row_marked r (omega (arith, length-set b.work place 1));
         listed = listed;
         below = below;

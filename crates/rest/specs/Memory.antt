@@ -2,13 +2,15 @@
 -- search is, specs/Rest.antt says. It takes points in the order of `reach`, level after level: those at one position,
 -- then those met meanwhile at the next. So two lists of states are enough for the points still to be taken, one for
 -- the level and one for the next; and a byte for each position and state marks the points that were met.
-use Rattle.std.specs.Prelude.{ℕ, suc, ◌+◌, ◌*◌, ◌<◌, ◌≤◌, ◌≡◌, List, ◌++◌, map, Bool, true, false, get_or, length, take}
+use Rattle.std.specs.Prelude.{ℕ, suc, ◌+◌, ◌*◌, ◌<◌, ◌≤◌, ◌≡◌, List, ◌++◌, map, true, false, get_or, length, take}
+use Rattle.std.specs.Prelude.{Option, Some, None}
 use Rattle.sets.specs.Sets.{In}
 use Rattle.automaton.specs.Automaton.{Automaton}
 use Rattle.automaton.specs.Limits.{max_states}
 use Rattle.image.specs.Reader.{counts_at}
 use Rattle.image.specs.Lookup.{records_at}
 use Rattle.lasso.specs.Lasso.{after}
+use Rattle.rest.specs.declared.Level.{Level}
 use Rattle.rest.specs.Search.{Point, point, visit_all, reach, reached_from, starts}
 use Rattle.rest.specs.Rest.{resting, rest_taken, pairs_taken}
 
@@ -29,25 +31,24 @@ pub record Marked (p : ℕ) (work : List ℕ) (met : List Point) : Type 0 where
 abbrev pub Marks : (work : List ℕ) (met : List Point) → Type 0
 Marks work met = (p : ℕ) → max_states * suc p ≤ length work → Marked p work met
 
--- the marks, and a list whose first `count` places hold states
+-- the marks, and a level, which lists the states met
 pub record Buffers : Type 0 where
   pub work : List ℕ
-  pub list : List ℕ
-  pub count : ℕ
+  pub level : Level
 
-abbrev pub buffers : (work list : List ℕ) (count : ℕ) → Buffers
-buffers work list count = record { work = work; list = list; count = count }
+abbrev pub buffers : (work : List ℕ) (level : Level) → Buffers
+buffers work level = record { work = work; level = level }
 
 -- the buffers show the points met: those of older and, behind them, those of the states listed, at position p. No state
 -- is listed twice, and all are among the n that there are.
 pub record Shows (n p : ℕ) (b : Buffers) (older met : List Point) : Type 0 where
   pub small : n ≤ max_states
   pub bytes : max_states * suc p ≤ length b.work
-  pub size : length b.list ≡ max_states
+  pub size : length b.level.states ≡ max_states
   pub marks : Marks b.work met
-  pub listed : met ≡ older ++ map (point p) (take b.count b.list)
-  pub below : (i : ℕ) → i < b.count → get_or b.list i 0 < n
-  pub apart : (i j : ℕ) → i < j → j < b.count → get_or b.list i 0 ≡ get_or b.list j 0 → ⊥
+  pub listed : met ≡ older ++ map (point p) (take b.level.count b.level.states)
+  pub below : (i : ℕ) → i < b.level.count → get_or b.level.states i 0 < n
+  pub apart : (i j : ℕ) → i < j → j < b.level.count → get_or b.level.states i 0 ≡ get_or b.level.states j 0 → ⊥
 
 -- the buffers show some points at position p
 pub record Ready (n p : ℕ) (b : Buffers) : Type 0 where
@@ -81,9 +82,9 @@ module _ (a : Automaton) (stem cycle : List ℕ) where
 
   -- how a level at position p ends: with a point at rest, the last one taken, of `pairs`; or `total` are taken, and the
   -- search stands before the next level
-  pub record Ended (n p total : ℕ) (rests : Bool) (pairs : ℕ) (b : Buffers) : Type 0 where
-    pub rested : rests ≡ true → (true ≡ rest_taken a stem cycle) × (pairs ≡ pairs_taken a stem cycle)
-    pub goes : rests ≡ false → Before n (after stem cycle p) total b
+  abbrev pub Ended : (n p total : ℕ) → Option ℕ → Buffers → Type 0
+  Ended n p total (Some pairs) b = (true ≡ rest_taken a stem cycle) × (pairs ≡ pairs_taken a stem cycle)
+  Ended n p total None b = Before n (after stem cycle p) total b
 
   -- the bytes of each position of the lasso mark the points there that can be reached
   abbrev pub ReachedMarked : (work : List ℕ) → Type 0

@@ -1,6 +1,6 @@
 -- The first letters of two words: they agree exactly where each does; and the loop that follows both lassos position by
 -- position. Assumes nothing, but where it is said that the cycle has a letter.
-use Prim.Native.Nat.{ℕ, zero, suc, ◌+◌, ◌<◌, ◌≤◌}
+use Prim.Native.Nat.{ℕ, zero, suc, ◌+◌, ◌<◌}
 use mathlib.Core.Path.{◌≡◌, refl, sym, ◌∙◌, ap}
 use mathlib.Core.List.{List}
 use mathlib.Core.Bool.{Bool, true, false, and-eq-true_iff}
@@ -43,53 +43,64 @@ module _ (word other : ℕ → ℕ) where
 
 -- ---- a lasso that is followed: after i letters it stands at this position
 
-module _ (stem cycle : List ℕ) {at : ℕ} (i : ℕ) (stands : at ≡ onto stem cycle i) where
-  pub stands_next : {next : ℕ} → next ≡ after stem cycle at → next ≡ onto stem cycle (i + 1)
+pub record Stands (stem cycle : List ℕ) (at i : ℕ) : Type 0 where
+  pub is : at ≡ onto stem cycle i
+  pub within : at < length stem + length cycle
+  pub reads : letter stem cycle at ≡ letter stem cycle i
+
+module _ (stem cycle : List ℕ) (some : 0 < length cycle) where
+  stands : {at : ℕ} (i : ℕ) → at ≡ onto stem cycle i → Stands stem cycle at i
   unfolding onto
-  stands_next e = e ∙ ap (after stem cycle) stands ∙ ap (onto stem cycle) (sym (add-one i))
+  stands {at} i e = record {
+    is = e;
+    within = rw e (go i);
+    reads = ap (letter stem cycle) e ∙ letter_onto stem cycle some i;
+  }
+    where
+      go : (i : ℕ) → onto stem cycle i < length stem + length cycle
+      go zero = omega arith
+      go (suc i) = after_small stem cycle some (onto stem cycle i)
 
-  module _ (some : 0 < length cycle) where
-    pub stands_within : at < length stem + length cycle
-    unfolding onto
-    stands_within = rw stands (go i)
-      where
-        go : (i : ℕ) → onto stem cycle i < length stem + length cycle
-        go zero = omega arith
-        go (suc i) = after_small stem cycle some (onto stem cycle i)
+  stands_first : Stands stem cycle 0 0
+  unfolding onto
+  stands_first = stands 0 refl
 
-    pub stands_letter : {x : ℕ} → x ≡ letter stem cycle at → x ≡ letter stem cycle i
-    stands_letter e = e ∙ ap (letter stem cycle) stands ∙ letter_onto stem cycle some i
+  stands_next : {at next i : ℕ} → Stands stem cycle at i → next ≡ after stem cycle at → Stands stem cycle next (i + 1)
+  unfolding onto
+  stands_next {i = i} s e =
+      stands (i + 1) (e ∙ ap (after stem cycle) s.is ∙ ap (onto stem cycle) (sym (add-one i)))
 
 -- ---- two that are followed together
 
--- the loop over the first n letters of two lassos that stands at i: each is at its position, and the letters before i
--- agree
-pub record Following (stem cycle otherStem otherCycle : List ℕ) (n at otherAt i : ℕ) : Type 0 where
-  pub within : i ≤ n
-  pub first : at ≡ onto stem cycle i
-  pub second : otherAt ≡ onto otherStem otherCycle i
+-- the loop over the letters of two lassos that stands at i: each is at its position, and the letters before i agree
+pub record Following (stem cycle otherStem otherCycle : List ℕ) (at otherAt i : ℕ) : Type 0 where
+  pub first : Stands stem cycle at i
+  pub second : Stands otherStem otherCycle otherAt i
   pub so_far : agree (letter stem cycle) (letter otherStem otherCycle) i ≡ true
 
-module _ (stem cycle otherStem otherCycle : List ℕ) (n : ℕ) where
-  pub follow_begins : Following stem cycle otherStem otherCycle n 0 0 0
-  unfolding onto agree
-  follow_begins = record { within = omega arith; first = refl; second = refl; so_far = refl }
-
-  pub follow_steps : {at otherAt next otherNext : ℕ} (i : ℕ) → i < n
-      → Following stem cycle otherStem otherCycle n at otherAt i
-      → letter stem cycle i ≡ letter otherStem otherCycle i
-      → next ≡ after stem cycle at → otherNext ≡ after otherStem otherCycle otherAt
-      → Following stem cycle otherStem otherCycle n next otherNext (i + 1)
+module _ (stem cycle otherStem otherCycle : List ℕ) where
+  pub follow_begins : 0 < length cycle → 0 < length otherCycle → Following stem cycle otherStem otherCycle 0 0 0
   unfolding agree
-  follow_steps i lt inv same e f = record {
-    within = omega arith;
-    first = stands_next stem cycle i inv.first e;
-    second = stands_next otherStem otherCycle i inv.second f;
-    so_far = rw (add-one, inv.so_far) (eq-eqb _ _ same);
+  follow_begins some some-other = record {
+    first = stands_first stem cycle some;
+    second = stands_first otherStem otherCycle some-other;
+    so_far = refl;
   }
 
-  pub follow_ends : {at otherAt : ℕ} (i : ℕ) → n ≤ i → Following stem cycle otherStem otherCycle n at otherAt i
-      → true ≡ agree (letter stem cycle) (letter otherStem otherCycle) n
-  follow_ends i le inv =
-      let e : n ≡ i = omega (arith, inv.within) in
-      rw e (sym inv.so_far)
+  pub follow_differs : {at otherAt i : ℕ} (n : ℕ) → i < n → Following stem cycle otherStem otherCycle at otherAt i
+      → (letter stem cycle at ≡ letter otherStem otherCycle otherAt → ⊥)
+      → false ≡ agree (letter stem cycle) (letter otherStem otherCycle) n
+  follow_differs {i = i} n lt inv differ =
+      agree_not _ _ n i lt (λ same. differ (inv.first.reads ∙ same ∙ sym inv.second.reads))
+
+  pub follow_steps : {at otherAt next otherNext i : ℕ} → 0 < length cycle → 0 < length otherCycle
+      → Following stem cycle otherStem otherCycle at otherAt i
+      → letter stem cycle at ≡ letter otherStem otherCycle otherAt
+      → next ≡ after stem cycle at → otherNext ≡ after otherStem otherCycle otherAt
+      → Following stem cycle otherStem otherCycle next otherNext (i + 1)
+  unfolding agree
+  follow_steps some some-other inv same e f = record {
+    first = stands_next stem cycle some inv.first e;
+    second = stands_next otherStem otherCycle some-other inv.second f;
+    so_far = rw (add-one, inv.so_far) (eq-eqb _ _ (sym inv.first.reads ∙ same ∙ inv.second.reads));
+  }

@@ -2,4 +2,3 @@
 pub mod Agreement
 pub mod Periods
 pub mod Exactly
-pub mod Comparing

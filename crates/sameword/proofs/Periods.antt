@@ -4,13 +4,13 @@ use Prim.Native.Nat.{ℕ, zero, suc, ◌+◌, ◌-◌, ◌<◌, ◌≤◌, max}
 use mathlib.Core.Path.{◌≡◌, sym, ◌∙◌, ap}
 use mathlib.Core.List.{List}
 use mathlib.Core.Logic.{◌↔◌}
-use mathlib.Core.Bool.{Bool, true}
+use mathlib.Core.Bool.{true}
 use native.Mathlib.Omega.{arith}
 use native.Mathlib.Decide.{dec_lt}
 use lib.ListN.{length}
 use Rattle.lasso.specs.Lasso.{letter}
 use Rattle.lasso.proofs.Letters.{letter_round}
-use Rattle.sameword.specs.Words.{agree, SameWord, telling, words_agree}
+use Rattle.sameword.specs.Words.{SameWord, telling, words_agree}
 use Rattle.sameword.proofs.Agreement.{agree_each, each_agree}
 
 -- the words repeat from s on, with the periods p and q, and agree on the first s + p + q letters
@@ -62,10 +62,3 @@ module _ (stem cycle otherStem otherCycle : List ℕ) (some : 0 < length cycle) 
   words_agree_exactly =
       let n = telling stem cycle otherStem otherCycle in
       (λ e. agree_for_ever (agree_each _ _ n e), λ same. each_agree _ _ n (λ i lt. same i))
-
-  -- and a test of them says whether all do
-  pub told_exactly : {longer : ℕ} {r : Bool} → longer ≡ max (length stem) (length otherStem)
-      → r ≡ agree (letter stem cycle) (letter otherStem otherCycle) (longer + length cycle + length otherCycle)
-      → (r ≡ true) ↔ SameWord stem cycle otherStem otherCycle
-  unfolding words_agree
-  told_exactly e f = rw (f, e) words_agree_exactly

@@ -1,9 +1,7 @@
 -- Whether two lassos are one word, and so one plan that is written in two ways (02, R-6).
-use Rattle.std.specs.Prelude.{ℕ, zero, suc, ◌+◌, max, ◌≡◌, List, Bool, true, false, ◌&&◌, length, eqb}
+use Rattle.std.specs.Prelude.{ℕ, zero, suc, ◌+◌, max, ◌≡◌, List, Bool, true, ◌&&◌, length, eqb}
 use Rattle.answer.specs.Result.{Result, accepted, refused, and_then, Check, fine}
 use Rattle.lasso.specs.Lasso.{remaining, letter, lasso_check}
-use Rattle.sameword.specs.declared.Compared.{Compared}
-use Rattle.sameword.specs.declared.Compared.TheVariants.{Same, Different, Refused}
 
 -- the words of two lassos without skipped letters are one: their letters agree at each i (R-6, sentence 2)
 abbrev pub SameWord : (stem cycle otherStem otherCycle : List ℕ) → Type 0
@@ -45,9 +43,3 @@ module _ (stem cycle otherStem otherCycle : List ℕ) where
   compared =
       and_then lassos_check
       (λ _. accepted (words_agree (remaining stem) (remaining cycle) (remaining otherStem) (remaining otherCycle)))
-
--- what an answer says
-abbrev pub comparison : Compared → Result Bool
-comparison Same = accepted true
-comparison Different = accepted false
-comparison (Refused number place) = refused number place

@@ -1,5 +1,5 @@
--- The bits of a number: the laws of bit_or, bit_and and 2 ^ n over them, and the tests that the definitions make of them.
--- Assumes nothing.
+-- The bits of a number: the laws of bit_or, bit_and and 2 ^ n over them, and the tests that the definitions make of
+-- them. Assumes nothing.
 use Prim.Native.Nat.{ℕ, suc, ◌+◌, ◌-◌, ◌*◌, ◌/◌, ◌%◌, ◌^◌, ◌<◌, min, max}
 use mathlib.Core.Path.{◌≡◌, refl, sym, ◌∙◌, ap, subst}
 use mathlib.Core.Logic.{◌⊎◌, inl, inr}

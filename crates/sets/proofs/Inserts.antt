@@ -1,53 +1,76 @@
--- Inserting, begun at a place, and how long a list becomes.
--- Assumes nothing.
-use mathlib.Core.Path.{◌≡◌, refl, ap}
+-- Inserting: at which place it is, and how long a list becomes. Assumes nothing.
+use mathlib.Core.Path.{◌≡◌, refl, ap, ◌∙◌}
 use mathlib.Core.List.{List, [], ◌∷◌}
-use mathlib.Core.Bool.{Bool, true, false, cond}
-use Prim.Native.Nat.{ℕ, zero, suc, ◌+◌, ◌*◌, ◌≤◌, ◌<◌}
-use native.Mathlib.Nat.{not-suc-le-zero, le_of_suc-le-suc, suc-mul}
+use mathlib.Core.Bool.{Bool, true, false, cond, not}
+use Prim.Native.Nat.{ℕ, suc, ◌+◌, ◌*◌, ◌≤◌, ◌<◌}
+use native.Mathlib.Nat.{suc-mul}
 use native.Mathlib.Omega.{arith}
+use native.Mathlib.Decide.{dec_lt}
+use borrow.Author.Tests.{lt-ltb, le-ltb, lt-leb, le-leb}
+use lib.Dec.{leb}
+use Rattle.std.specs.List.{position_or_len}
 use lib.ListN.{length, get_or}
-use Rattle.sets.specs.Sets.{insert, union, insert_join, insert_joins, insert_product, insert_at}
+use Rattle.sets.specs.Sets.{insert, insert_n, union, insert_join, insert_joins, insert_product, insert_at}
+
+pub position_within : (test : ℕ → Bool) (xs : List ℕ) → position_or_len test xs ≤ length xs
+position_within test [] = omega arith
+position_within test (x ∷ xs) = go (test x) (position_within test xs)
+  where
+    go : (b : Bool) → position_or_len test xs ≤ length xs
+        → cond (not b) (1 + position_or_len test xs) 0 ≤ suc (length xs)
+    go true ih = omega arith
+    go false ih = omega arith
+
+-- the first number of a list that is not below t, at its place i, or the place behind the last: t itself is a member
+-- already, else it belongs there
+module _ (t : ℕ) where
+  pub insert_found : (ws : List ℕ) (i : ℕ) → i ≡ position_or_len (leb t) ws → i < length ws → get_or ws i 0 ≡ t
+      → insert_n t ws ≡ ws
+  unfolding insert
+  insert_found [] i e lt same = absurd (omega arith)
+  insert_found (x ∷ xs) i e lt same = go (dec_lt x t) (insert_found xs (position_or_len (leb t) xs) refl)
+    where
+      rest : ℕ
+      rest = position_or_len (leb t) xs
+
+      go : Dec (x < t) → (rest < length xs → get_or xs rest 0 ≡ t → insert_n t xs ≡ xs)
+          → insert_n t (x ∷ xs) ≡ x ∷ xs
+      go (yes l) ih =
+          let next : i ≡ suc rest = e ∙ rw (lt-leb t x l) (omega arith) in
+          let on : get_or xs rest 0 ≡ t = rw next at same in
+          rw (le-ltb t x (omega arith), lt-ltb x t l)
+          (ap (λ (r : List ℕ). x ∷ r) (ih (omega arith) on))
+      go (no l) ih =
+          let here : i ≡ 0 = e ∙ rw (le-leb t x (omega arith)) in
+          let is : x ≡ t = rw here at same in
+          rw (le-ltb t x (omega arith), le-ltb x t (omega arith))
+
+  pub insert_absent : (ws : List ℕ) (i : ℕ) → i ≡ position_or_len (leb t) ws
+      → (i < length ws → get_or ws i 0 ≡ t → ⊥) → insert_n t ws ≡ insert_at i t ws
+  unfolding insert insert_at
+  insert_absent [] i e other = rw e
+  insert_absent (x ∷ xs) i e other = go (dec_lt x t) (insert_absent xs (position_or_len (leb t) xs) refl)
+    where
+      rest : ℕ
+      rest = position_or_len (leb t) xs
+
+      go : Dec (x < t) → ((rest < length xs → get_or xs rest 0 ≡ t → ⊥) → insert_n t xs ≡ insert_at rest t xs)
+          → insert_n t (x ∷ xs) ≡ insert_at i t (x ∷ xs)
+      go (yes l) ih =
+          let next : i ≡ suc rest = e ∙ rw (lt-leb t x l) (omega arith) in
+          rw (next, le-ltb t x (omega arith), lt-ltb x t l)
+          (ap (λ (r : List ℕ). x ∷ r) (ih (λ lt same. other (omega arith) (rw next same))))
+      go (no l) ih =
+          let here : i ≡ 0 = e ∙ rw (le-leb t x (omega arith)) in
+          here_in here (dec_lt t x)
+        where
+          here_in : i ≡ 0 → Dec (t < x) → insert_n t (x ∷ xs) ≡ insert_at i t (x ∷ xs)
+          here_in here (yes m) = rw (here, lt-ltb t x m)
+          here_in here (no m) =
+              let same : x ≡ t = omega arith in
+              absurd (other (omega arith) (rw here same))
 
 module _ {A : Type 0} (less : A → A → Bool) where
-  -- what stands before i stays, and t is inserted after
-  unfoldable pub from : ℕ → A → List A → List A
-  from zero t xs = insert less t xs
-  from (suc i) t [] = insert less t []
-  from (suc i) t (x ∷ xs) = x ∷ from i t xs
-
-  pub from_zero : (t : A) (xs : List A) → from zero t xs ≡ insert less t xs
-  unfolding from
-  from_zero t xs = refl
-
-  pub from_more : (i : ℕ) (t d : A) (xs : List A) → i < length xs → less t (get_or xs i d) ≡ false
-      → less (get_or xs i d) t ≡ true → from (suc i) t xs ≡ from i t xs
-  unfolding from insert
-  from_more i t d [] lt e f = absurd (not-suc-le-zero lt)
-  from_more zero t d (x ∷ xs) lt e f = rw (e, f)
-  from_more (suc i) t d (x ∷ xs) lt e f = ap {B = List A} (λ r. x ∷ r) (from_more i t d xs (le_of_suc-le-suc lt) e f)
-
-  pub from_less : (i : ℕ) (t d : A) (xs : List A) → i < length xs → less t (get_or xs i d) ≡ true
-      → from i t xs ≡ insert_at i t xs
-  unfolding from insert insert_at
-  from_less i t d [] lt e = absurd (not-suc-le-zero lt)
-  from_less zero t d (x ∷ xs) lt e = rw e
-  from_less (suc i) t d (x ∷ xs) lt e = ap {B = List A} (λ r. x ∷ r) (from_less i t d xs (le_of_suc-le-suc lt) e)
-
-  pub from_same : (i : ℕ) (t d : A) (xs : List A) → i < length xs → less t (get_or xs i d) ≡ false
-      → less (get_or xs i d) t ≡ false → from i t xs ≡ xs
-  unfolding from insert
-  from_same i t d [] lt e f = absurd (not-suc-le-zero lt)
-  from_same zero t d (x ∷ xs) lt e f = rw (e, f)
-  from_same (suc i) t d (x ∷ xs) lt e f = ap {B = List A} (λ r. x ∷ r) (from_same i t d xs (le_of_suc-le-suc lt) e f)
-
-  pub from_end : (n : ℕ) (t : A) (xs : List A) → length xs ≡ n → from n t xs ≡ insert_at n t xs
-  unfolding from insert insert_at
-  from_end zero t [] e = refl
-  from_end zero t (x ∷ xs) e = absurd (omega arith)
-  from_end (suc n) t [] e = absurd (omega arith)
-  from_end (suc n) t (x ∷ xs) e = ap {B = List A} (λ r. x ∷ r) (from_end n t xs (omega arith))
-
   -- no element is lost
   pub insert_longer : (t : A) (xs : List A) → length xs ≤ length (insert less t xs)
   unfolding insert

@@ -2,12 +2,13 @@
 -- Assumes nothing.
 use native.Mathlib.Omega.{arith}
 use native.Mathlib.Numerals.{add-one}
-use mathlib.Core.Path.{◌≡◌, sym, ◌∙◌}
+use mathlib.Core.Path.{◌≡◌, refl, sym, ◌∙◌}
 use mathlib.Core.Bool.{Bool, true, false, ◌||◌}
-use mathlib.Core.List.{List}
+use mathlib.Core.List.{List, [], ◌∷◌}
 use Prim.Native.Nat.{ℕ, suc, ◌+◌, ◌≤◌, ◌<◌}
 use lib.ListN.{length, get_or, drop, drop_of_length-le}
 use lib.Seq.{drop-cons}
+use Rattle.std.specs.List.{list_any}
 use Rattle.sets.specs.Sets.{any}
 
 -- a search among items that stands at i: the test's answer is that of the rest
@@ -30,3 +31,9 @@ module _ {A : Type 0} (none : A) (test : A → Bool) (items : List A) (i : ℕ) 
   pub seek_ends : length items ≤ i → false ≡ any test items
   unfolding any
   seek_ends ge = sym (inv.rest ∙ rw (drop_of_length-le items {i = i} ge))
+
+-- the standard library's search asks the same
+pub list_any_is : {A : Type 0} (test : A → Bool) (xs : List A) → list_any test xs ≡ any test xs
+unfolding any
+list_any_is test [] = refl
+list_any_is test (x ∷ xs) = rw (list_any_is test xs)

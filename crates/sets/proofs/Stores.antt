@@ -1,17 +1,21 @@
--- When the first places of a slice store a set, and what a search and a shift make of them.
--- Assumes nothing.
-use mathlib.Core.Path.{◌≡◌, refl, sym, ap, ◌∙◌}
+-- When the first places of a slice store a set, and what a search and a shift make of them. Assumes nothing.
+use mathlib.Core.Path.{◌≡◌, refl, sym, ◌∙◌}
 use mathlib.Core.List.{List, [], ◌∷◌}
 use Prim.Native.Nat.{ℕ, suc, ◌+◌, ◌≤◌, ◌<◌}
 use native.Mathlib.Numerals.{add-one}
 use native.Mathlib.Omega.{arith}
-use lib.ListN.{length, get_or, take, set, length-take, length-set}
-use lib.Dec.{ltb}
+use lib.ListN.{length, get_or, take, length-take}
+use lib.Dec.{ltb, leb}
+use mathlib.Core.Bool.{cond}
+use native.Mathlib.Decide.{dec_lt}
+use Rattle.std.proofs.Common.{Option, Some, None}
+use Rattle.std.specs.Option.{unwrap_or}
+use Rattle.std.specs.List.{position_or_len}
 use lib.Seq.{get_or-take, length-take-le}
 use borrow.Author.Tests.{lt-ltb, le-ltb}
 use Rattle.sets.specs.Sets.{Stores, Updates, insert_n, insert_at}
-use Rattle.sets.proofs.Lists.{put_last, take_put, length_put}
-use Rattle.sets.proofs.Inserts.{from, from_more, from_less, from_same, from_end, insert_longer}
+use Rattle.sets.proofs.Lists.{length_put}
+use Rattle.sets.proofs.Inserts.{insert_longer, insert_found, insert_absent, position_within}
 
 -- no room for one more
 pub full : (xs : List ℕ) (n i t r : ℕ) → n ≡ length xs → r ≡ suc (length xs) → Stores xs r (insert_at i t (take n xs))
@@ -19,50 +23,12 @@ full xs n i t r e q =
     let m : length (insert_at i t (take n xs)) ≡ suc n = simp (length_put, length-take) (omega arith) in
     record { count = omega arith; items = λ le. absurd (omega arith) }
 
--- the last one in
-pub shifted : (xs ys : List ℕ) (n i t h : ℕ) → i ≤ n → n < length xs → length ys ≡ length xs
-    → insert_at n h ys ≡ insert_at i t xs → Stores (set ys n h) (n + 1) (insert_at i t (take n xs))
-shifted xs ys n i t h le lt l e =
+-- the first n + 1 places have t at i
+pub shifted : (xs ys : List ℕ) (n i t : ℕ) → n < length xs → length ys ≡ length xs
+    → take (suc n) ys ≡ insert_at i t (take n xs) → Stores ys (n + 1) (insert_at i t (take n xs))
+shifted xs ys n i t lt size e =
     let k : length (insert_at i t (take n xs)) ≡ n + 1 = simp (length_put, length-take) (omega arith) in
-    let m : length (set ys n h) ≡ length xs = simp length-set l in
-    record {
-      count = omega arith;
-      items = λ _. rw add-one (put_last ys n h (omega arith) ∙ ap (take (suc n)) e ∙ take_put i n t xs le);
-    }
-
--- a search that stands at i: every number before i is below t
-pub record Searching (xs : List ℕ) (n t : ℕ) (ys : List ℕ) (i : ℕ) : Type 0 where
-  pub same : ys ≡ xs
-  pub within : i ≤ n
-  pub fits : n ≤ length ys
-  pub place : from ltb i t (take n ys) ≡ insert_n t (take n ys)
-
--- one step of the search for the place of t among the first n of xs
-module _ (xs : List ℕ) (n t i : ℕ) (lt : i < n) (le : n ≤ length xs)
-    (inv : from ltb i t (take n xs) ≡ insert_n t (take n xs)) where
-  inside : i < length (take n xs)
-  inside = rw (length-take-le n xs le) lt
-
-  at : get_or (take n xs) i 0 ≡ get_or xs i 0
-  at = get_or-take n xs i 0 lt
-
-  pub less_in : t < get_or xs i 0 → insert_n t (take n xs) ≡ insert_at i t (take n xs)
-  less_in q = sym inv ∙ from_less ltb i t 0 (take n xs) inside (rw at (lt-ltb _ _ q))
-
-  pub same_in : t ≡ get_or xs i 0 → insert_n t (take n xs) ≡ take n xs
-  same_in q =
-      sym inv
-      ∙ from_same ltb i t 0 (take n xs) inside (rw at (le-ltb t (get_or xs i 0) (omega arith)))
-      (rw at (le-ltb (get_or xs i 0) t (omega arith)))
-
-  pub more_in : get_or xs i 0 < t → from ltb (i + 1) t (take n xs) ≡ insert_n t (take n xs)
-  more_in q =
-      rw add-one (from_more ltb i t 0 (take n xs) inside (rw at (le-ltb t (get_or xs i 0) (omega arith)))
-      (rw at (lt-ltb _ _ q)) ∙ inv)
-
-pub end_in : (xs : List ℕ) (n t i : ℕ) → i ≡ n → n ≤ length xs → from ltb i t (take n xs) ≡ insert_n t (take n xs)
-    → insert_n t (take n xs) ≡ insert_at n t (take n xs)
-end_in xs n t i e le inv = sym inv ∙ rw e (from_end ltb n t (take n xs) (length-take-le n xs le))
+    record { count = omega arith; items = λ _. rw add-one e }
 
 -- a count above the room stays
 pub over_in : (xs : List ℕ) (n t : ℕ) → length xs < n → Updates xs n xs n (insert_n t)
@@ -88,6 +54,41 @@ pub self : (xs : List ℕ) (n : ℕ) → n ≤ length xs → Stores xs n (take n
 self xs n le =
     let m = length-take-le n xs le in
     record { count = omega arith; items = λ _. refl }
+
+-- ---- a search among the first n numbers for one that is not below t; its place is i, or i is n where there is none
+
+module _ (xs : List ℕ) (n t : ℕ) (r : Option ℕ) (le : n ≤ length xs)
+    (first : r ≡ cond (ltb (position_or_len (leb t) (take n xs)) (length (take n xs)))
+    (Some (position_or_len (leb t) (take n xs))) None) {i : ℕ} (is : i ≡ unwrap_or r n) where
+  all : length (take n xs) ≡ n
+  all = length-take-le n xs le
+
+  place : i ≡ position_or_len (leb t) (take n xs)
+  place = go (dec_lt p n)
+    where
+      p : ℕ
+      p = position_or_len (leb t) (take n xs)
+
+      go : Dec (p < n) → i ≡ p
+      go (yes l) = is ∙ rw (first, all, lt-ltb p n l)
+      go (no l) =
+          let within : p ≤ length (take n xs) = position_within (leb t) (take n xs) in
+          is ∙ rw (first, all, le-ltb p n (omega arith)) (omega (arith, all))
+
+  at : i < n → get_or (take n xs) i 0 ≡ get_or xs i 0
+  at l = get_or-take n xs i 0 l
+
+  pub found_in : i < n → get_or xs i 0 ≡ t → Updates xs n xs n (insert_n t)
+  found_in l same =
+      lift_in xs xs _ n n t le (insert_found t (take n xs) i place (omega (arith, all)) (at l ∙ same)) (self xs n le)
+
+  pub absent_in : (i < n → get_or xs i 0 ≡ t → ⊥) → {ys : List ℕ} {m : ℕ} → Stores ys m (insert_at i t (take n xs))
+      → Updates xs n ys m (insert_n t)
+  absent_in other stored =
+      lift_in xs _ _ n _ t le
+      (insert_absent t (take n xs) i place
+      (λ l e. let lt : i < n = omega (arith, all) in other lt (sym (at lt) ∙ e)))
+      stored
 
 pub empty : (xs : List ℕ) → Stores xs 0 []
 empty xs = record { count = omega arith; items = λ _. refl }

@@ -18,44 +18,31 @@ pub struct Joined {
 }
 
 // t at place i, and what stood there and after it one place on.
-fn insert_at(items: &mut [u64], n: usize, i: usize, t: u64) -> usize
-    requires { (i ≤ n) × (n ≤ length items.old) }
-    ensures { Stores items.new result (insert_at i t (take n items.old)) }
+fn insert_at(items: &mut [u64], count: usize, i: usize, t: u64) -> usize
+    requires { (i ≤ count) × (count ≤ length items.old) }
+    ensures { Stores items.new result (insert_at i t (take count items.old)) }
 {
-    if items.len() <= n {
+    if items.len() <= count {
         return items.len() + 1;
     }
-    let mut hold = t;
-    let mut j = i;
-    while j < n {
-        let y = items[j];
-        items[j] = hold;
-        hold = y;
-        j += 1;
-    }
-    items[n] = hold;
-    n + 1
+    items.copy_within(i..count, i + 1);
+    items[i] = t;
+    count + 1
 }
 
 // The set with t.
 pub fn insert(items: &mut [u64], count: usize, t: u64) -> usize
     ensures { Updates items.old count items.new result (insert_n t) }
 {
+    // more members than places: the count stays, since callers are promised it whatever they insert after that
     if items.len() < count {
         return count;
     }
-    let mut i = 0;
-    while i < count {
-        let y = items[i];
-        if t < y {
-            return insert_at(items, count, i, t);
-        }
-        if t == y {
-            return count;
-        }
-        i += 1;
+    let i = items[..count].iter().position(|y| t <= *y).unwrap_or(count);
+    if i < count && items[i] == t {
+        return count;
     }
-    insert_at(items, count, count, t)
+    insert_at(items, count, i, t)
 }
 
 // The bits that the two lowest bytes share: a packed term has these propositions in must and in must_not.
@@ -70,80 +57,59 @@ fn insert_join(items: &mut [u64], count: usize, x: u64, y: u64) -> Joined
     ensures { Joins items.old count items.new result (insert_join_n x y) (conflict_n (bit_or x y)) }
 {
     let t = x | y;
-    let shared = conflict(t);
-    if shared == 0 {
-        return Joined {
-            count: insert(items, count, t),
-            conflicts: 0,
-        };
-    }
-    Joined {
-        count: count,
-        conflicts: shared,
-    }
+    let conflicts = conflict(t);
+    let count = if conflicts == 0 {
+        insert(items, count, t)
+    } else {
+        count
+    };
+    Joined { count, conflicts }
 }
 
-// The set with the joins of x and each of the first ny of ys, and the bits for which some of them is dropped.
-fn insert_joins(items: &mut [u64], count: usize, x: u64, ys: &[u64], ny: usize) -> Joined
-    requires { ny ≤ length ys.now }
+// The set with the joins of x and each of ys, and the bits for which some of them is dropped.
+fn insert_joins(items: &mut [u64], count: usize, x: u64, ys: &[u64]) -> Joined
     ensures { Joins items.old count items.new result
-        (insert_joins_n x (take ny ys.now)) (join_conflicts_n x (take ny ys.now)) }
+        (insert_joins_n x ys.now) (join_conflicts_n x ys.now) }
 {
     let mut n = count;
-    let mut conflicts = 0u8;
-    let mut j = ny;
-    while 0 < j {
-        j -= 1;
-        let joined = insert_join(items, n, x, ys[j]);
+    let mut conflicts = 0;
+    for y in ys.iter().rev() {
+        let joined = insert_join(items, n, x, *y);
         n = joined.count;
-        conflicts = joined.conflicts | conflicts;
+        conflicts |= joined.conflicts;
     }
     Joined {
         count: n,
-        conflicts: conflicts,
+        conflicts,
     }
 }
 
-// The set with all joins of one of the first nx of xs and one of the first ny of ys, and the bits for which some of them
-// is dropped.
-pub fn product(
-    items: &mut [u64],
-    count: usize,
-    xs: &[u64],
-    nx: usize,
-    ys: &[u64],
-    ny: usize,
-) -> Joined
-    requires { (nx ≤ length xs.now) × (ny ≤ length ys.now) }
+// The set with all joins of one of xs and one of ys, and the bits for which some of them is dropped.
+pub fn product(items: &mut [u64], count: usize, xs: &[u64], ys: &[u64]) -> Joined
     ensures { Joins items.old count items.new result
-        (insert_product_n (take nx xs.now) (take ny ys.now))
-        (product_conflicts_n (take nx xs.now) (take ny ys.now)) }
+        (insert_product_n xs.now ys.now)
+        (product_conflicts_n xs.now ys.now) }
 {
     let mut n = count;
-    let mut conflicts = 0u8;
-    let mut i = nx;
-    while 0 < i {
-        i -= 1;
-        let joined = insert_joins(items, n, xs[i], ys, ny);
+    let mut conflicts = 0;
+    for x in xs.iter().rev() {
+        let joined = insert_joins(items, n, *x, ys);
         n = joined.count;
-        conflicts = joined.conflicts | conflicts;
+        conflicts |= joined.conflicts;
     }
     Joined {
         count: n,
-        conflicts: conflicts,
+        conflicts,
     }
 }
 
-// The set with each of the first nx of xs.
-pub fn union(items: &mut [u64], count: usize, xs: &[u64], nx: usize) -> usize
-    requires { nx ≤ length xs.now }
-    ensures { Updates items.old count items.new result (union_n (take nx xs.now)) }
+// The set with each of xs.
+pub fn union(items: &mut [u64], count: usize, xs: &[u64]) -> usize
+    ensures { Updates items.old count items.new result (union_n xs.now) }
 {
     let mut n = count;
-    let mut i = nx;
-    while 0 < i {
-        i -= 1;
-        n = insert(items, n, xs[i]);
+    for x in xs.iter().rev() {
+        n = insert(items, n, *x);
     }
     n
 }

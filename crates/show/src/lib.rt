@@ -5,11 +5,11 @@ ghost use Rattle.std.specs.Prelude.{◌≡◌, ◌≤◌, ◌<◌, length, IfOk}
 ghost use Rattle.automaton.specs.Limits.{max_transitions};
 ghost use Rattle.show.specs.Shown.{digit, label, row_end};
 
-use answer::number_of;
+use answer::{Refusal, number_at};
 use automaton::{INITIAL_BYTES, MAX_TRANSITIONS, STATES_BYTES, TRANSITIONS_BYTES};
 use std::io;
 use std::io::{Read, Write};
-use translation::Translated;
+use translation::{Translated, translate};
 
 // Reads until the buffer is full or the input ends; how many bytes.
 pub fn read_full<R: Read>(input: &mut R, buffer: &mut [u8]) -> io::Result<usize>
@@ -24,19 +24,6 @@ pub fn read_full<R: Read>(input: &mut R, buffer: &mut [u8]) -> io::Result<usize>
         n += got;
     }
     Ok(n)
-}
-
-pub fn print<W: Write>(out: &mut W, text: &[u8]) -> io::Result<()> {
-    out.write_all(text)
-}
-
-fn print_number<W: Write>(out: &mut W, n: usize) -> io::Result<()> {
-    write!(out, "{n}")
-}
-
-// `refused N place P`
-pub fn print_refusal<W: Write>(out: &mut W, number: u8, place: usize) -> io::Result<()> {
-    writeln!(out, "refused {number} place {place}")
 }
 
 // A hexadecimal digit, a capital above 9.
@@ -61,31 +48,14 @@ fn label(must: u8, must_not: u8) -> [u8; 6]
     ]
 }
 
-// The label, then the target.
-fn print_transition<W: Write>(
-    out: &mut W,
-    must: u8,
-    must_not: u8,
-    target: usize,
-) -> io::Result<()> {
-    let shown = label(must, must_not);
-    print(out, &shown)?;
-    print_number(out, target)?;
-    print(out, b"\n")
-}
-
-// Transition record k.
+// Transition record k: its label, then its target.
 fn print_record<W: Write>(out: &mut W, transitions: &[u8], k: usize) -> io::Result<()> {
     if transitions.len() / 4 <= k {
         return Ok(());
     }
     let at = k * 4;
-    print_transition(
-        out,
-        transitions[at],
-        transitions[at + 1],
-        number_of(transitions[at + 2], transitions[at + 3]),
-    )
+    out.write_all(&label(transitions[at], transitions[at + 1]))?;
+    writeln!(out, "{}", number_at(transitions, at + 2))
 }
 
 // Transition records from `from` on, count of them.
@@ -97,29 +67,14 @@ fn print_transitions<W: Write>(
 ) -> io::Result<()>
     requires { (from ≤ max_transitions) × (count ≤ 65535) }
 {
-    let mut i = 0;
-    while i < count {
+    for i in 0..count {
         print_record(out, transitions, from + i)?;
-        i += 1;
     }
     Ok(())
 }
 
-// A state's number, kind and transition count.
-fn print_state<W: Write>(
-    out: &mut W,
-    number: usize,
-    accepting: u8,
-    count: usize,
-) -> io::Result<()> {
-    if accepting == 1 {
-        writeln!(out, "state {number} accepting {count}")
-    } else {
-        writeln!(out, "state {number} plain {count}")
-    }
-}
-
 // State record i and its transitions, which begin at `from`; where they end.
+#[tactic(auto, unfolding(crate::specs::Shown::row_end))]
 fn print_row<W: Write>(
     out: &mut W,
     states: &[u8],
@@ -129,15 +84,17 @@ fn print_row<W: Write>(
 ) -> io::Result<usize>
     ensures { IfOk result (λ end. end ≡ row_end states.now i from) }
 {
-    if MAX_TRANSITIONS < from {
-        return Ok(from);
-    }
-    if states.len() / 4 <= i {
+    if MAX_TRANSITIONS < from || states.len() / 4 <= i {
         return Ok(from);
     }
     let at = i * 4;
-    let count = number_of(states[at], states[at + 1]);
-    print_state(out, i, states[at + 2], count)?;
+    let count = number_at(states, at);
+    let kind = if states[at + 2] == 1 {
+        "accepting"
+    } else {
+        "plain"
+    };
+    writeln!(out, "state {i} {kind} {count}")?;
     print_transitions(out, transitions, from, count)?;
     Ok(from + count)
 }
@@ -150,10 +107,8 @@ fn print_rows<W: Write>(
     transitions: &[u8],
 ) -> io::Result<()> {
     let mut from = 0;
-    let mut i = 0;
-    while i < n {
+    for i in 0..n {
         from = print_row(out, states, i, transitions, from)?;
-        i += 1;
     }
     Ok(())
 }
@@ -161,22 +116,18 @@ fn print_rows<W: Write>(
 // The answer of translate, with the tables that it filled.
 fn print_translated<W: Write>(
     out: &mut W,
-    answer: Translated,
+    answer: Result<Translated, Refusal>,
     states: &[u8],
     transitions: &[u8],
 ) -> io::Result<()> {
     match answer {
-        Translated::Accepted(counts, _) => {
-            print(out, b"states ")?;
-            print_number(out, counts.states)?;
-            print(out, b" initial ")?;
-            print_number(out, counts.initial)?;
-            print(out, b" transitions ")?;
-            print_number(out, counts.transitions)?;
-            print(out, b"\n")?;
-            print_rows(out, states, counts.states, transitions)
+        Ok(translated) => {
+            let counts = translated.counts;
+            let (n, initial, total) = (counts.states, counts.initial, counts.transitions);
+            writeln!(out, "states {n} initial {initial} transitions {total}")?;
+            print_rows(out, states, n, transitions)
         }
-        Translated::Refused(number, place) => print_refusal(out, number, place),
+        Err(refusal) => writeln!(out, "{refusal}"),
     }
 }
 
@@ -185,6 +136,6 @@ pub fn show_rule<W: Write>(out: &mut W, rule: &[u8]) -> io::Result<()> {
     let mut states = [0u8; STATES_BYTES];
     let mut transitions = [0u8; TRANSITIONS_BYTES];
     let mut initial = [0u8; INITIAL_BYTES];
-    let answer = translation::translate(rule, &mut states, &mut transitions, &mut initial);
+    let answer = translate(rule, &mut states, &mut transitions, &mut initial);
     print_translated(out, answer, &states, &transitions)
 }

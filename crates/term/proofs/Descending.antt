@@ -15,11 +15,11 @@ use Rattle.formula.proofs.Accepted.{accepted_fine}
 use Rattle.term.specs.declared.Terms.{Terms}
 use Rattle.term.specs.Limits.{max_terms}
 use Rattle.term.specs.Term.{terms, cover, conflicts}
-use Rattle.term.specs.Size.{size_check, sizes_checked, Ready}
+use Rattle.term.specs.Size.{size_check, sizes_checked}
 use Rattle.term.specs.Memory.{IsPacked, IsTerms, IsCover, pack, pack_set, FromChildren}
 use Rattle.term.specs.Memory.{Over, Found, FoundTerms, FoundCover, FoundConflicts}
 use Rattle.term.proofs.ByKind.{of_next}
-use Rattle.term.proofs.Sizes.{ready_in_range, left_lower, right_lower, of_pair, bytes_fine}
+use Rattle.term.proofs.Sizes.{Ready, ready_in_range, left_lower, right_lower, of_pair, bytes_fine}
 use Rattle.term.proofs.Sizes.{sizes_fine, over_above, over_many}
 
 module _ (rule : List ℕ) (n : ℕ) where

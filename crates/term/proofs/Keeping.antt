@@ -88,14 +88,6 @@ module _ (before : List ℕ) (n : ℕ) (ts : Terms) (room : suc n * row_places �
   counted_size : length (counted before n ts) ≡ length before
   counted_size = length-set before (n * row_places) ts.count
 
-  pub store_over : max_terms < ts.count → StoresRow before n ts (counted before n ts)
-  store_over lt = record {
-    size = counted_size;
-    count = first_stored;
-    items = λ le. absurd (omega arith);
-    others = others_kept;
-  }
-
   module _ (few : ts.count ≤ max_terms) (full : length ts.items ≡ max_terms) (from : ℕ)
       (is : from ≡ suc (n * row_places)) where
     wider : (i : ℕ) → (i < n * row_places) ⊎ (suc n * row_places ≤ i) → (i < from) ⊎ (from + ts.count ≤ i)

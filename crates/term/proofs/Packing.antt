@@ -52,7 +52,8 @@ module _ {A : Type 0} {less : A → A → Bool} {joined : A → A → A} {consis
       rw (packs.orders x y g h, packs.orders y x h g) (go (less x y) (less y x) (insert_numbers x g r))
     where
       go : (b c : Bool) → Numbers (insert less x xs) (insert_n (number x) ns)
-          → Numbers (cond b (x ∷ (y ∷ xs)) (cond c (y ∷ insert less x xs) (y ∷ xs))) (cond b (number x ∷ (number y ∷ ns)) (cond c (number y ∷ insert_n (number x) ns) (number y ∷ ns)))
+          → Numbers (cond b (x ∷ (y ∷ xs)) (cond c (y ∷ insert less x xs) (y ∷ xs)))
+          (cond b (number x ∷ (number y ∷ ns)) (cond c (number y ∷ insert_n (number x) ns) (number y ∷ ns)))
       go true c ih = more x g (more y h r)
       go false true ih = more y h ih
       go false false ih = more y h r
@@ -242,28 +243,35 @@ terms_numbers (release n a b) m =
     (union_numbers of_terms (terms_numbers a m.0) (own_numbers (2 ^ n))))
 
 module _ (n : ℕ) (a b : Formula) (ma : InRange a) (mb : InRange b) where
-  pub pack_conjunction : map pack (product (terms a) (terms b)) ≡ insert_product_n (map pack (terms a)) (map pack (terms b)) []
+  pub pack_conjunction : map pack (product (terms a) (terms b))
+      ≡ insert_product_n (map pack (terms a)) (map pack (terms b)) []
   pack_conjunction = sym (numbers_are of_terms (product_numbers of_terms (terms_numbers a ma) (terms_numbers b mb)))
 
   pub pack_disjunction : map pack (union less (terms a) (terms b)) ≡ union_n (map pack (terms a)) (map pack (terms b))
   pack_disjunction = sym (numbers_are of_terms (union_numbers of_terms (terms_numbers a ma) (terms_numbers b mb)))
 
-  pub pack_until : map pack (union less (terms b) (product (terms a) (term 0 0 (2 ^ n) ∷ []))) ≡ union_n (map pack (terms b)) (insert_product_n (map pack (terms a)) (pack_set (2 ^ n) ∷ []) [])
+  pub pack_until : map pack (union less (terms b) (product (terms a) (term 0 0 (2 ^ n) ∷ [])))
+      ≡ union_n (map pack (terms b)) (insert_product_n (map pack (terms a)) (pack_set (2 ^ n) ∷ []) [])
   pack_until =
       sym (numbers_are of_terms (union_numbers of_terms (terms_numbers b mb)
       (product_numbers of_terms (terms_numbers a ma) (own_numbers (2 ^ n)))))
 
-  pub pack_release : map pack (product (terms b) (union less (terms a) (term 0 0 (2 ^ n) ∷ []))) ≡ insert_product_n (map pack (terms b)) (union_n (map pack (terms a)) (pack_set (2 ^ n) ∷ [])) []
+  pub pack_release : map pack (product (terms b) (union less (terms a) (term 0 0 (2 ^ n) ∷ [])))
+      ≡ insert_product_n (map pack (terms b)) (union_n (map pack (terms a)) (pack_set (2 ^ n) ∷ [])) []
   pack_release =
       sym (numbers_are of_terms (product_numbers of_terms (terms_numbers b mb)
       (union_numbers of_terms (terms_numbers a ma) (own_numbers (2 ^ n)))))
 
-  pub conflicts_conjunction : product_conflicts_n (map pack (terms a)) (map pack (terms b)) ≡ conflicts_between (terms a) (terms b)
+  pub conflicts_conjunction : product_conflicts_n (map pack (terms a)) (map pack (terms b))
+      ≡ conflicts_between (terms a) (terms b)
   conflicts_conjunction = conflicts_numbers (terms_numbers a ma) (terms_numbers b mb)
 
-  pub conflicts_until : product_conflicts_n (map pack (terms a)) (pack_set (2 ^ n) ∷ []) ≡ conflicts_between (terms a) (term 0 0 (2 ^ n) ∷ [])
+  pub conflicts_until : product_conflicts_n (map pack (terms a)) (pack_set (2 ^ n) ∷ [])
+      ≡ conflicts_between (terms a) (term 0 0 (2 ^ n) ∷ [])
   conflicts_until = conflicts_numbers (terms_numbers a ma) (own_numbers (2 ^ n))
 
-  pub conflicts_release : product_conflicts_n (map pack (terms b)) (union_n (map pack (terms a)) (pack_set (2 ^ n) ∷ [])) ≡ conflicts_between (terms b) (union less (terms a) (term 0 0 (2 ^ n) ∷ []))
+  pub conflicts_release :
+      product_conflicts_n (map pack (terms b)) (union_n (map pack (terms a)) (pack_set (2 ^ n) ∷ []))
+      ≡ conflicts_between (terms b) (union less (terms a) (term 0 0 (2 ^ n) ∷ []))
   conflicts_release =
       conflicts_numbers (terms_numbers b mb) (union_numbers of_terms (terms_numbers a ma) (own_numbers (2 ^ n)))

@@ -1,6 +1,6 @@
 -- A node that a descent may begin at, and number 20 by the sizes of its terms and of its cover.
 -- Assumes nothing.
-use mathlib.Core.Path.{◌≡◌, refl}
+use mathlib.Core.Path.{◌≡◌, refl, ◌∙◌}
 use mathlib.Core.List.{List}
 use mathlib.Core.Bool.{Bool, true, false, ◌&&◌}
 use Prim.Native.Nat.{ℕ, suc, ◌≤◌, ◌<◌}
@@ -8,17 +8,17 @@ use native.Mathlib.Omega.{arith}
 use lib.ListN.{length}
 use lib.Dec.{leb}
 use borrow.Author.Tests.{leb-true, le-leb}
-use Rattle.answer.specs.Result.{fine, refused, require, lowest}
+use Rattle.answer.specs.Result.{passes, fine, refused, require, lowest}
 use Rattle.formula.specs.Limits.{max_nodes}
 use Rattle.formula.specs.Rule.{node_count, root, kind_at, left_at, right_at}
 use Rattle.formula.specs.Rule
 use Rattle.formula.specs.Formula.{Formula, build, tree, InRange}
-use Rattle.answer.proofs.Lowest.{not_fine, fine_first, fine_second, lowest_each, lowest_below}
+use Rattle.answer.proofs.Lowest.{not_fine, fine_first, fine_second, lowest_each, lowest_below, passes_fine}
 use Rattle.formula.proofs.Accepted.{Node, accepted_fine}
 use Rattle.formula.proofs.Trees.{left_below, right_below, leaf_in, pair_in, tree_in_range}
 use Rattle.term.specs.Limits.{max_terms}
 use Rattle.term.specs.Term.{terms, cover}
-use Rattle.term.specs.Size.{size_check, sizes_checked, Ready}
+use Rattle.term.specs.Size.{size_check, sizes_checked}
 use Rattle.term.specs.Memory.{Over}
 
 pub record Few (rule : List ℕ) (k : ℕ) : Type 0 where
@@ -50,21 +50,30 @@ fine_few rule k few =
           few.cover,
     )
 
+-- node n of a rule that 1 to 7 let pass
+pub record Ready (rule : List ℕ) (n : ℕ) : Type 0 where
+  pub accepted : Rule.checked rule ≡ fine
+  pub inside : n < node_count rule
+
+-- of a rule that is known to pass, as `Rule` has it
+pub ready_node : {rule : List ℕ} {n : ℕ} → passes (Rule.checked rule) ≡ true → n < node_count rule → Ready rule n
+ready_node passed inside = record { accepted = passes_fine _ passed; inside = inside }
+
 module _ {rule : List ℕ} {n : ℕ} (ready : Ready rule n) where
-  ready_node : (k : ℕ) → k ≤ n → Node rule k
-  ready_node k le = (accepted_fine rule ready.accepted).nodes k (omega (arith, ready.inside))
+  node_below : (k : ℕ) → k ≤ n → Node rule k
+  node_below k le = (accepted_fine rule ready.accepted).nodes k (omega (arith, ready.inside))
 
   pub own_node : Node rule n
-  own_node = ready_node n (omega arith)
+  own_node = node_below n (omega arith)
 
   pub ready_small : n < max_nodes
   ready_small = omega (arith, ready.inside, (accepted_fine rule ready.accepted).most)
 
-  pub ready_below : {k : ℕ} → k < n → Ready rule k
-  ready_below lt = record { accepted = ready.accepted; inside = omega (arith, ready.inside) }
+  pub inside_below : {k : ℕ} → k < n → k < node_count rule
+  inside_below lt = omega (arith, ready.inside)
 
   pub ready_in_range : (k : ℕ) → k ≤ n → InRange (tree rule k)
-  ready_in_range k le = tree_in_range rule k (omega (arith, ready.inside)) (λ j l. ready_node j (omega arith))
+  ready_in_range k le = tree_in_range rule k (omega (arith, ready.inside)) (λ j l. node_below j (omega arith))
 
   -- its children stand below it, and its tree is made of theirs
   module _ {k : ℕ} (ek : k ≡ kind_at rule n) where
@@ -92,8 +101,13 @@ module _ (rule : List ℕ) (passed : sizes_checked rule ≡ fine) where
   unfolding sizes_checked
   sizes_fine = fine_second (Rule.checked rule) _ passed
 
-pub root_ready : (rule : List ℕ) → Rule.checked rule ≡ fine → Ready rule (root rule)
-root_ready rule bytes = record { accepted = bytes; inside = omega (arith, (accepted_fine rule bytes).some) }
+-- the root of a rule that is known to pass
+module _ (rule : List ℕ) (passed : passes (Rule.checked rule) ≡ true) where
+  pub some_node : 1 ≤ node_count rule
+  some_node = (accepted_fine rule (passes_fine _ passed)).some
+
+  pub root_inside : root rule < node_count rule
+  root_inside = omega (arith, some_node)
 
 -- a node up to n that is a 20
 module _ (rule : List ℕ) (n : ℕ) where
@@ -111,3 +125,15 @@ module _ (rule : List ℕ) (n : ℕ) where
       go : (b : Bool) → (few_terms rule n && few_sets rule n) ≡ b → refused 20 n ≡ require b 20 n
       go true e = absurd (over (rw (below, e) refl))
       go false e = refl
+
+  -- so a test that fails only where n is one refuses as the check does
+  pub size_fails : lowest (size_check rule) n ≡ fine → (b : Bool) → (b ≡ false → Over rule n) → {number place : ℕ}
+      → refused number place ≡ require b 20 n → refused number place ≡ size_check rule n
+  size_fails below true over e = not_fine e
+  size_fails below false over e = e ∙ over_own below (over refl)
+
+  -- and one that also holds only where there are few is the check
+  pub size_is : lowest (size_check rule) n ≡ fine → (b : Bool) → (b ≡ true → Few rule n) → (b ≡ false → Over rule n)
+      → require b 20 n ≡ size_check rule n
+  size_is below true few over = fine_few rule n (few refl)
+  size_is below false few over = over_own below (over refl)

@@ -2,7 +2,7 @@
 -- the functions that fill the table find on their way.
 use Rattle.std.specs.Prelude.{ℕ, suc, ◌+◌, ◌*◌, ◌/◌, ◌%◌, ◌≤◌, min, ◌<◌, List, map, ◌⊎◌, ◌≡◌, take, length, get_or}
 use Rattle.std.specs.Prelude.{drop}
-use Rattle.answer.specs.Result.{fine, refused, lowest}
+use Rattle.answer.specs.Result.{fine, refused, lowest, reason_number}
 use Rattle.formula.specs.Formula.{tree, formula, build, InRange, Formula, bottom, top, proposition}
 use Rattle.formula.specs.Formula.{negated_proposition, conjunction, disjunction, next, until, release}
 use Rattle.formula.specs.Rule.{node_count, kind_at, left_at, right_at}
@@ -10,8 +10,8 @@ use Rattle.term.specs.Limits.{max_terms, row_places}
 use Rattle.term.specs.Size.{size_check}
 use Rattle.term.specs.Term.{Term, term, cover, terms}
 use Rattle.term.specs.declared.Terms.{Terms}
-use Rattle.term.specs.declared.Tabulated.{Tabulated}
-use Rattle.term.specs.declared.Tabulated.TheVariants.{Accepted, Refused}
+use Rattle.std.specs.Prelude.{Result as Returned, Ok, Err}
+use Rattle.answer.specs.declared.Refusal.{Refusal}
 use Rattle.term.specs.Term
 
 -- ---- a term as one number, a node's terms as one value
@@ -147,9 +147,9 @@ pub record Tabled (rule : List ℕ) (bits : ℕ) (table : List ℕ) : Type 0 whe
   pub conflicts : bits ≡ Term.conflicts (formula rule)
 
 -- the answer: that, or 20 at the lowest node that is one
-abbrev pub Tabulates : (rule : List ℕ) → Tabulated → (table : List ℕ) → Type 0
-Tabulates rule (Accepted conflicts) table = Tabled rule conflicts table
-Tabulates rule (Refused number place) table = lowest (size_check rule) (node_count rule) ≡ refused number place
+abbrev pub Tabulates : (rule : List ℕ) → Returned ℕ Refusal → (table : List ℕ) → Type 0
+Tabulates rule (Ok conflicts) table = Tabled rule conflicts table
+Tabulates rule (Err r) table = lowest (size_check rule) (node_count rule) ≡ refused (reason_number r.reason) r.place
 
 -- ---- how many sets a cover has at most, without the sets
 

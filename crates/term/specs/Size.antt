@@ -1,6 +1,6 @@
 -- Rules with too many terms or cover sets: number 20.
-use Rattle.std.specs.Prelude.{ℕ, ◌<◌, ◌≡◌, List, ◌&&◌, length, leb}
-use Rattle.answer.specs.Result.{and_then, Check, fine, require, lowest}
+use Rattle.std.specs.Prelude.{ℕ, List, ◌&&◌, length, leb}
+use Rattle.answer.specs.Result.{and_then, Check, require, lowest}
 use Rattle.formula.specs.Rule.{node_count}
 use Rattle.formula.specs.Rule
 use Rattle.formula.specs.Formula.{tree}
@@ -17,8 +17,3 @@ size_check rule n =
 -- state, 20, and the order in Numbers that come from the input)
 unfoldable pub sizes_checked : List ℕ → Check
 sizes_checked rule = and_then (Rule.checked rule) (λ _. lowest (size_check rule) (node_count rule))
-
--- node n of a rule that 1 to 7 let pass
-pub record Ready (rule : List ℕ) (n : ℕ) : Type 0 where
-  pub accepted : Rule.checked rule ≡ fine
-  pub inside : n < node_count rule

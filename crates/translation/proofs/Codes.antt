@@ -5,16 +5,17 @@ use mathlib.Core.List.{List, [], ◌∷◌, ◌++◌, map, map-append}
 use Prim.Native.Nat.{ℕ, zero, suc, ◌+◌, ◌/◌, ◌≤◌, ◌<◌}
 use native.Mathlib.Numerals.{add-one}
 use native.Mathlib.Omega.{arith}
-use lib.ListN.{length, get_or, take, length-append, length-map}
+use lib.ListN.{length, length-append, length-map}
 use lib.Dec.{eqb}
 use borrow.Author.Tests.{eq-eqb}
 use Rattle.sets.proofs.Members.{all_last}
 use Rattle.term.specs.Limits.{max_terms}
 use Rattle.generalized.specs.Explore.{find}
 use Rattle.generalized.proofs.Explored.{Once, once_more}
+use Rattle.automaton.specs.Limits.{max_states}
 use Rattle.translation.specs.Degeneralized.{numbers}
-use Rattle.translation.specs.Memory.{code_of, level_places, Within, PairsNumbered}
-use Rattle.translation.proofs.Numbering.{find_none, unmet}
+use Rattle.translation.specs.Memory.{code_of, level_places, code_places, Within}
+use Rattle.translation.proofs.Numbering.{find_none}
 
 pub numbers_length : (n : ℕ) → length (numbers n) ≡ n
 unfolding numbers
@@ -52,33 +53,15 @@ starts_once (suc n) i lt =
     (omega (arith, many, beyond n (code_of n 0) (omega arith))) (starts_once n) in
     (rw (← map-append (λ i. code_of i 0) (numbers n) (n ∷ [])) at more) i lt
 
--- a loop that numbers the first n states at level 0 and stands at i
-pub record Starting (n : ℕ) (pairs index : List ℕ) (i : ℕ) : Type 0 where
-  pub within : i ≤ n
-  pub numbered : PairsNumbered pairs index i
-  pub listed : take i pairs ≡ starts i
+-- a loop that numbers the first n states at level 0 and stands at i: the next has no number
+pub start_new : (n i code : ℕ) {xs : List ℕ} → i < n → n ≤ max_terms → xs ≡ starts i → code ≡ code_of i 0
+    → (length xs < max_states) × (code < code_places) × (length xs ≤ find eqb code xs)
+start_new n i code lt most listed e =
+    let many : length (starts i) ≡ i = length-map (numbers i) (λ k. code_of k 0) ∙ numbers_length i in
+    rw (listed, many) (omega arith, omega arith, beyond i code (omega arith))
 
-pub start_begins : (n : ℕ) (pairs index : List ℕ) → PairsNumbered pairs index 0 → Starting n pairs index 0
+pub start_steps : (i code : ℕ) {xs ys : List ℕ} → xs ≡ starts i → code ≡ code_of i 0 → ys ≡ xs ++ (code ∷ [])
+    → ys ≡ starts (i + 1)
 unfolding numbers
-start_begins n pairs index inv = record { within = omega arith; numbered = inv; listed = refl }
-
-module _ (n : ℕ) (pairs index : List ℕ) (i : ℕ) (inv : Starting n pairs index i) where
-  pub start_new : (code : ℕ) → n ≤ max_terms → i < n → code ≡ code_of i 0 → get_or index code 0 ≡ 0
-  start_new code most lt e =
-      unmet pairs index i inv.numbered code (omega arith)
-      (rw inv.listed (beyond i code (omega arith)))
-
-  pub start_steps : (code : ℕ) (pairs' index' : List ℕ) → i < n → code ≡ code_of i 0
-      → PairsNumbered pairs' index' (i + 1) × (take (i + 1) pairs' ≡ take i pairs ++ (code ∷ []))
-      → Starting n pairs' index' (i + 1)
-  unfolding numbers
-  start_steps code pairs' index' lt e added = record {
-    within = omega arith;
-    numbered = added.0;
-    listed = added.1 ∙ rw (inv.listed, e, add-one, numbers, map-append (λ k. code_of k 0) (numbers i) (i ∷ []));
-  }
-
-  pub start_ends : n ≤ i → PairsNumbered pairs index n × (take n pairs ≡ starts n)
-  start_ends ge =
-      let e : i ≡ n = omega (arith, inv.within) in
-      (rw e at inv.numbered, rw e at inv.listed)
+start_steps i code listed e added =
+    added ∙ rw (listed, e, add-one, numbers, map-append (λ k. code_of k 0) (numbers i) (i ∷ []))

@@ -1,9 +1,9 @@
 -- A table that is filled with records from its front. Assumes nothing.
 use mathlib.Core.Path.{◌≡◌, refl, ◌∙◌}
 use mathlib.Core.List.{List, [], ◌∷◌, ◌++◌, append_assoc}
-use mathlib.Core.Bool.{Bool, cond}
+use mathlib.Core.Bool.{Bool, true, false, cond}
+use mir.Val.{bool_byte}
 use Prim.Native.Nat.{ℕ, suc, ◌+◌, ◌*◌, ◌≤◌}
-use native.Mathlib.Numerals.{add-one}
 use native.Mathlib.Omega.{arith}
 use lib.ListN.{length, take, set, length-append}
 use lib.Seq.{sets}
@@ -26,23 +26,20 @@ pub front_record : {A : Type 0} (bytes_of : A → List ℕ) (xs : List A) (x : A
 front_record bytes_of xs x table after at next front e fits put =
     front_more table after at next (bytes_of x) e fits put ∙ rw (front, records_last bytes_of xs x)
 
+-- the byte of a test
+byte_is : (b : Bool) → bool_byte b ≡ cond b 1 0
+byte_is true = refl
+byte_is false = refl
+
 -- the stores of one record, as the code makes them
 pub state_stores : (table after : List ℕ) (at count f g : ℕ) (accepting rests : Bool)
-    → after ≡ sets table at (two_bytes count) → f ≡ cond accepting 1 0 → g ≡ cond rests 1 0
+    → after ≡ sets table at (two_bytes count) → f ≡ bool_byte accepting → g ≡ bool_byte rests
     → set (set after (at + 2) f) (at + 3) g ≡ sets table at (state_bytes count accepting rests)
 unfolding two_bytes
 state_stores table after at count f g accepting rests e ef eg =
     let two : at + 2 ≡ suc (suc at) = omega arith in
     let three : at + 3 ≡ suc (suc (suc at)) = omega arith in
-    rw (e, ef, eg, two, three)
-
-pub transition_stores : (table after : List ℕ) (at a b must must_not target : ℕ) → a ≡ must → b ≡ must_not
-    → after ≡ sets (set (set table at a) (at + 1) b) (at + 2) (two_bytes target)
-    → after ≡ sets table at (transition_bytes must must_not target)
-unfolding two_bytes
-transition_stores table after at a b must must_not target ea eb e =
-    let two : at + 2 ≡ suc (suc at) = omega arith in
-    e ∙ rw (ea, eb, two, add-one at)
+    rw (e, ef, eg, two, three, byte_is accepting, byte_is rests)
 
 -- records added after others
 pub adds_more : (before : List ℕ) (k : ℕ) (bytes table : List ℕ) (m : ℕ) (more after : List ℕ) (n : ℕ)

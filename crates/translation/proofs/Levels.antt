@@ -1,13 +1,16 @@
 -- The level that a transition leads to: counted up by the bits of its untils, and by the untils that it fulfils.
 -- Assumes nothing.
 use mathlib.Core.Path.{◌≡◌, refl}
-use mathlib.Core.Bool.{Bool, true, false, cond}
+use mathlib.Core.Bool.{Bool, true, false, cond, not}
 use mathlib.Core.List.{List}
-use Prim.Native.Nat.{ℕ, zero, suc, ◌+◌, ◌-◌, ◌/◌, ◌%◌, ◌≤◌, ◌<◌}
+use Prim.Native.Nat.{ℕ, zero, suc, ◌+◌, ◌-◌, ◌/◌, ◌%◌, ◌^◌, ◌≤◌, ◌<◌}
 use native.Mathlib.Numerals.{add-one}
 use native.Mathlib.Omega.{arith}
 use lib.Dec.{ltb}
-use borrow.Author.Tests.{lt-ltb, le-ltb, ltb-true}
+use borrow.Author.Tests.{ltb-true}
+use Rattle.std.specs.Prelude.{Option, Some, None}
+use Rattle.std.specs.List.{range_with_len, find}
+use Rattle.std.specs.Option.{unwrap_or, option_map}
 use Rattle.sets.specs.Bits.{has}
 use Rattle.formula.specs.Limits.{max_untils}
 use Rattle.term.specs.Term.{Term}
@@ -18,34 +21,23 @@ use Rattle.generalized.specs.Memory.{kept_target, kept_untils}
 use Rattle.translation.specs.Degeneralized.{climb, next_level}
 use Rattle.translation.specs.Memory.{level_places, code_places, climb_n, next_level_n, target_n}
 
-module _ (untils r j : ℕ) where
-  pub climb_steps : j < r → has untils j ≡ true → climb_n untils (r - j) j ≡ climb_n untils (r - (j + 1)) (j + 1)
-  unfolding climb_n
-  climb_steps lt e =
-      let more : r - j ≡ suc (r - (j + 1)) = omega arith in
-      rw (more, e, climb_n, add-one)
+-- the first number from j on whose bit is not in the set, or the last
+pub climb_first : (untils last left j : ℕ) → j + left ≡ last
+    → climb_n untils left j ≡ unwrap_or (find (λ k. not (has untils k)) (range_with_len j left)) last
+unfolding climb_n
+climb_first untils last zero j e = omega arith
+climb_first untils last (suc left) j e =
+    go (has untils j) (find (λ k. not (has untils k)) (range_with_len (j + 1) left))
+    (climb_first untils last left (j + 1) (omega arith))
+  where
+    go : (b : Bool) (later : Option ℕ) → climb_n untils left (j + 1) ≡ unwrap_or later last
+        → elim b [ true ↦ climb_n untils left (suc j) | false ↦ j ] ≡ unwrap_or (cond (not b) (Some j) later) last
+    go true later next = rw (← add-one j) next
+    go false later next = refl
 
-  pub climb_stops : j < r → has untils j ≡ false → climb_n untils (r - j) j ≡ j
-  unfolding climb_n
-  climb_stops lt e =
-      let more : r - j ≡ suc (r - (j + 1)) = omega arith in
-      rw (more, e, climb_n)
-
-  pub climb_ends : r ≤ j → climb_n untils (r - j) j ≡ j
-  unfolding climb_n
-  climb_ends le =
-      let none : r - j ≡ 0 = omega arith in
-      rw (none, climb_n)
-
-  pub next_below : j < r → next_level_n untils r j ≡ climb_n untils (r - j) j
-  unfolding next_level_n
-  next_below lt = rw (lt-ltb j r lt)
-
-  pub next_again : r ≤ j → next_level_n untils r j ≡ climb_n untils (r - 0) 0
-  unfolding next_level_n
-  next_again le =
-      let e : r - 0 ≡ r = omega arith in
-      rw (le-ltb j r le, e)
+pub same_option : (found : Option ℕ) → option_map (λ x. x) found ≡ found
+same_option (Some x) = refl
+same_option None = refl
 
 climb_most : (untils left j : ℕ) → climb_n untils left j ≤ j + left
 unfolding climb_n
@@ -76,6 +68,10 @@ module _ (r level x : ℕ) (few : r ≤ max_untils) where
 
   pub target_level : target_n r level x % level_places ≡ next_level_n (kept_untils x) r level
   target_level = omega (arith, level_fits)
+
+  -- a transition is a number of 32 bits
+  pub target_fits : x < 2 ^ 32 → target_n r level x < 2 ^ 64
+  target_fits lt = omega (arith, level_fits)
 
   pub target_inside : kept_target x < max_generalized_states → target_n r level x < code_places
   target_inside lt = omega (arith, level_fits)

@@ -4,7 +4,7 @@ use mathlib.Core.Path.{◌≡◌, refl, ◌∙◌}
 use mathlib.Core.List.{List, [], ◌∷◌, ◌++◌}
 use mathlib.Core.Bool.{Bool, true, false, cond}
 use mathlib.Core.Logic.{inl, inr}
-use Prim.Native.Nat.{ℕ, suc, ◌+◌, ◌≤◌, ◌<◌}
+use Prim.Native.Nat.{ℕ, suc, ◌+◌, ◌-◌, ◌≤◌, ◌<◌}
 use native.Mathlib.Numerals.{add-one}
 use native.Mathlib.Decide.{ℕ_discrete, dec_lt}
 use native.Mathlib.Omega.{arith}
@@ -16,12 +16,12 @@ use Rattle.sets.specs.Sets.{In}
 use Rattle.generalized.specs.Explore.{find}
 use Rattle.generalized.proofs.Numbers.{find_stays}
 use Rattle.automaton.specs.Limits.{max_states}
-use Rattle.translation.specs.Memory.{code_places, PairsNumbered, number_n}
+use Rattle.translation.specs.Memory.{code_places, PairsNumbered}
 
 -- ---- places of one more
 
 module _ {A : Type 0} (same : A → A → Bool) where
-  pub find_behind : (x : A) (xs ys : List A) → length xs ≤ find same x xs
+  find_behind : (x : A) (xs ys : List A) → length xs ≤ find same x xs
       → find same x (xs ++ ys) ≡ length xs + find same x ys
   unfolding find
   find_behind x [] ys le = omega arith
@@ -64,7 +64,7 @@ module _ (pairs index : List ℕ) (n : ℕ) (inv : PairsNumbered pairs index n) 
   known_number : find eqb code (take n pairs) < n → get_or index code 0 ≡ suc (find eqb code (take n pairs))
   known_number l = inv.number code lt ∙ rw (lt-ltb (find eqb code (take n pairs)) n l)
 
-  pub number_is : find eqb code (take n pairs) < n → number_n index code ≡ find eqb code (take n pairs)
+  pub number_is : find eqb code (take n pairs) < n → get_or index code 0 - 1 ≡ find eqb code (take n pairs)
   number_is l = omega (arith, known_number l)
 
   pub unseen : get_or index code 0 ≡ 0 → n ≤ find eqb code (take n pairs)
@@ -81,14 +81,11 @@ module _ (pairs index : List ℕ) (n : ℕ) (inv : PairsNumbered pairs index n) 
       go (yes l) = l
       go (no ge) = absurd (some (inv.number code lt ∙ rw (le-ltb (find eqb code (take n pairs)) n (omega arith))))
 
-  pub unmet : n ≤ find eqb code (take n pairs) → get_or index code 0 ≡ 0
-  unmet ge = inv.number code lt ∙ rw (le-ltb (find eqb code (take n pairs)) n ge)
-
-  module _ (room : n < max_states) (new : get_or index code 0 ≡ 0) where
+  module _ (room : n < max_states) (late : n ≤ find eqb code (take n pairs)) where
     inside : n < length pairs
     inside = omega (arith, inv.room)
 
-    pub pairs_more : take (n + 1) (set pairs n code) ≡ take n pairs ++ (code ∷ [])
+    pairs_more : take (n + 1) (set pairs n code) ≡ take n pairs ++ (code ∷ [])
     pairs_more = rw (add-one n, take-suc-set pairs n code inside)
 
     before : length (take n pairs) ≡ n
@@ -108,7 +105,7 @@ module _ (pairs index : List ℕ) (n : ℕ) (inv : PairsNumbered pairs index n) 
             → get_or (set index code (n + 1)) other 0 ≡ cond (ltb (find eqb other (take n pairs ++ (code ∷ []))) (n + 1)) (suc (find eqb other (take n pairs ++ (code ∷ [])))) 0
         each other l (yes e) d =
             let last : find eqb code (take n pairs ++ (code ∷ [])) ≡ n =
-            find_behind eqb code (take n pairs) (code ∷ []) (omega (arith, before, unseen new)) ∙ rw
+            find_behind eqb code (take n pairs) (code ∷ []) (omega (arith, before)) ∙ rw
             (before, find, eq-eqb code code refl) (omega arith) in
             rw (
               e,

@@ -8,7 +8,6 @@ use Prim.Native.Nat.{ℕ, suc, ◌+◌, ◌*◌, ◌/◌, ◌%◌, ◌≤◌, �
 use native.Mathlib.Decide.{ℕ_discrete}
 use native.Mathlib.Omega.{arith}
 use lib.ListN.{length, get_or, take, length-map}
-use lib.Seq.{length-take-le}
 use lib.Dec.{eqb}
 use borrow.Author.Tests.{eqb-true, eq-eqb, ne_eqb}
 use Rattle.answer.specs.Result.{accepted, refused, fine}
@@ -21,25 +20,21 @@ use Rattle.term.specs.Size.{sizes_checked}
 use Rattle.generalized.specs.Explore.{find, walked}
 use Rattle.generalized.specs.Generalized.{transitions}
 use Rattle.acceptance.specs.Acceptance.{until_count}
-use Rattle.translation.specs.declared.StateNumber.{StateNumber}
-use Rattle.translation.specs.declared.Paired.{Paired}
-use Rattle.translation.specs.declared.Paired.TheVariants.{Count, Stop}
 use Rattle.automaton.specs.Automaton.{Transition, State, Automaton, free_to, at_rest}
 use Rattle.automaton.specs.Limits.{max_states}
 use Rattle.automaton.specs.Records.{records, numbered, numbered_records, state_bytes, state_record, transition_record}
 use Rattle.automaton.specs.Records.{state_records, transition_records, initial_records}
-use Rattle.automaton.specs.Tables.{transition_count, counts, outcome, Outcome}
+use Rattle.automaton.specs.Tables.{transition_count, counts, outcome}
 use Rattle.automaton.proofs.Records.{transitions_count}
 use Rattle.translation.specs.Degeneralized.{Pair, pair, same_pair, numbers, initial_numbers, next_level}
 use Rattle.translation.specs.Degeneralized.{pair_transitions, target, pair_walk, degeneralized, transition_of, state_of}
 use Rattle.translation.specs.Degeneralized.{translation}
-use Rattle.translation.specs.Translate.{stored}
 use Rattle.generalized.specs.Memory.{kept, kept_target}
 use Rattle.generalized.proofs.Kept.{Parts}
 use Rattle.translation.specs.Memory.{row, level_places, code_of, pair_of, target_n, targets_n, code_numbering}
 use Rattle.translation.specs.Memory.{code_walk}
 use Rattle.translation.specs.Memory.{stays_n, pair_bytes, transition_n, row_n, rows_n, FirstWalk, Within, PairRows}
-use Rattle.translation.specs.Memory.{PairsNumbered, AddsRecords, AddedRows, AddsRows, WalksPairs}
+use Rattle.translation.specs.Memory.{AddsRecords, AddedRows, Filled}
 use Rattle.translation.proofs.Levels.{target_state, target_level, next_level_is}
 use Rattle.generalized.proofs.Explored.{find_at, Explored, walk_explored}
 use Rattle.generalized.proofs.Passed.{initial_few}
@@ -104,15 +99,14 @@ starts_are (i ∷ ns) =
 
 -- ---- the first walk's tables, and what the code has found when the walk over the pairs begins
 
-pub record Begun (rule : List ℕ) (initial : ℕ) (kepts ends : List ℕ) (r : ℕ) (pairs index : List ℕ) : Type 0 where
+pub record Begun (rule : List ℕ) (initial : ℕ) (kepts ends : List ℕ) (r : ℕ) (first : List ℕ) : Type 0 where
   pub passed : sizes_checked rule ≡ fine
   pub walked_first : FirstWalk rule initial kepts ends
   pub levels : r ≡ until_count rule
-  pub numbered : PairsNumbered pairs index initial
-  pub start : take initial pairs ≡ starts initial
+  pub start : first ≡ starts initial
 
-module _ {rule : List ℕ} {initial : ℕ} {kepts ends : List ℕ} {r : ℕ} {pairs₀ index₀ : List ℕ}
-    (b : Begun rule initial kepts ends r pairs₀ index₀) where
+module _ {rule : List ℕ} {initial : ℕ} {kepts ends : List ℕ} {r : ℕ} {first : List ℕ}
+    (b : Begun rule initial kepts ends r first) where
   abbrev states : List ℕ
   states = b.walked_first.states
 
@@ -169,64 +163,37 @@ module _ {rule : List ℕ} {initial : ℕ} {kepts ends : List ℕ} {r : ℕ} {pa
     keeps_within : Within n (targets_n ends kepts r code)
     keeps_within = targets_within ends kepts r n few_untils closed_are code lt
 
-  first_within : Within n (starts initial)
+  first_within : Within n first
   first_within =
       let least = initial_states rule b.passed b.walked_first in
-      starts_within initial n (omega (arith, b.walked_first.begun, least))
+      rw b.start (starts_within initial n (omega (arith, b.walked_first.begun, least)))
 
-  first_few : length (starts initial) ≤ max_states
+  first_few : length first ≤ max_states
   first_few =
       let size = length-map (numbers initial) (λ i. code_of i 0) ∙ numbers_length initial in
-      omega (arith, size, b.walked_first.begun, initial_few rule b.passed)
+      rw b.start (omega (arith, size, b.walked_first.begun, initial_few rule b.passed))
 
-  pub first_rows : PairRows ends kepts r (take initial pairs₀)
-  first_rows = rw b.start (rows_over (starts initial) first_within)
+  pub first_rows : PairRows ends kepts r first
+  first_rows = rows_over first first_within
 
-  walk_is : degeneralized rule states ≡ mapped pair_of (walked (code_walk ends kepts r) (starts initial))
+  walk_is : degeneralized rule states ≡ mapped pair_of (walked (code_walk ends kepts r) first)
   unfolding degeneralized initial_numbers
   walk_is =
-      rw (← b.walked_first.begun, starts_are (numbers initial))
+      rw (← b.walked_first.begun, starts_are (numbers initial), ← b.start)
       (explore_map code_numbering same_pair pair_of same_codes 0 (λ code. state_n code < n) (targets_n ends kepts r)
-      (pair_walk rule states).targets targets_are keeps_within max_states 0 0 (starts initial) first_within)
+      (pair_walk rule states).targets targets_are keeps_within max_states 0 0 first first_within)
 
   -- ---- what the walk over the pairs comes to
 
-  -- the walk is done: count pairs are numbered, and the records of written transitions are in the table that was t
-  abbrev pub Done : (t : List ℕ) (count written : ℕ) (pairs index table : List ℕ) → Type 0
-  Done t count written pairs index table =
-      AddedRows (walked (code_walk ends kepts r) (starts initial)) (rows_n ends kepts r) t 0 count written pairs index
-      table
+  pub walk_stopped : {number at : ℕ} → walked (code_walk ends kepts r) first ≡ refused number at
+      → translation rule ≡ refused number at
+  unfolding translation
+  walk_stopped full = rw (b.passed, b.walked_first.found, walk_is, full)
 
-  module _ (t : List ℕ) (met : Paired) (pairs index table : List ℕ)
-      (comes : WalksPairs ends kepts r initial pairs₀ t met pairs index table) where
-    from_starts : AddsRows (walked (code_walk ends kepts r) (starts initial)) (rows_n ends kepts r) t 0 met pairs index table
-    from_starts = rw (← b.start) comes
-
-    pub walk_done : {count written : ℕ} → met ≡ Count count written → Done t count written pairs index table
-    walk_done e = rw e at from_starts
-
-    pub walk_stopped : {at : StateNumber} → met ≡ Stop at → length table ≡ length t → {o : Outcome} (s i : List ℕ)
-        → o ≡ stored (refused 24 at.0) s table i → o ≡ stored (translation rule) s t i
-    unfolding stored translation
-    walk_stopped {at} e same s i is =
-        let full : walked (code_walk ends kepts r) (starts initial) ≡ refused 24 at.0 = rw e at from_starts in
-        is ∙ rw (same, b.passed, b.walked_first.found, walk_is, full)
-
-  module _ {t : List ℕ} {count written : ℕ} {pairs index table : List ℕ}
-      (done : Done t count written pairs index table) where
-    abbrev codes : List ℕ
-    codes = take count pairs
-
-    pub count_inside : count ≤ length pairs
-    count_inside = omega (arith, done.numbered.room, done.numbered.few)
-
-    pub codes_count : length codes ≡ count
-    codes_count = length-take-le count pairs count_inside
-
-    pub codes_few : length codes ≤ max_states
-    codes_few = omega (arith, codes_count, done.numbered.few)
-
-    whole : Explored (code_walk ends kepts r) 0 (starts initial) codes
+  -- the walk is done: codes are numbered, and the records of written transitions are in the table that was t
+  module _ {t : List ℕ} {written : ℕ} {codes table : List ℕ}
+      (done : AddedRows (walked (code_walk ends kepts r) first) (rows_n ends kepts r) t 0 written codes table) where
+    whole : Explored (code_walk ends kepts r) 0 first codes
     whole = walk_explored (code_walk ends kepts r) eqb-true (λ x. eq-eqb x x refl) first_few done.are
 
     codes_within : Within n codes
@@ -280,7 +247,7 @@ module _ {rule : List ℕ} {initial : ℕ} {kepts ends : List ℕ} {r : ℕ} {pa
       where
         pick : Dec (x ≡ get_or codes i 0) → eqb x (get_or codes i 0) ≡ eqb (find eqb x codes) i
         pick (yes e) =
-            let number = ap (λ (y : ℕ). find eqb y codes) e ∙ whole.once (starts_once initial) i lt in
+            let number = ap (λ (y : ℕ). find eqb y codes) e ∙ whole.once (rw b.start (starts_once initial)) i lt in
             rw (eq-eqb x (get_or codes i 0) e) (sym (eq-eqb (find eqb x codes) i number))
         pick (no ne) =
             rw (ne_eqb x (get_or codes i 0) ne)
@@ -351,29 +318,33 @@ module _ {rule : List ℕ} {initial : ℕ} {kepts ends : List ℕ} {r : ℕ} {pa
     rows_written : AddsRecords t 0 (transition_records automaton) table written
     rows_written = rw (← transitions_are) (rw append-nil at (done.written []))
 
-    counted : record { states = count; transitions = written; initial = initial } ≡ counts automaton
+    counted : {count : ℕ} → count ≡ length codes
+        → record { states = count; transitions = written; initial = initial } ≡ counts automaton
     unfolding initial_numbers
-    counted =
-        let states-many =
-        length-map pairs_are (state_of rule states pairs_are) ∙ length-map codes pair_of ∙ codes_count in
+    counted {count} codes_many =
+        let states_many =
+        codes_many ∙ sym (length-map pairs_are (state_of rule states pairs_are) ∙ length-map codes pair_of) in
         let many : written ≡ transition_count automaton.states =
         omega (arith, rows_written.count, transitions_total) in
         let initial_many : initial ≡ length automaton.initial =
         sym (rw (← b.walked_first.begun) (numbers_length initial)) in
-        λ k. record { states = sym states-many k; transitions = many k; initial = initial_many k }
+        λ k. record { states = states_many k; transitions = many k; initial = initial_many k }
 
     -- tables filled with these records have the automaton
-    pub written_is : length table ≡ length t → (s i s' t' i' : List ℕ)
-        → s' ≡ filled s (numbered_records (pair_bytes ends kepts r) 0 codes)
+    pub written_is : length table ≡ length t → {given : List ℕ} → given ≡ codes → {s i s' t' i' : List ℕ}
+        → s' ≡ filled s (numbered_records (pair_bytes ends kepts r) 0 given)
         → t' ≡ filled table (take (written * 4) table)
         → i' ≡ filled i (records two_bytes (numbers initial))
-        → outcome (accepted (record { states = count; transitions = written; initial = initial })) s' t' i'
-        ≡ stored (translation rule) s t i
-    unfolding stored
-    written_is same s i s' t' i' es et ei =
+        → Filled (translation rule) (record { states = length given; transitions = written; initial = initial })
+        s t i s' t' i'
+    written_is same given_is {s} {i} {s'} {t'} {i'} es et ei =
         let bytes = transition_records automaton in
-        let states-stored = es ∙ ap (filled s) states_are in
-        let transitions-stored = filled_as t table t' bytes (written * 4) rows_written.front same et in
-        let initial-stored = ei ∙ ap (filled i) initial_is in
-        rw walk_accepted
-        (λ k. outcome (accepted (counted k)) (states-stored k) (transitions-stored k) (initial-stored k))
+        let states_stored = rw given_is at es ∙ ap (filled s) states_are in
+        let transitions_stored = filled_as t table t' bytes (written * 4) rows_written.front same et in
+        let initial_stored = ei ∙ ap (filled i) initial_is in
+        let all = counted (ap length given_is) in
+        record {
+          automaton = automaton;
+          are = walk_accepted;
+          tables = λ k. outcome (accepted (all k)) (states_stored k) (transitions_stored k) (initial_stored k);
+        }

@@ -1,33 +1,33 @@
--- Pairs whose transitions stand in the first walk's tables: what a function that reads them there knows. A code is read at
--- a place of a list, or stands alone. Assumes nothing.
-use mathlib.Core.Path.{◌≡◌, refl, sym, subst}
+-- Pairs whose transitions stand in the first walk's tables: what a function that reads them there knows.
+-- Assumes nothing.
+use mathlib.Core.Path.{◌≡◌, sym, subst}
 use mathlib.Core.Logic.{inl, inr}
 use mathlib.Core.List.{List, [], ◌∷◌}
-use Prim.Native.Nat.{ℕ, ◌-◌, ◌/◌, ◌≤◌, ◌<◌}
+use Prim.Native.Nat.{ℕ, ◌/◌, ◌≤◌, ◌<◌}
 use native.Mathlib.Omega.{arith}
-use lib.ListN.{length, get_or, take, drop}
+use lib.ListN.{length, drop, length-drop}
+use lib.Seq.{length-take-le}
 use Rattle.sets.specs.Sets.{In}
 use Rattle.automaton.specs.Limits.{max_of_state}
-use Rattle.generalized.specs.Limits.{max_generalized_transitions}
-use Rattle.translation.specs.Memory.{row_start, row_count, row, level_places, InRows, PairRows, Leads}
+use Rattle.translation.specs.Memory.{row_start, row_count, row, level_places, PairRows, Leads}
 
--- the pair of a code, with its state's number as it is read of the code
-module _ (ends codes : List ℕ) (code : ℕ) (listed : InRows ends codes) (among : In code codes) (s : ℕ)
-    (is : s ≡ code / level_places) where
-  pub state_within : s < listed.states
-  state_within = omega (arith, listed.within code among)
+module _ {ends transitions : List ℕ} {r : ℕ} {codes : List ℕ} (rows : PairRows ends transitions r codes)
+    (code : ℕ) (among : In code codes) where
+  pub state_within : code / level_places < rows.listed.states
+  state_within = rows.listed.within code among
 
-  pub state_inside : s < length ends
-  state_inside = omega (arith, state_within, listed.rows.states, listed.rows.size)
+  pub row_few : row_count ends (code / level_places) ≤ max_of_state
+  row_few = rows.listed.rows.few (code / level_places) state_within
 
-  pub row_rises : row_start ends s ≤ get_or ends s 0
-  row_rises = listed.rows.rising s state_within
+  pub own_size : length (row ends transitions (code / level_places)) ≡ row_count ends (code / level_places)
+  own_size =
+      let rises = rows.listed.rows.rising (code / level_places) state_within in
+      let inside = rows.listed.rows.inside (code / level_places) state_within in
+      length-take-le (row_count ends (code / level_places)) (drop (row_start ends (code / level_places)) transitions)
+      (omega (arith, length-drop (row_start ends (code / level_places)) transitions, rises, inside, rows.size))
 
-  pub row_inside : get_or ends s 0 ≤ max_generalized_transitions
-  row_inside = listed.rows.inside s state_within
-
-  pub row_few : row_count ends s ≤ max_of_state
-  row_few = listed.rows.few s state_within
+  pub own_leads : Leads (row ends transitions (code / level_places))
+  own_leads x h = omega (arith, rows.closed (code / level_places) state_within x h, rows.listed.rows.states)
 
 -- one of several pairs by itself
 pub one_alone : {ends transitions : List ℕ} {r : ℕ} {codes : List ℕ} (code : ℕ) → PairRows ends transitions r codes
@@ -45,31 +45,3 @@ one_alone {ends} {transitions} {r} {codes} code rows among = record {
   levels = rows.levels;
   closed = rows.closed;
 }
-
--- the row of a pair as the code reads it: by its start and its end
-pub record OwnRow (ends : List ℕ) (code start end : ℕ) : Type 0 where
-  pub begins : start ≡ row_start ends (code / level_places)
-  pub ending : end ≡ get_or ends (code / level_places) 0
-
-pub own_row : {ends : List ℕ} {code s t start end : ℕ} → s ≡ code / level_places → t ≡ code / level_places
-    → start ≡ row_start ends s → end ≡ get_or ends t 0 → OwnRow ends code start end
-own_row es et b e = record { begins = rw (← es) b; ending = rw (← et) e }
-
-module _ {ends transitions : List ℕ} {r : ℕ} {codes : List ℕ} {code : ℕ} (rows : PairRows ends transitions r codes)
-    (among : In code codes) {start end : ℕ} (at : OwnRow ends code start end) where
-  pub own_is : take (end - start) (drop start transitions) ≡ row ends transitions (code / level_places)
-  own_is = rw (at.begins, at.ending)
-
-  pub own_begins : start ≤ end
-  own_begins = rw (at.begins, at.ending) (row_rises ends codes code rows.listed among (code / level_places) refl)
-
-  pub own_fits : end ≤ length transitions
-  own_fits = rw (at.ending, rows.size) (row_inside ends codes code rows.listed among (code / level_places) refl)
-
-  pub own_few : end - start ≤ max_of_state
-  own_few = rw (at.begins, at.ending) (row_few ends codes code rows.listed among (code / level_places) refl)
-
-  pub own_leads : Leads (take (end - start) (drop start transitions))
-  own_leads =
-      let here = state_within ends codes code rows.listed among (code / level_places) refl in
-      rw own_is (λ x h. omega (arith, rows.closed (code / level_places) here x h, rows.listed.rows.states))

@@ -1,14 +1,15 @@
 -- R-8: the propositions that a rule demands both ways. An accepted translation carries them, a bit each.
 use Rattle.std.specs.Prelude.{ℕ, List}
 use Rattle.std.specs.Int.Bits.{bit_or}
-use Rattle.answer.specs.Result.{Result, accepted, refused, and_then}
+use Rattle.answer.specs.Result.{Result, accepted, refused, and_then, reason_number}
 use Rattle.formula.specs.Formula.{formula}
 use Rattle.term.specs.Term.{conflicts}
 use Rattle.generalized.specs.Generalized.{generalized, walk_conflicts}
 use Rattle.automaton.specs.Tables.{Counts, Outcome, outcome, table_check}
 use Rattle.normalform.specs.NormalForm.{normal_form, written_checked}
 use Rattle.translation.specs.declared.Translated.{Translated}
-use Rattle.translation.specs.declared.Translated.TheVariants.{Accepted, Refused}
+use Rattle.std.specs.Prelude.{Result as Returned, Ok, Err}
+use Rattle.answer.specs.declared.Refusal.{Refusal}
 use Rattle.translation.specs.Degeneralized.{translation}
 use Rattle.translation.specs.Translate.{translated}
 
@@ -32,13 +33,13 @@ translated_conflicts rule s t i =
 -- ---- the call translate
 
 -- the counts of an answer of translate, and its conflicts
-abbrev pub told_counts : Translated → Result Counts
-told_counts (Accepted c conflicts) = accepted c
-told_counts (Refused number place) = refused number place
+abbrev pub told_counts : Returned Translated Refusal → Result Counts
+told_counts (Ok t) = accepted t.counts
+told_counts (Err r) = refused (reason_number r.reason) r.place
 
-abbrev pub told_conflicts : Translated → Result ℕ
-told_conflicts (Accepted c conflicts) = accepted conflicts
-told_conflicts (Refused number place) = refused number place
+abbrev pub told_conflicts : Returned Translated Refusal → Result ℕ
+told_conflicts (Ok t) = accepted t.conflicts
+told_conflicts (Err r) = refused (reason_number r.reason) r.place
 
 -- an answer with the three tables afterwards, and the conflicts that it carries
 pub record Carried : Type 0 where
@@ -49,7 +50,7 @@ abbrev pub carried : Outcome → Result ℕ → Carried
 carried tables conflicts = record { tables = tables; conflicts = conflicts }
 
 -- what an answer of translate tells, with the tables afterwards
-abbrev pub told_with : Translated → (states transitions initial : List ℕ) → Carried
+abbrev pub told_with : Returned Translated Refusal → (states transitions initial : List ℕ) → Carried
 told_with r s t i = carried (outcome (told_counts r) s t i) (told_conflicts r)
 
 -- what the call comes to: its answer, its place and every lent byte, and the conflicts that it carries

@@ -2,7 +2,7 @@
 -- and the records come to over these.
 use Rattle.std.specs.Prelude.{ℕ, zero, suc, ◌+◌, ◌-◌, ◌*◌, ◌/◌, ◌%◌, ◌<◌, ◌≤◌, ◌≡◌, List, ◌++◌, map, Bool, true, false}
 use Rattle.std.specs.Prelude.{cond, ◌&&◌, length, get_or, take, drop, eqb, ltb}
-use Rattle.answer.specs.Result.{Result, accepted, refused, fine}
+use Rattle.answer.specs.Result.{Result, accepted, refused, fine, reason_number}
 use Rattle.sets.specs.Sets.{In, any}
 use Rattle.sets.specs.Bits.{has}
 use Rattle.formula.specs.Limits.{max_untils}
@@ -12,19 +12,15 @@ use Rattle.generalized.specs.Limits.{max_generalized_transitions, max_generalize
 use Rattle.generalized.specs.Explore.{find, meet, Numbering, meet_all, Walk, walked}
 use Rattle.generalized.specs.Generalized.{generalized}
 use Rattle.generalized.specs.Memory.{kept, kept_target, kept_untils, kept_must, kept_must_not, all_transitions}
-use Rattle.translation.specs.declared.Met.{Met}
-use Rattle.translation.specs.declared.Met.TheVariants.{Number, Full}
-use Rattle.translation.specs.declared.Paired.{Paired}
-use Rattle.translation.specs.declared.Paired.TheVariants.{Count, Stop}
-use Rattle.translation.specs.declared.Extent.{Extent}
+use Rattle.translation.specs.declared.StateNumber.{StateNumber}
+use Rattle.std.specs.Prelude.{Option, Some, None}
+use Rattle.std.specs.Prelude.{Result as Returned, Ok, Err}
+use Rattle.answer.specs.declared.Refusal.{Refusal}
 use Rattle.translation.specs.declared.Translated.{Translated}
-use Rattle.translation.specs.declared.Translated.TheVariants.{Accepted as WithConflicts, Refused as Turned}
-use Rattle.automaton.specs.declared.Counted.{Counted}
-use Rattle.automaton.specs.declared.Counted.TheVariants.{Accepted, Refused}
 use Rattle.automaton.specs.Automaton.{Automaton}
 use Rattle.automaton.specs.Limits.{max_states, max_of_state}
 use Rattle.automaton.specs.Records.{records, state_bytes, transition_bytes}
-use Rattle.automaton.specs.Tables.{told, outcome}
+use Rattle.automaton.specs.Tables.{Counts, outcome, tabled}
 use Rattle.translation.specs.Degeneralized.{Pair, pair, translation}
 use Rattle.translation.specs.Translate.{stored}
 use Rattle.translation.specs.Conflicts.{rule_conflicts, told_counts, told_conflicts}
@@ -88,10 +84,6 @@ target_n r level x = code_of (kept_target x) (next_level_n (kept_untils x) r lev
 -- codes are numbered as their pairs are
 abbrev pub code_numbering : Numbering ℕ
 code_numbering = record { same = eqb; limit = max_states; full = 24; each = λ _ _. fine }
-
--- the number of a pair, of which index has one more
-abbrev pub number_n : (index : List ℕ) (code : ℕ) → ℕ
-number_n index code = get_or index code 0 - 1
 
 -- the transition x is free and leads from the pair that has a code back to it
 abbrev pub stays_n : (r code x : ℕ) → Bool
@@ -157,29 +149,29 @@ pub record PairRows (ends transitions : List ℕ) (r : ℕ) (codes : List ℕ) :
 abbrev pub Leads : (row : List ℕ) → Type 0
 Leads row = (x : ℕ) → In x row → kept_target x < max_generalized_states
 
--- n pairs are numbered: their codes stand by number in pairs, and index has for each code one more than its pair's
+-- n pairs are numbered: their codes stand by number in codes, and index has for each code one more than its pair's
 -- number, or 0 where the pair has none
-pub record PairsNumbered (pairs index : List ℕ) (n : ℕ) : Type 0 where
-  pub room : length pairs ≡ max_states
+pub record PairsNumbered (codes index : List ℕ) (n : ℕ) : Type 0 where
+  pub room : length codes ≡ max_states
   pub size : length index ≡ code_places
   pub few : n ≤ max_states
   pub number :
       (code : ℕ) → code < code_places
-      → get_or index code 0 ≡ cond (ltb (find eqb code (take n pairs)) n) (suc (find eqb code (take n pairs))) 0
+      → get_or index code 0 ≡ cond (ltb (find eqb code (take n codes)) n) (suc (find eqb code (take n codes))) 0
 
--- a pair met when xs are numbered: its number, and that n are numbered then, xs the first of them
-pub record NumberedPair (code : ℕ) (xs : List ℕ) (met : Result (List ℕ)) (number n : ℕ) (pairs index : List ℕ)
-    : Type 0 where
-  pub are : met ≡ accepted (take n pairs)
-  pub numbered : PairsNumbered pairs index n
-  pub first : take (length xs) (take n pairs) ≡ xs
-  pub found : number ≡ find eqb code (take n pairs)
-  pub inside : number < n
+-- a pair met when xs are numbered: its number, and the pairs that are numbered then, xs the first of them
+pub record NumberedPair (code : ℕ) (xs : List ℕ) (met : Result (List ℕ)) (number : ℕ) (ys : List ℕ) : Type 0 where
+  pub are : met ≡ accepted ys
+  pub few : length ys ≤ max_states
+  pub first : take (length xs) ys ≡ xs
+  pub found : number ≡ find eqb code ys
+  pub inside : number < length ys
 
-abbrev pub MeetsPair : (place code : ℕ) (xs : List ℕ) → Met → (pairs index : List ℕ) → Type 0
-MeetsPair place code xs (Number number n) pairs index =
-    NumberedPair code xs (meet eqb max_states 24 place code xs) number.0 n pairs index
-MeetsPair place code xs Full pairs index = meet eqb max_states 24 place code xs ≡ refused 24 place
+-- or none, where it is a pair too many
+abbrev pub MeetsPair : (place code : ℕ) (xs : List ℕ) → Option StateNumber → (ys : List ℕ) → Type 0
+MeetsPair place code xs (Some number) ys =
+    NumberedPair code xs (meet eqb max_states 24 place code xs) number.0 ys
+MeetsPair place code xs None ys = meet eqb max_states 24 place code xs ≡ refused 24 place
 
 -- ---- records in a table
 
@@ -188,49 +180,59 @@ pub record AddsRecords (before : List ℕ) (k : ℕ) (bytes table : List ℕ) (a
   pub count : after * 4 ≡ k * 4 + length bytes
   pub front : take (after * 4) table ≡ take (k * 4) before ++ bytes
 
--- pairs met, n of which are numbered then, and the records of transitions put after the first k of a table, m of which
--- are there then: those that bytes makes of the pairs and their numbers, whatever pairs take the numbers after n
-pub record AddedRows (met : Result (List ℕ)) (bytes : (done codes : List ℕ) → List ℕ) (before : List ℕ) (k n m : ℕ)
-    (pairs index table : List ℕ) : Type 0 where
-  pub are : met ≡ accepted (take n pairs)
-  pub numbered : PairsNumbered pairs index n
+-- pairs met, and the records of transitions put after the first k of a table, m of which are there then: those that
+-- bytes makes of the pairs and their numbers, whatever pairs take the numbers after theirs
+pub record AddedRows (met : Result (List ℕ)) (bytes : (done codes : List ℕ) → List ℕ) (before : List ℕ) (k m : ℕ)
+    (pairs table : List ℕ) : Type 0 where
+  pub are : met ≡ accepted pairs
   pub inside : m * 4 ≤ length table
-  pub written : (more : List ℕ) → AddsRecords before k (bytes (take n pairs) (take n pairs ++ more)) table m
+  pub written : (more : List ℕ) → AddsRecords before k (bytes pairs (pairs ++ more)) table m
 
 -- or there is a pair too many, and the pair being walked
 abbrev pub AddsRows : (met : Result (List ℕ)) (bytes : (done codes : List ℕ) → List ℕ) (before : List ℕ) (k : ℕ)
-    → Paired → (pairs index table : List ℕ) → Type 0
-AddsRows met bytes before k (Count n m) pairs index table = AddedRows met bytes before k n m pairs index table
-AddsRows met bytes before k (Stop pair) pairs index table = met ≡ refused 24 pair.0
+    → Returned ℕ Refusal → (pairs table : List ℕ) → Type 0
+AddsRows met bytes before k (Ok m) pairs table = AddedRows met bytes before k m pairs table
+AddsRows met bytes before k (Err r) pairs table = met ≡ refused (reason_number r.reason) r.place
 
--- a row walked from a level: the targets met and the records put behind those before, whatever number of transitions
+-- a row walked from a level: the targets met and the records put behind the first k, whatever number of transitions
 -- the walk has met
-abbrev pub MeetsRow : (row : List ℕ) (level r : ℕ) (before : Extent) (pairs table : List ℕ)
-    → Paired → (pairs' index' table' : List ℕ) → Type 0
-MeetsRow row level r before pairs table met pairs' index' table' =
+abbrev pub MeetsRow : (row : List ℕ) (level r walked k : ℕ) (pairs table : List ℕ)
+    → Returned ℕ Refusal → (pairs' table' : List ℕ) → Type 0
+MeetsRow row level r walked k pairs table met pairs' table' =
     (count : ℕ)
-    → AddsRows (meet_all code_numbering before.walked (map (target_n r level) row) count (take before.pairs pairs))
-    (λ _ codes. records (transition_n codes r level) row) table before.transitions met pairs' index' table'
+    → AddsRows (meet_all code_numbering walked (map (target_n r level) row) count pairs)
+    (λ _ codes. records (transition_n codes r level) row) table k met pairs' table'
 
--- all pairs walked from the first n, and the records of their transitions put from the table's beginning
-abbrev pub WalksPairs : (ends transitions : List ℕ) (r n : ℕ) (pairs table : List ℕ)
-    → Paired → (pairs' index' table' : List ℕ) → Type 0
-WalksPairs ends transitions r n pairs table met pairs' index' table' =
-    AddsRows (walked (code_walk ends transitions r) (take n pairs))
-    (rows_n ends transitions r) table 0 met pairs' index' table'
+-- all pairs walked from the first ones, and the records of their transitions put from the table's beginning
+abbrev pub WalksPairs : (ends transitions : List ℕ) (r : ℕ) (pairs table : List ℕ)
+    → Returned ℕ Refusal → (pairs' table' : List ℕ) → Type 0
+WalksPairs ends transitions r pairs table met pairs' table' =
+    AddsRows (walked (code_walk ends transitions r) pairs) (rows_n ends transitions r) table 0 met pairs' table'
 
 -- ---- the call's tables
 
--- the answer, and the three tables as the automaton or its refusal by 20 to 24 leaves them
-abbrev pub Leaves : Result Automaton → Counted → (s t i s' t' i' : List ℕ) → Type 0
-Leaves made answer s t i s' t' i' = outcome (told answer) s' t' i' ≡ stored made s t i
+-- an automaton in the three tables, with its counts
+pub record Filled (made : Result Automaton) (c : Counts) (s t i s' t' i' : List ℕ) : Type 0 where
+  pub automaton : Automaton
+  pub are : made ≡ accepted automaton
+  pub tables : outcome (accepted c) s' t' i' ≡ tabled automaton s t i
 
--- counts with conflicts, or a refusal
-abbrev pub carrying : Counted → ℕ → Translated
-carrying (Accepted c) conflicts = WithConflicts c conflicts
-carrying (Refused number place) conflicts = Turned number place
+-- or its refusal, which leaves the bytes of the tables open
+abbrev pub Fills : Result Automaton → Returned Counts Refusal → (s t i s' t' i' : List ℕ) → Type 0
+Fills made (Ok c) s t i s' t' i' = Filled made c s t i s' t' i'
+Fills made (Err r) s t i s' t' i' = made ≡ refused (reason_number r.reason) r.place
 
--- for a rule that 25 and 1 to 7 let pass, with the conflicts that an acceptance carries
-pub record Builds (rule : List ℕ) (r : Translated) (s t i s' t' i' : List ℕ) : Type 0 where
+-- the automaton of a rule that 25 and 1 to 7 let pass, with the conflicts that it carries
+pub record FilledAll (rule : List ℕ) (done : Translated) (s t i s' t' i' : List ℕ) : Type 0 where
+  pub filled : Filled (translation rule) done.counts s t i s' t' i'
+  pub conflicts : rule_conflicts rule ≡ accepted done.conflicts
+
+abbrev pub FillsAll : (rule : List ℕ) → Returned Translated Refusal → (s t i s' t' i' : List ℕ) → Type 0
+FillsAll rule (Ok done) s t i s' t' i' = FilledAll rule done s t i s' t' i'
+FillsAll rule (Err r) s t i s' t' i' = translation rule ≡ refused (reason_number r.reason) r.place
+
+-- its answer, the three tables as the automaton or its refusal by 20 to 24 leaves them, and the conflicts that an
+-- acceptance carries
+pub record Builds (rule : List ℕ) (r : Returned Translated Refusal) (s t i s' t' i' : List ℕ) : Type 0 where
   pub tables : outcome (told_counts r) s' t' i' ≡ stored (translation rule) s t i
   pub conflicts : told_conflicts r ≡ rule_conflicts rule

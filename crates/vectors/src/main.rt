@@ -38,13 +38,14 @@ fn answer_next<R: Read, W: Write>(input: &mut R, out: &mut W) -> io::Result<bool
     answer_rule(input, out, &mut buffer, number_of(prefix[0], prefix[1]))
 }
 
-// A loop has to end, and nothing says that the input does: it counts its turns down.
+// A loop has to end, and nothing says that the input does: it counts its turns.
 fn main(rt: HostRuntime) -> io::Result<()> {
     let mut input = rt.stdin();
     let mut out = rt.stdout();
-    let mut turns = u64::MAX;
-    while turns > 0 && answer_next(&mut input, &mut out)? {
-        turns -= 1;
+    for _ in 0..u64::MAX {
+        if !answer_next(&mut input, &mut out)? {
+            break;
+        }
     }
     Ok(())
 }

@@ -2,29 +2,27 @@
 -- Assumes nothing.
 use native.Mathlib.Omega.{arith}
 use native.Mathlib.Numerals.{add-one}
-use mathlib.Core.Path.{◌≡◌, refl, sym, ◌∙◌}
+use mathlib.Core.Path.{◌≡◌, refl, sym, ap, ◌∙◌}
 use mathlib.Core.List.{List, [], ◌∷◌, map, map-append}
-use Prim.Native.Nat.{ℕ, ◌+◌, ◌-◌, ◌≤◌, ◌<◌}
+use Prim.Native.Nat.{ℕ, ◌+◌, ◌<◌}
 use lib.ListN.{length, get_or, take, set, length-set}
-use lib.Seq.{take-suc, take-suc-set}
+use lib.Seq.{take-suc, take-suc-set, take_all}
 use Rattle.term.specs.Memory.{unpack}
 use Rattle.acceptance.specs.Acceptance.{fulfilment}
 use Rattle.acceptance.proofs.fulfil.Given as goal
 
-module _ (rule ts : List ℕ) (n : ℕ) (before : List ℕ) where
-  -- a loop over the first n of ts that stands at i
+module _ (rule ts before : List ℕ) where
+  -- a loop over ts that stands at i
   pub record Filling (bytes : List ℕ) (i : ℕ) : Type 0 where
-    pub within : i ≤ n
     pub size : length bytes ≡ length before
     pub done : take i bytes ≡ map (fulfilment rule) (map unpack (take i ts))
 
   pub fill_begins : Filling before 0
-  fill_begins = record { within = omega arith; size = refl; done = refl }
+  fill_begins = record { size = refl; done = refl }
 
-  pub fill_steps : n ≤ length ts → n ≤ length before → (bytes : List ℕ) (i : ℕ) {b : ℕ} → i < n → Filling bytes i
+  pub fill_steps : length before ≡ length ts → (bytes : List ℕ) (i : ℕ) {b : ℕ} → i < length ts → Filling bytes i
       → b ≡ fulfilment rule (unpack (get_or ts i 0)) → Filling (set bytes i b) (i + 1)
-  fill_steps some room bytes i {b} lt inv e = record {
-    within = omega arith;
+  fill_steps room bytes i {b} lt inv e = record {
     size = length-set bytes i b ∙ inv.size;
     done =
         rw (
@@ -38,14 +36,11 @@ module _ (rule ts : List ℕ) (n : ℕ) (before : List ℕ) where
         (sym (map-append (fulfilment rule) (map unpack (take i ts)) (unpack (get_or ts i 0) ∷ [])));
   }
 
-  pub fill_ends : (bytes : List ℕ) (i : ℕ) → n ≤ i → Filling bytes i
-      → take n bytes ≡ map (fulfilment rule) (map unpack (take n ts))
-  fill_ends bytes i ge inv =
-      let e : i ≡ n = omega (arith, inv.within) in
-      rw e at inv.done
+  pub fill_ends : length before ≡ length ts → (bytes : List ℕ) (i : ℕ) → i ≡ length ts → Filling bytes i
+      → bytes ≡ map (fulfilment rule) (map unpack ts)
+  fill_ends room bytes i e inv =
+      sym (take_all i bytes (omega (arith, inv.size))) ∙ inv.done
+      ∙ ap (λ (xs : List ℕ). map (fulfilment rule) (map unpack xs)) (take_all i ts (omega arith))
 
 abbrev pub invariant-loop-i : goal.invariant-loop-i
-invariant-loop-i l = Filling l.rule l.ts l.n l.initial.bytes l.bytes l.i
-
-abbrev pub decreases-loop-i : goal.decreases-loop-i
-decreases-loop-i l = l.n - l.i
+invariant-loop-i l = Filling l.rule l.ts l.initial.bytes l.bytes l.i

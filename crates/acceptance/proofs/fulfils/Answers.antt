@@ -1,26 +1,16 @@
--- `acceptance::fulfils` meets its contract: none of the terms passed shows it (`Seeking`).
--- Assumes nothing.
-use native.Mathlib.Omega.{arith}
-use mathlib.Core.Path.{refl}
-use Rattle.sets.proofs.Seeking.{seek_finds, seek_steps, seek_ends}
+-- `acceptance::fulfils` meets its contract: one of the terms shows it, or none. Assumes nothing.
+use Rattle.std.proofs.Common.{rules, tests, ◌∙◌, ◌≡◌}
+use Rattle.std.proofs.lemmas.Iterator.{YieldsList-from_slice}
+use Rattle.std.proofs.lemmas.Iterator.Search.{any_from_yields_List}
+use Rattle.sets.proofs.Seeking.{list_any_is}
+use Rattle.sets.specs.Sets.{any}
+use Rattle.acceptance.specs.Memory.{shows_n}
 use Rattle.acceptance.proofs.fulfils.Goals as goal
 
-pub returns-then-not-owes : goal.returns-then-not-owes
-returns-then-not-owes c = rw (← c.owes.ensures, c.if-not-owes.true-raw)
-
-pub loop-i-init : goal.loop-i-init
-loop-i-init c = record { within = omega arith; rest = refl }
-
-pub returns-then-shows : goal.returns-then-shows
-returns-then-shows c =
-    rw (← c.owes.ensures, c.if-not-owes.false-raw)
-    (seek_finds 0 _ _ c.loop-i.i c.loop-i.invariant (omega arith) c.shows.ensures c.if-shows.true)
-
-pub loop-i-preserved : goal.loop-i-preserved
-loop-i-preserved c =
-    seek_steps 0 _ _ c.loop-i.i c.loop-i.invariant (omega arith) c.shows.ensures c.if-shows.false
-
-pub returns : goal.returns
-returns c =
-    rw (← c.owes.ensures, c.if-not-owes.false-raw)
-    (seek_ends 0 _ _ c.loop-i.i c.loop-i.invariant c.loop-i-test.false)
+pub returns-else-not-owes : goal.returns-else-not-owes
+returns-else-not-owes c =
+    let test = shows_n c.args.f c.args.t in
+    let found : c.any.result ≡ any test c.args.us.now =
+    any_from_yields_List test _ _ _ c.any.ensures.ran (YieldsList-from_slice c.args.us.now cc)
+    (λ x b q k. search (rules, tests)) ∙ list_any_is test c.args.us.now in
+    rw (← c.owes.ensures, c.if-not-owes.false) found

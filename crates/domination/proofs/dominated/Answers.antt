@@ -1,21 +1,31 @@
--- `domination::dominated` meets its contract: none of the terms passed dominates the one that is asked about, whatever
--- the untils are that the bytes tell (`Seeking`). Assumes nothing.
-use native.Mathlib.Omega.{arith}
-use mathlib.Core.Path.{refl}
-use Rattle.sets.proofs.Seeking.{seek_ends}
-use Rattle.domination.proofs.dominated.Invariants.{finds, steps}
+-- `domination::dominated` meets its contract: one of the terms dominates the one that is asked about, or none, whatever
+-- the untils are that the bytes tell. Assumes nothing.
+use Rattle.std.proofs.Common.{ℕ, Bool, List, [], ◌∷◌, map, refl, rules, tests, ◌≡◌, ◌∙◌}
+use Rattle.std.specs.List.{zip, list_any}
+use Rattle.std.proofs.lemmas.Iterator.{YieldsList-from_slice, YieldsList-from_zip}
+use Rattle.std.proofs.lemmas.Iterator.Search.{any_from_yields_List}
+use Rattle.sets.specs.Sets.{any}
+use Rattle.domination.specs.Memory.{dominates_byte, dominates_n}
 use Rattle.domination.proofs.dominated.Goals as goal
 
-pub loop-i-init : goal.loop-i-init
-loop-i-init c = (omega arith, λ untils told own. record { within = omega arith; rest = refl })
+-- the test of a term and its byte
+abbrev test : (t byte : ℕ) → ℕ × ℕ → Bool
+test t byte p = dominates_byte p.0 p.1 t byte
 
-pub returns-then-dominates : goal.returns-then-dominates
-returns-then-dominates c =
-    finds _ _ _ _ c.loop-i.i (omega arith) c.dominates.ensures c.loop-i.invariant.1 c.if-dominates.true
-
-pub loop-i-preserved : goal.loop-i-preserved
-loop-i-preserved c =
-    (omega arith, steps _ _ _ _ c.loop-i.i (omega arith) c.dominates.ensures c.loop-i.invariant.1 c.if-dominates.false)
+-- of terms with their bytes it is that of the terms
+told_any : (untils : ℕ → ℕ) (t : ℕ) (ts : List ℕ)
+    → list_any (test t (untils t)) (zip ts (map untils ts)) ≡ any (λ u. dominates_n untils u t) ts
+unfolding any
+told_any untils t [] = refl
+told_any untils t (x ∷ xs) = rw (told_any untils t xs)
 
 pub returns : goal.returns
-returns c untils told own = seek_ends 0 _ _ c.loop-i.i (c.loop-i.invariant.1 untils told own) c.loop-i-test.false
+returns c untils told own =
+    let ts = c.args.ts.now in
+    let bytes = c.args.bytes.now in
+    let t = c.args.t in
+    let found : c.any.result ≡ list_any (test t c.args.byte) (zip ts bytes) =
+    any_from_yields_List (test t c.args.byte) c.any.new.self _ _ c.any.ensures.ran
+    (YieldsList-from_zip (YieldsList-from_slice ts (cc)) (YieldsList-from_slice bytes (cc)))
+    (λ x b q k. search (rules, tests)) in
+    found ∙ rw (told, own) (told_any untils t ts)

@@ -1,13 +1,13 @@
--- `domination::drop_dominated` meets its contract: of the terms passed, those that are kept stand in front, and the rest
--- stands where it stood (`Sifting`). Assumes nothing.
-use native.Mathlib.Omega.{arith}
+-- `domination::drop_dominated` meets its contract: of the terms passed, those that are kept stand in front, and the
+-- rest stands where it stood (`Sifting`). Assumes nothing.
+use Rattle.std.proofs.Common.{arith, rules}
 use mathlib.Core.Path.{sym, ◌∙◌}
 use lib.Seq.{length-take-le}
 use Rattle.domination.proofs.drop_dominated.Invariants.{begins, steps, ends}
 use Rattle.domination.proofs.drop_dominated.Goals as goal
 
 pub loop-i-init : goal.loop-i-init
-loop-i-init c = begins _ _ _ c.requires
+loop-i-init c = begins _ _ c.requires
 
 pub bounds-ts-i : goal.bounds-ts-i
 bounds-ts-i c = omega (arith, c.loop-i.invariant.size, c.requires.inside)
@@ -39,8 +39,8 @@ dominated-dropped-requires c =
 
 pub loop-i-preserved : goal.loop-i-preserved
 loop-i-preserved c =
-    steps _ _ _ c.requires c.loop-i.invariant (omega arith) c.dominated-dropped.result
-    c.dominated-dropped.ensures c.either-kept.ensures
+    steps _ _ c.requires c.loop-i.invariant (omega arith) c.dominated-dropped.result
+    c.dominated-dropped.ensures (search rules)
 
 pub returns : goal.returns
-returns c = ends _ _ _ c.requires c.loop-i.invariant c.loop-i-test.false
+returns c = ends _ _ c.requires c.loop-i.invariant (omega arith)

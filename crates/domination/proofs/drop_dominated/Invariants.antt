@@ -1,11 +1,11 @@
--- `domination::drop_dominated` meets its contract: of the terms passed, those that are kept stand in front, and the rest
--- stands where it stood (`Sifting`). Assumes nothing.
+-- `domination::drop_dominated` meets its contract: of the terms passed, those that are kept stand in front, and the
+-- rest stands where it stood (`Sifting`). Assumes nothing.
 use native.Mathlib.Omega.{arith}
 use native.Mathlib.Numerals.{add-one}
 use mathlib.Core.Path.{◌≡◌, refl, sym, ◌∙◌, ap}
 use mathlib.Core.Bool.{Bool, true, false, cond, not}
 use mathlib.Core.List.{List, [], ◌∷◌, ◌++◌, map, map-append, append-nil}
-use Prim.Native.Nat.{ℕ, suc, ◌+◌, ◌-◌, ◌≤◌, ◌<◌}
+use Prim.Native.Nat.{ℕ, suc, ◌+◌, ◌≤◌, ◌<◌}
 use lib.ListN.{length, get_or, take, set, length-set}
 use lib.Seq.{get_or-take, get_or-set_other, length-take-le, take_all, take-suc, take-set-le, take-suc-set}
 use Rattle.sets.specs.Sets.{any}
@@ -16,8 +16,11 @@ use Rattle.domination.proofs.Undominated.{sift_append, dominated_before}
 use Rattle.domination.proofs.Packed.{number_falls, number_follows}
 use Rattle.domination.proofs.drop_dominated.Given as goal
 
--- the terms that are sifted, the first count of ts₀, and their bytes
-module _ (ts₀ bytes₀ : List ℕ) (count : ℕ) where
+-- the terms that are sifted, all of ts₀, and their bytes
+module _ (ts₀ bytes₀ : List ℕ) where
+  abbrev pub count : ℕ
+  count = length ts₀
+
   abbrev pub xs : List ℕ
   xs = take count ts₀
 
@@ -29,7 +32,6 @@ module _ (ts₀ bytes₀ : List ℕ) (count : ℕ) where
     pub rest_told : (j : ℕ) → i ≤ j → j < count → get_or bytes j 0 ≡ untils (get_or xs j 0)
 
   pub record Loop (ts bytes : List ℕ) (kept i : ℕ) : Type 0 where
-    pub within : i ≤ count
     pub few : kept ≤ i
     pub size : length ts ≡ length ts₀
     pub bytes_size : length bytes ≡ length bytes₀
@@ -42,7 +44,6 @@ module _ (ts₀ bytes₀ : List ℕ) (count : ℕ) where
     pub begins : Loop ts₀ bytes₀ 0 0
     unfolding sift
     begins = record {
-      within = omega arith;
       few = omega arith;
       size = refl;
       bytes_size = refl;
@@ -125,7 +126,8 @@ module _ (ts₀ bytes₀ : List ℕ) (count : ℕ) where
         fronts false q =
             let more = take-suc-set ts kept (get_or ts i 0) (omega (arith, inv.few, inv.size, sorted.inside)) in
             let more_bytes =
-            take-suc-set bytes kept (get_or bytes i 0) (omega (arith, inv.few, inv.bytes_size, sorted.bytes_inside)) in (
+            take-suc-set bytes kept (get_or bytes i 0)
+            (omega (arith, inv.few, inv.bytes_size, sorted.bytes_inside)) in (
               rw (more, next_are false q),
               rw (more, more_bytes, s.told, own) (sym (map-append untils (take kept ts) (get_or ts i 0 ∷ []))),
             )
@@ -145,31 +147,32 @@ module _ (ts₀ bytes₀ : List ℕ) (count : ℕ) where
                   ∙ s.rest_told j (omega arith) l;
             }
 
-      pub steps : (b : Bool) → Tested b → {r : ℕ} → r ≡ cond b kept (kept + 1) → Loop ts_after bytes_after r (i + 1)
-      steps b tested {r} e = record {
-        within = omega arith;
+      pub steps : (b : Bool) → Tested b → {one : ℕ} → one ≡ cond (not b) 1 0
+          → Loop ts_after bytes_after (kept + one) (i + 1)
+      steps b tested {one} e = record {
         few = most b e;
         size = length-set ts kept (get_or ts i 0) ∙ inv.size;
         bytes_size = length-set bytes kept (get_or bytes i 0) ∙ inv.bytes_size;
         sifting = λ untils told. rw (add-one i)
-            (sifting_on untils (inv.sifting untils told) b tested (e ∙ ap (cond b kept) (add-one kept)));
+            (sifting_on untils (inv.sifting untils told) b tested (next b e));
       }
         where
-          most : (b : Bool) → r ≡ cond b kept (kept + 1) → r ≤ i + 1
+          most : (b : Bool) → one ≡ cond (not b) 1 0 → kept + one ≤ i + 1
           most true e = omega (arith, inv.few)
           most false e = omega (arith, inv.few)
 
-    pub ends : {ts bytes : List ℕ} {kept i : ℕ} → Loop ts bytes kept i → count ≤ i
+          next : (b : Bool) → one ≡ cond (not b) 1 0 → kept + one ≡ cond b kept (suc kept)
+          next true e = omega arith
+          next false e = omega arith
+
+    pub ends : {ts bytes : List ℕ} {kept i : ℕ} → Loop ts bytes kept i → i ≡ count
         → Drops ts₀ bytes₀ count ts bytes kept
-    ends {ts} {bytes} {kept} {i} inv ge = record {
-      few = omega (arith, inv.few, inv.within);
+    ends {ts} {bytes} {kept} {i} inv all = record {
+      few = omega (arith, inv.few);
       sifted = λ untils told.
           let s = inv.sifting untils told in
           record { are = s.are ∙ rw (take_all i xs (omega (arith, count_is))); told = s.told };
     }
 
 abbrev pub invariant-loop-i : goal.invariant-loop-i
-invariant-loop-i l = Loop l.initial.ts l.initial.bytes l.count l.ts l.bytes l.kept l.i
-
-abbrev pub decreases-loop-i : goal.decreases-loop-i
-decreases-loop-i l = l.count - l.i
+invariant-loop-i l = Loop l.initial.ts l.initial.bytes l.ts l.bytes l.kept l.i

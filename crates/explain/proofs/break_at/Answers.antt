@@ -1,66 +1,62 @@
--- `explain::break_at` meets its contract: by the clause's kind. Assumes nothing.
+-- `explain::break_at` meets its contract: by the clause's kind, and by the rows of its sides. Assumes nothing.
+use mathlib.Core.Path.{refl}
 use native.Mathlib.Omega.{arith}
-use Rattle.explain.proofs.Telling.{Known, small, left_inside, right_inside, rows_fit, other_is, until_is}
-use Rattle.explain.proofs.Telling.{release_is}
+use Rattle.std.proofs.Common.{rules}
+use Rattle.answer.proofs.Lowest.{passes_fine}
+use Rattle.explain.proofs.Telling.{Known, left_fits, right_fits, same_length, other_is, until_is, release_is}
 use Rattle.explain.proofs.break_at.Goals as goal
-use Rattle.explain.proofs.break_at.Goals.{After-kind_of-kind}
+use Rattle.explain.proofs.break_at.Goals.{After-kind}
 
-known : (c : After-kind_of-kind)
-    → Known c.args.rule.now c.args.stem.now c.args.cycle.now
-    c.args.table.now
-known c = record { fine_rule = c.requires.0; room = c.requires.2; done = c.requires.3 }
+known : (c : After-kind)
+    → Known c.args.rule.now.bytes.now c.args.lasso.now.stem.now c.args.lasso.now.cycle.now c.args.table.now
+known c = record {
+  fine_rule = passes_fine _ c.args.rule.now.accepted;
+  room = c.requires.1;
+  done = c.requires.2;
+}
 
-pub returns-then-kind-lt-UNTIL : goal.returns-then-kind-lt-UNTIL
-returns-then-kind-lt-UNTIL c =
-    other_is (known (goal.at.returns-then-kind-lt-UNTIL c).After-kind_of-kind) c.requires.1 c.kind_of-kind.ensures
-    (omega arith)
+pub row-requires : goal.row-requires
+row-requires c =
+    left_fits (known (goal.at.row-requires c).After-kind) c.requires.0 c.in-Until.ensures.number (omega arith)
+    c.left-left.ensures
 
-pub overflow_mul-a : goal.overflow_mul-a
-overflow_mul-a c =
-    let i = c.requires.1 in
-    let k = c.kind_of-kind.ensures in
-    omega (
-      arith,
-      small (known (goal.at.overflow_mul-a c).After-kind_of-kind) i k,
-      left_inside
-          (known (goal.at.overflow_mul-a c).After-kind_of-kind) i k c.left_of-a.ensures (omega arith),
-    )
-
-pub overflow_mul-b : goal.overflow_mul-b
-overflow_mul-b c =
-    let i = c.requires.1 in
-    let k = c.kind_of-kind.ensures in
-    omega (
-      arith,
-      small (known (goal.at.overflow_mul-b c).After-kind_of-kind) i k,
-      right_inside
-          (known (goal.at.overflow_mul-b c).After-kind_of-kind) i k c.right_of-b.ensures (omega arith),
-    )
-
-pub overflow_add-total : goal.overflow_add-total
-overflow_add-total c = omega (arith, c.requires.2.few)
+pub row-requires-in-Until : goal.row-requires-in-Until
+row-requires-in-Until c =
+    right_fits (known (goal.at.row-requires-in-Until c).After-kind) c.requires.0 c.in-Until.ensures.number (omega arith)
+    c.right-right.ensures
 
 pub until_break-requires : goal.until_break-requires
 until_break-requires c =
-    rows_fit (known (goal.at.until_break-requires c).After-kind_of-kind) c.requires.1 c.kind_of-kind.ensures
-    c.left_of-a.ensures
-    c.right_of-b.ensures (omega arith)
+    same_length (known (goal.at.until_break-requires c).After-kind) c.requires.0 c.in-Until.ensures.number (omega arith)
+    c.left-left.ensures c.right-right.ensures c.row.ensures c.row-in-Until.ensures
 
-pub returns-then-kind-eq-UNTIL : goal.returns-then-kind-eq-UNTIL
-returns-then-kind-eq-UNTIL c =
-    until_is (known (goal.at.returns-then-kind-eq-UNTIL c).After-kind_of-kind) c.requires.1 c.kind_of-kind.ensures
-    c.left_of-a.ensures
-    c.right_of-b.ensures (omega arith) c.if-kind-eq-UNTIL.true c.until_break.result
-    c.until_break.ensures
+pub returns-in-Until : goal.returns-in-Until
+returns-in-Until c =
+    until_is (known (goal.at.returns-in-Until c).After-kind) c.requires.0 c.in-Until.ensures.number (omega arith)
+    c.left-left.ensures c.right-right.ensures c.row.ensures c.row-in-Until.ensures refl c.until_break.ensures
+
+pub row-requires-in-Release : goal.row-requires-in-Release
+row-requires-in-Release c =
+    left_fits (known (goal.at.row-requires-in-Release c).After-kind) c.requires.0 c.in-Release.ensures.number
+    (omega arith) c.left-left.ensures
+
+pub row-requires-in-Release-2 : goal.row-requires-in-Release-2
+row-requires-in-Release-2 c =
+    right_fits (known (goal.at.row-requires-in-Release-2 c).After-kind) c.requires.0 c.in-Release.ensures.number
+    (omega arith) c.right-right.ensures
 
 pub release_break-requires : goal.release_break-requires
 release_break-requires c =
-    rows_fit (known (goal.at.release_break-requires c).After-kind_of-kind) c.requires.1 c.kind_of-kind.ensures
-    c.left_of-a.ensures
-    c.right_of-b.ensures (omega arith)
+    same_length (known (goal.at.release_break-requires c).After-kind) c.requires.0 c.in-Release.ensures.number
+    (omega arith) c.left-left.ensures c.right-right.ensures c.row-in-Release.ensures c.row-in-Release-2.ensures
 
-pub returns : goal.returns
-returns c =
-    release_is (known (goal.at.returns c).After-kind_of-kind) c.requires.1 c.kind_of-kind.ensures c.left_of-a.ensures
-    c.right_of-b.ensures (omega arith) c.if-kind-eq-UNTIL.false c.release_break.result
+pub returns-in-Release : goal.returns-in-Release
+returns-in-Release c =
+    release_is (known (goal.at.returns-in-Release c).After-kind) c.requires.0 c.in-Release.ensures.number (omega arith)
+    c.left-left.ensures c.right-right.ensures c.row-in-Release.ensures c.row-in-Release-2.ensures refl
     c.release_break.ensures
+
+pub returns-in_default : goal.returns-in_default
+returns-in_default c =
+    other_is (known (goal.at.returns-in_default c).After-kind) c.requires.0 c.kind.ensures.number
+    (λ e. search rules) (λ e. search rules)

@@ -1,11 +1,9 @@
--- `formula::count_untils` meets its contract: the count is that of the nodes passed (`CountingUntils`).
+-- `formula::count_untils` meets its contract: the count is that of the nodes passed.
 -- Assumes nothing.
-use Prim.Native.Nat.{◌-◌}
-use Rattle.formula.proofs.Untils.{CountingUntils}
+use mathlib.Core.Path.{◌≡◌}
+use lib.ListN.{length}
+use Rattle.formula.specs.Rule.{untils}
 use Rattle.formula.proofs.count_untils.Given as goal
 
 abbrev pub invariant-loop-i : goal.invariant-loop-i
-invariant-loop-i l = CountingUntils l.rule l.n l.count l.i
-
-abbrev pub decreases-loop-i : goal.decreases-loop-i
-decreases-loop-i l = l.n - l.i
+invariant-loop-i l = l.count ≡ length (untils l.rule l.i)

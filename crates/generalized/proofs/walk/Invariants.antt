@@ -7,8 +7,8 @@ use Rattle.generalized.proofs.walk.Given as goal
 
 abbrev pub invariant-loop-state : goal.invariant-loop-state
 invariant-loop-state l =
-    Walking l.rule l.initial' l.states l.transitions l.ends l.size l.conflicts l.state.0 × Space l.product l.next
-    l.bytes
+    Walking l.rule.bytes.now l.initial' l.states l.transitions l.ends l.size l.conflicts l.state.0
+    × Space l.product l.next l.bytes
 
 abbrev pub decreases-loop-state : goal.decreases-loop-state
 decreases-loop-state l = max_generalized_states - l.state.0

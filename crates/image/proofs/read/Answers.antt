@@ -1,33 +1,29 @@
 -- `image::read` meets its contract: the tests in their order; on acceptance the bodies, which are the automaton's
 -- records. Assumes nothing.
-use mathlib.Core.Path.{sym, ap, ◌∙◌}
-use Rattle.automaton.specs.Tables.{told, TablesRoom}
-use Rattle.automaton.proofs.Room.{tables_room}
-use Rattle.image.proofs.Outcomes.{read_short, read_refused, read_accepted}
+use Rattle.std.proofs.Common.{rules, ◌≡◌, sym, ◌∙◌, Err}
+use Rattle.answer.proofs.Results.{require_fine}
+use Rattle.automaton.specs.Tables.{TablesRoom}
+use Rattle.automaton.proofs.Room.{room_fits}
+use Rattle.image.proofs.Outcomes.{read_refused, read_accepted}
 use Rattle.image.proofs.Contents.{checks_sized}
 use Rattle.image.proofs.read.Goals as goal
-use Rattle.image.proofs.read.Goals.{Else-not-tables_fit}
+use Rattle.image.proofs.read.Goals.{In_ok-require}
 
-tables : (c : Else-not-tables_fit)
-    → TablesRoom c.args.states.now c.args.transitions.now c.args.initial.now
-tables c = tables_room _ _ _ c.tables_fit.ensures c.if-not-tables_fit.false-raw
+tables : (c : In_ok-require) → TablesRoom c.args.states.now c.args.transitions.now c.args.initial.now
+tables c = room_fits _ _ _ (sym c.tables_fit-room.ensures ∙ require_fine _ 25 0 (sym c.in_ok-require.ensures))
 
-pub returns-then-not-tables_fit : goal.returns-then-not-tables_fit
-returns-then-not-tables_fit c = read_short _ _ _ _ c.tables_fit.ensures c.if-not-tables_fit.true-raw
-
-pub returns-in_default : goal.returns-in_default
-returns-in_default c =
-    read_refused _ _ _ _ (tables (goal.at.returns-in_default c).Else-not-tables_fit) (ap told c.in_default.is)
-    c.check-found.ensures
+pub returns-in_err-image : goal.returns-in_err-image
+returns-in_err-image c =
+    let same : c.from_residual-in_err-image.result ≡ Err c.in_err-image.field-0.0 = search rules in
+    let room = tables (goal.at.returns-in_err-image c).In_ok-require in
+    rw same (read_refused _ _ _ _ room c.in_err-image.ensures.checked)
 
 pub load_bodies-requires : goal.load_bodies-requires
 load_bodies-requires c =
-    let told = sym (ap told c.in-Accepted.is) ∙ c.check-found.ensures in
-    (checks_sized _ _ told, tables (goal.at.load_bodies-requires c).Else-not-tables_fit)
+    let sized = checks_sized c.args.image.now _ c.in_ok-image.ensures.checked in
+    (rw (← c.in_ok-image.ensures.bytes) at sized, tables (goal.at.load_bodies-requires c).In_ok-require)
 
 pub returns : goal.returns
 returns c =
-    read_accepted _ _ _ _ (tables (goal.at.returns c).Else-not-tables_fit)
-    (λ i. (c.shared_slice_known-1.given i).fits)
-    (sym (ap told c.in-Accepted.is) ∙ c.check-found.ensures)
-    c.load_bodies.ensures
+    read_accepted _ _ _ _ (tables (goal.at.returns c).In_ok-require) (λ i. (c.type_inv.image i).fits)
+    c.in_ok-image.ensures.checked (rw c.in_ok-image.ensures.bytes at c.load_bodies.ensures)

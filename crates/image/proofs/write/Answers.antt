@@ -1,59 +1,33 @@
 -- `image::write` meets its contract: the tests in their order, and on acceptance the used bytes of the tables, which
 -- are the automaton's records. Assumes nothing.
-use native.Mathlib.Omega.{arith}
-use mathlib.Core.Path.{sym, ap, ◌∙◌}
-use borrow.Author.Tests.{not-false}
-use Rattle.answer.specs.Result.{answer}
+use mathlib.Core.Path.{sym, ◌∙◌}
+use borrow.Author.Tests.{leb-true}
+use Rattle.answer.proofs.Results.{require_fine}
+use Rattle.automaton.proofs.Room.{room_fits}
 use Rattle.image.proofs.Tests.{counts_small}
-use Rattle.automaton.specs.Tables.{TablesRoom}
-use Rattle.automaton.proofs.Room.{tables_room}
-use Rattle.image.proofs.Outcomes.{Ready, has_records}
-use Rattle.image.proofs.Outcomes.{write_short, buffer_short, counts_refused, records_refused, write_accepted}
+use Rattle.image.proofs.Outcomes.{Ready, has_records, write_accepted}
 use Rattle.image.proofs.write.Goals as goal
-use Rattle.image.proofs.write.Goals.{Else-not-counts_fit, Else-not-tables_fit}
+use Rattle.image.proofs.write.Goals.{In_ok-require-3}
 
--- what is known of it once the tables, and once the counts, fit
-tables : (c : Else-not-tables_fit)
-    → TablesRoom c.args.states.now c.args.transitions.now c.args.initial.now
-tables c = tables_room _ _ _ c.tables_fit.ensures c.if-not-tables_fit.false-raw
-
-ready : (c : Else-not-counts_fit)
+ready : (c : In_ok-require-3)
     → Ready c.args.counts c.args.states.now c.args.transitions.now c.args.initial.now c.args.image.now
 ready c = record {
-  small = counts_small _ (sym c.counts_fit.ensures ∙ not-false _ c.if-not-counts_fit.false-raw);
-  tables = tables (goal.at.Else-not-counts_fit c).Else-not-tables_fit;
-  room = omega arith;
+  small = counts_small _ (sym c.counts_fit.ensures ∙ require_fine _ 10 0 (sym c.in_ok-require-3.ensures));
+  tables =
+      room_fits _ _ _ (sym c.tables_fit-room.ensures ∙ require_fine _ 25 0 (sym c.in_ok-require.ensures));
+  room = leb-true _ _ (require_fine _ 25 0 (sym c.in_ok-require-2.ensures));
 }
 
-pub returns-then-not-tables_fit : goal.returns-then-not-tables_fit
-returns-then-not-tables_fit c = write_short _ _ _ _ _ c.tables_fit.ensures c.if-not-tables_fit.true-raw
+pub check_records-requires : goal.check_records-requires
+check_records-requires c = has_records (ready (goal.at.check_records-requires c).In_ok-require-3)
 
-pub returns-then-image-lt-IMAGE_BYTES : goal.returns-then-image-lt-IMAGE_BYTES
-returns-then-image-lt-IMAGE_BYTES c =
-    buffer_short _ _ _ _ _ (tables (goal.at.returns-then-image-lt-IMAGE_BYTES c).Else-not-tables_fit) (omega arith)
-
-pub returns-then-not-counts_fit : goal.returns-then-not-counts_fit
-returns-then-not-counts_fit c =
-    counts_refused _ _ _ _ _ (tables (goal.at.returns-then-not-counts_fit c).Else-not-tables_fit) (omega arith)
-    c.counts_fit.ensures
-    c.if-not-counts_fit.true-raw
-
-pub check_records-records-requires : goal.check_records-records-requires
-check_records-records-requires c = has_records (ready c)
-
-pub returns-in-Refused : goal.returns-in-Refused
-returns-in-Refused c =
-    records_refused (ready (goal.at.returns-in-Refused c).Else-not-counts_fit) c.check_records-records.ensures
-    (ap answer c.in-Refused.is)
-
-pub write_image-n-requires : goal.write_image-n-requires
-write_image-n-requires c =
-    let given = ready (goal.at.write_image-n-requires c).Else-not-counts_fit in
+pub write_image-requires : goal.write_image-requires
+write_image-requires c =
+    let given = ready (goal.at.write_image-requires c).In_ok-require-3 in
     (given.small, given.tables, given.room)
 
 pub returns : goal.returns
 returns c =
-    write_accepted (ready (goal.at.returns c).Else-not-counts_fit) (λ i. (c.shared_slice_known-1.given i).fits)
-    (λ i. (c.shared_slice_known-2-1.given i).fits) (λ i. (c.shared_slice_known-3-1.given i).fits)
-    c.check_records-records.ensures (ap answer c.in_default.is)
-    c.write_image-n.ensures
+    write_accepted (ready (goal.at.returns c).In_ok-require-3) (λ i. (c.type_inv.states i).fits)
+    (λ i. (c.type_inv.transitions i).fits) (λ i. (c.type_inv.initial i).fits)
+    c.in_ok-check_records.ensures c.write_image.ensures

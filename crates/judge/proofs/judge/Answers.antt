@@ -1,36 +1,26 @@
--- `judge::judge` meets its contract: 25, then the answer of `check`, then that of `judge_lasso`.
--- Assumes nothing.
-use native.Mathlib.Omega.{arith}
-use mathlib.Core.Path.{◌≡◌, sym, ap, ◌∙◌}
-use Rattle.answer.specs.Result.{accepted}
-use Rattle.automaton.specs.Tables.{Counts, told}
-use Rattle.image.specs.Calls.{checks}
-use Rattle.image.proofs.Accepted.{known}
-use Rattle.image.proofs.Contents.{checks_of}
-use Rattle.judge.proofs.Judgements.{work_short, image_refused, image_judged}
+-- `judge::judge` meets its contract: 25, then the answer of `Image::parse`, then that of `Lasso::check`, then what
+-- `judge_remaining` finds. Assumes nothing.
+use Rattle.std.proofs.Common.{◌≡◌, Err, rules}
+use Rattle.judge.proofs.Judgements.{work_refused, image_refused, image_judged, lasso_refused, lasso_judged}
 use Rattle.judge.proofs.judge.Goals as goal
-use Rattle.judge.proofs.judge.Goals.{In-Accepted}
 
--- the counts of an image that `check` accepts
-accepts : (c : In-Accepted)
-    → accepted c.in-Accepted.counts
-    ≡ checks c.args.image.now
-accepts c = sym (ap told c.in-Accepted.is) ∙ c.check.ensures
+pub returns-in_err-require : goal.returns-in_err-require
+returns-in_err-require c =
+    let same : c.from_residual.result ≡ Err c.in_err-require.field-0.0 = search rules in
+    rw same (work_refused _ _ _ _ c.in_err-require.ensures)
 
-pub returns-then-work-lt-WORK_BYTES : goal.returns-then-work-lt-WORK_BYTES
-returns-then-work-lt-WORK_BYTES c = work_short _ _ _ _ (omega arith)
+pub returns-in_err-image : goal.returns-in_err-image
+returns-in_err-image c =
+    let same : c.from_residual-in_err-image.result ≡ Err c.in_err-image.field-0.0 = search rules in
+    rw same (image_refused _ _ _ _ c.in_ok-require.ensures c.in_err-image.ensures.checked)
 
-pub judge_lasso-requires : goal.judge_lasso-requires
-judge_lasso-requires c =
-    let checked = accepts (goal.at.judge_lasso-requires c).In-Accepted in
-    (known _ checked, ap (λ (c : Counts). c.states) (checks_of _ _ checked).same, omega arith)
+pub returns-in_err-check : goal.returns-in_err-check
+returns-in_err-check c =
+    let same : c.from_residual-in_err-check.result ≡ Err c.in_err-check.field-0.0 = search rules in
+    rw same (image_judged _ _ _ _ c.in_ok-require.ensures c.in_ok-image.ensures.checked
+    (lasso_refused _ _ _ _ c.in_err-check.ensures))
 
-pub returns-in-Refused : goal.returns-in-Refused
-returns-in-Refused c =
-    image_refused _ _ _ _ (omega arith)
-    (sym (ap told c.in-Refused.is) ∙ c.check.ensures)
-
-pub returns-in-Accepted : goal.returns-in-Accepted
-returns-in-Accepted c =
-    image_judged _ _ _ _ (omega arith) (accepts (goal.at.returns-in-Accepted c).In-Accepted)
-    c.judge_lasso.ensures
+pub returns : goal.returns
+returns c =
+    image_judged _ _ _ _ c.in_ok-require.ensures c.in_ok-image.ensures.checked
+    (lasso_judged _ _ _ _ c.in_ok-check.ensures (rw c.in_ok-image.ensures.bytes at c.judge_remaining.ensures))

@@ -1,13 +1,11 @@
--- `judge::run` meets its contract: the bits are those after the first i letters (`Running`), in turns in one list of
--- rows and in the other. Assumes nothing.
-use Prim.Native.Nat.{◌-◌}
-use lib.ListN.{length}
+-- `judge::run` meets its contract: the bits are those after the first letters (`Running`), two for each turn.
+-- Assumes nothing.
+use Prim.Native.Nat.{◌*◌}
 use Rattle.image.specs.Lookup.{image_automaton}
 use Rattle.judge.proofs.Letters.{Running}
 use Rattle.judge.proofs.run.Given as goal
 
-abbrev pub invariant-loop-i : goal.invariant-loop-i
-invariant-loop-i l = Running (image_automaton l.image) l.n l.word l.initial.rows l.rows l.next l.i
-
-abbrev pub decreases-loop-i : goal.decreases-loop-i
-decreases-loop-i l = length l.word - l.i
+abbrev pub invariant-loop-pair : goal.invariant-loop-pair
+invariant-loop-pair l =
+    Running (image_automaton l.image.bytes.now) l.image.counts.states l.word l.initial.rows l.rows l.next
+    (2 * l.pair-index)

@@ -1,20 +1,13 @@
--- `judge::some_accepting` meets its contract: no state before q accepts (`Missing`).
--- Assumes nothing.
-use native.Mathlib.Omega.{arith}
-use mathlib.Core.Path.{refl}
-use Rattle.judge.proofs.Decisions.{miss_begins, miss_steps, miss_finds, miss_ends, holds_so, holds_not}
+-- `judge::some_accepting` meets its contract: the states are looked at in turn (`Decisions`). Assumes nothing.
+use Rattle.std.proofs.Common.{ℕ, refl, rules, arith}
+use Rattle.std.proofs.lemmas.Iterator.{cases_from_any, YieldsList-from_range}
+use Rattle.image.specs.Lookup.{AcceptingByte}
+use Rattle.judge.proofs.Decisions.{tells_below}
 use Rattle.judge.proofs.some_accepting.Goals as goal
 
-pub loop-q-init : goal.loop-q-init
-loop-q-init c = miss_begins _ _
-
-pub returns-then-image-q-eq1 : goal.returns-then-image-q-eq1
-returns-then-image-q-eq1 c =
-    miss_finds _ _ c.loop-q.q (omega arith) (holds_so c.if-image-q-eq1.true) refl
-
-pub loop-q-preserved : goal.loop-q-preserved
-loop-q-preserved c =
-    miss_steps _ _ c.loop-q.q (omega arith) c.loop-q.invariant (holds_not c.if-image-q-eq1.false) refl
-
 pub returns : goal.returns
-returns c = miss_ends _ _ c.loop-q.q (omega arith) c.loop-q.invariant
+returns c =
+    let n = c.args.image.now.counts.states in
+    let P : ℕ → Type 0 = λ q. AcceptingByte c.args.image.now.bytes.now q in
+    tells_below n P c.any.result (cases_from_any _ _ c.any.result P (λ q. P q → ⊥) c.any.ensures.ran
+    (YieldsList-from_range 0 n n refl (omega arith)) (λ x q k. search rules) (λ x q k. search rules))

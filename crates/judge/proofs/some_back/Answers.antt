@@ -1,18 +1,14 @@
--- `judge::some_back` meets its contract: no state before q comes back to itself (`Missing`).
--- Assumes nothing.
-use native.Mathlib.Omega.{arith}
-use Rattle.judge.proofs.Decisions.{miss_begins, miss_steps, miss_finds, miss_ends}
+-- `judge::some_back` meets its contract: the states are looked at in turn (`Decisions`). Assumes nothing.
+use Rattle.std.proofs.Common.{ℕ, ◌+◌, refl, rules, arith}
+use Rattle.std.proofs.lemmas.Iterator.{cases_from_any, YieldsList-from_range}
+use Rattle.judge.specs.Limits.{met_bit}
+use Rattle.judge.specs.Memory.{Token}
+use Rattle.judge.proofs.Decisions.{tells_below}
 use Rattle.judge.proofs.some_back.Goals as goal
 
-pub loop-q-init : goal.loop-q-init
-loop-q-init c = miss_begins _ _
-
-pub returns-then-has_bit : goal.returns-then-has_bit
-returns-then-has_bit c = miss_finds _ _ c.loop-q.q (omega arith) c.has_bit.ensures c.if-has_bit.true
-
-pub loop-q-preserved : goal.loop-q-preserved
-loop-q-preserved c =
-    miss_steps _ _ c.loop-q.q (omega arith) c.loop-q.invariant c.has_bit.ensures c.if-has_bit.false
-
 pub returns : goal.returns
-returns c = miss_ends _ _ c.loop-q.q (omega arith) c.loop-q.invariant
+returns c =
+    let n = c.args.n in
+    let P : ℕ → Type 0 = λ q. Token c.args.rows.now q (met_bit + q) in
+    tells_below n P c.any.result (cases_from_any _ _ c.any.result P (λ q. P q → ⊥) c.any.ensures.ran
+    (YieldsList-from_range 0 n n refl (omega arith)) (λ x q k. search rules) (λ x q k. search rules))

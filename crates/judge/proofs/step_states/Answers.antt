@@ -1,16 +1,18 @@
 -- `judge::step_states` meets its contract: each turn adds what one state adds (`Gathers`), and the records of the next
 -- state follow. Assumes nothing.
 use native.Mathlib.Omega.{arith}
+use Rattle.image.proofs.Known.{states_known}
 use Rattle.judge.proofs.Gathers.{gather_begins, gather_steps, gather_ends}
 use Rattle.image.proofs.Lookup.{records_begin}
 use Rattle.judge.proofs.step_states.Goals as goal
 
 pub loop-q-init : goal.loop-q-init
 loop-q-init c =
-    record { offset = records_begin c.args.image.now _ c.requires.1; turns = gather_begins _ _ _ }
+    let image = c.args.image.now in
+    record { offset = records_begin image.bytes.now _ (states_known image); turns = gather_begins _ _ _ }
 
 pub step_state-at-requires : goal.step_state-at-requires
-step_state-at-requires c = (c.requires.0, omega arith, c.loop-q.invariant.offset)
+step_state-at-requires c = (omega arith, c.loop-q.invariant.offset)
 
 pub loop-q-preserved : goal.loop-q-preserved
 loop-q-preserved c =

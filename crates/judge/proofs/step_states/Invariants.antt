@@ -1,11 +1,8 @@
 -- `judge::step_states` meets its contract: each turn adds what one state adds (`Gathers`), and the records of the next
 -- state follow. Assumes nothing.
-use Prim.Native.Nat.{◌-◌}
 use Rattle.judge.proofs.Turns.{Stepping}
 use Rattle.judge.proofs.step_states.Given as goal
 
 abbrev pub invariant-loop-q : goal.invariant-loop-q
-invariant-loop-q l = Stepping l.image l.rows l.n l.letter l.initial.next l.next l.at l.q
-
-abbrev pub decreases-loop-q : goal.decreases-loop-q
-decreases-loop-q l = l.n - l.q
+invariant-loop-q l =
+    Stepping l.image.bytes.now l.rows l.image.counts.states l.letter l.initial.next l.next l.at l.q

@@ -1,22 +1,19 @@
 -- `normalform::add_own` meets its contract: by the node's kind, the codes that `own_codes` has.
 -- Assumes nothing.
-use Rattle.normalform.proofs.Codes.{own_leaf, own_not, own_one, own_two}
+use native.Mathlib.Omega.{arith}
+use Rattle.normalform.proofs.Codes.{own_none, own_one, own_two}
 use Rattle.normalform.proofs.add_own.Goals as goal
 
-pub returns-then-kind-lt-AND : goal.returns-then-kind-lt-AND
-returns-then-kind-lt-AND c =
-    own_leaf _ c.args.kind c.args.n c.args.negated _ _ c.if-kind-lt-AND.true c.own_code.ensures.0
-    c.add_code.ensures
+pub returns-in-Not : goal.returns-in-Not
+returns-in-Not c = own_none _ c.args.kind c.args.n c.args.negated c.in-Not.is
 
-pub returns-then-kind-eq-NOT : goal.returns-then-kind-eq-NOT
-returns-then-kind-eq-NOT c = own_not _ c.args.kind c.args.n c.args.negated c.if-kind-eq-NOT.true
+pub returns-in-Always : goal.returns-in-Always
+returns-in-Always c =
+    own_two _ c.args.kind c.args.n c.args.negated _ (omega (arith, c.requires.1, c.pair_code.ensures.1))
+    c.in-Always.is c.pair_code.ensures.0 _ c.constant_code.ensures.0
+    (omega (arith, c.requires.1, c.constant_code.ensures.1))
 
-pub returns-then-kind-gt-IMPLIES : goal.returns-then-kind-gt-IMPLIES
-returns-then-kind-gt-IMPLIES c =
-    own_two _ c.args.kind c.args.n c.args.negated _ _ c.if-kind-lt-AND.false c.pair_code.ensures.0
-    c.if-kind-gt-IMPLIES.true _ c.constant_code.ensures.0 c.add_codes.ensures
-
-pub returns : goal.returns
-returns c =
-    own_one _ c.args.kind c.args.n c.args.negated _ _ c.if-kind-lt-AND.false c.pair_code-2.ensures.0
-    c.if-kind-eq-NOT.false c.if-kind-gt-IMPLIES.false c.add_code-2.ensures
+pub returns-in_default : goal.returns-in_default
+returns-in_default c =
+    own_one _ c.args.kind c.args.n c.args.negated _ (omega (arith, c.requires.1, c.own_code.ensures.1))
+    c.own_code.ensures.0 c.in_default.not-Not c.in_default.not-Always c.in_default.not-Eventually

@@ -1,11 +1,7 @@
 -- `normalform::number_codes` meets its contract: the codes before c have their numbers (`Counting`).
 -- Assumes nothing.
-use Prim.Native.Nat.{◌-◌}
 use Rattle.normalform.proofs.Numbering.{Counting}
 use Rattle.normalform.proofs.number_codes.Given as goal
 
 abbrev pub invariant-loop-c : goal.invariant-loop-c
-invariant-loop-c l = Counting l.needed l.end l.initial.numbers l.numbers l.count l.c
-
-abbrev pub decreases-loop-c : goal.decreases-loop-c
-decreases-loop-c l = l.end - l.c
+invariant-loop-c l = Counting l.needed l.initial.numbers l.numbers l.count l.c

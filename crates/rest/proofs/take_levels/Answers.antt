@@ -2,95 +2,52 @@
 -- many as there are bytes. Assumes nothing.
 use native.Mathlib.Omega.{arith}
 use Prim.Native.Nat.{◌+◌, ◌*◌, ◌≤◌}
-use mathlib.Core.Path.{◌≡◌, refl, sym, ◌∙◌}
+use mathlib.Core.Path.{refl, sym, ◌∙◌}
 use mathlib.Core.List.{[]}
-use mathlib.Core.Bool.{true≢false}
 use lib.ListN.{length}
 use Rattle.automaton.specs.Limits.{max_states}
 use Rattle.image.proofs.Accepted.{readable_in_range}
 use Rattle.image.proofs.Lookup.{automaton_states}
-use Rattle.rest.proofs.Levels.{turning_steps, blank_marks, fresh_shows, before_first}
-use Rattle.rest.proofs.Levels.{before_few, before_none}
-use borrow.Author.Rules.{rules}
+use Rattle.image.proofs.Known.{known, states_known, few_known}
+use Rattle.rest.proofs.Levels.{blank_marks, fresh_shows, before_first, before_few, before_none}
 use Rattle.rest.proofs.take_levels.Goals as goal
-use Rattle.rest.proofs.take_levels.Goals.{At-loop-count}
+use Rattle.rest.proofs.take_levels.Goals.{At-loop-level}
 
-module _ (c : At-loop-count) where
-  same : length c.loop-count.work ≡ length c.args.work.now
-  same = c.loop-count.invariant.works ∙ c.begin-count.auto.work
-
-  bytes : max_states * (length c.args.stem.now + length c.args.cycle.now) ≤ length c.loop-count.work
-  bytes = omega (arith, c.requires.3, same)
+module _ (c : At-loop-level) where
+  bytes : max_states * (length c.args.lasso.now.stem.now + length c.args.lasso.now.cycle.now)
+      ≤ length c.loop-level.work
+  bytes = omega (arith, c.requires.1, c.loop-level.auto.work)
 
   -- the pairs taken, with those of the level, are at most as many as there are bytes
-  few : c.loop-count.taken + c.loop-count.count ≤ length c.args.work.now
+  few : c.loop-level.taken + c.loop-level.level.count ≤ length c.args.work.now
   few =
-      let en = c.requires.1 ∙ sym (automaton_states c.args.image.now) in
-      let range = readable_in_range _ c.requires.0 in
-      omega (arith, same, before_few _ _ _ c.loop-count.invariant.before range c.requires.2 en bytes)
+      let en = states_known c.args.image.now ∙ sym (automaton_states c.args.image.now.bytes.now) in
+      let range = readable_in_range _ (known c.args.image.now) in
+      omega (arith, c.loop-level.auto.work, before_few _ _ _ c.loop-level.invariant range c.requires.0 en bytes)
 
-pub begin-count-requires : goal.begin-count-requires
-begin-count-requires c = (
-  c.requires.0,
-  record {
-    older = [];
-    met = [];
-    shows = fresh_shows c.requires.0.few (omega (arith, c.requires.2, c.requires.3)) refl (blank_marks c.requires.4);
-  },
-)
+pub begin-requires : goal.begin-requires
+begin-requires c = record {
+  older = [];
+  met = [];
+  shows = fresh_shows _ (few_known c.args.image.now) (omega (arith, c.requires.0, c.requires.1)) refl
+      (blank_marks c.requires.2);
+}
 
-pub loop-count-init : goal.loop-count-init
-loop-count-init c =
-    record {
-      works = refl;
-      size = refl;
-      before = before_first _ _ _ c.requires.2 c.requires.1
-          (fresh_shows c.requires.0.few (omega (arith, c.requires.2, c.requires.3)) refl (blank_marks c.requires.4))
-          (c.begin-count.ensures _ _);
-    }
-
-pub take_level-end-requires : goal.take_level-end-requires
-take_level-end-requires c = (
-  c.requires.0,
-  c.requires.1,
-  c.find_places-places.ensures,
-  c.requires.2,
-  bytes (goal.at.take_level-end-requires c).At-loop-count,
-  c.loop-count.invariant.size,
-  c.loop-count.invariant.before,
-)
-
-pub returns-then-end : goal.returns-then-end
-returns-then-end c =
-    let rested = c.take_level-end.ensures.rested c.if-end.true in
-    (rested.0, rested.1, λ e. absurd (true≢false e))
+pub loop-level-init : goal.loop-level-init
+loop-level-init c =
+    before_first _ _ _ c.requires.0
+    (fresh_shows _ (few_known c.args.image.now) (omega (arith, c.requires.0, c.requires.1)) refl
+    (blank_marks c.requires.2))
+    (c.begin.ensures _ _)
 
 pub overflow_add-taken : goal.overflow_add-taken
-overflow_add-taken c =
-    omega (arith, few (goal.at.overflow_add-taken c).At-loop-count)
+overflow_add-taken c = omega (arith, few (goal.at.overflow_add-taken c).At-loop-level)
 
-pub position_after-position-requires : goal.position_after-position-requires
-position_after-position-requires c =
-    (c.loop-count.invariant.before.inside, c.requires.2)
-
-pub loop-count-smaller : goal.loop-count-smaller
-loop-count-smaller c =
-    omega (
-      arith,
-      few (goal.at.loop-count-smaller c).At-loop-count,
-      same (goal.at.loop-count-smaller c).At-loop-count,
-      c.loop-count.invariant.works,
-    )
-
-pub loop-count-preserved : goal.loop-count-preserved
-loop-count-preserved c =
-    turning_steps _ (c.take_level-end.ensures.goes c.if-end.false) c.position_after-position.ensures (search rules)
-
-pub shape_of-work : goal.shape_of-work
-shape_of-work c = c.loop-count.invariant.works ∙ c.begin-count.auto.work
+pub loop-level-smaller : goal.loop-level-smaller
+loop-level-smaller c = omega (arith, few (goal.at.loop-level-smaller c).At-loop-level, c.loop-level.auto.work)
 
 pub returns : goal.returns
 returns c =
     let (rests, pairs, marked) =
-    before_none _ _ _ c.loop-count.invariant.before (omega arith) (bytes (goal.at.returns c).At-loop-count) in
+    before_none _ _ _ c.loop-level.invariant (omega arith) (bytes (goal.at.returns c).At-loop-level) in
     (rests, pairs, λ e. marked)

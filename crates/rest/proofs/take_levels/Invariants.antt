@@ -3,12 +3,13 @@
 use Prim.Native.Nat.{◌-◌}
 use lib.ListN.{length}
 use Rattle.image.specs.Lookup.{image_automaton}
-use Rattle.rest.proofs.Levels.{Turning}
+use Rattle.rest.specs.Memory.{buffers, Before}
 use Rattle.rest.proofs.take_levels.Given as goal
 
-abbrev pub invariant-loop-count : goal.invariant-loop-count
-invariant-loop-count l =
-    Turning (image_automaton l.image) l.stem l.cycle l.n l.initial.work l.work l.level l.next l.count l.position l.taken
+abbrev pub invariant-loop-level : goal.invariant-loop-level
+invariant-loop-level l =
+    Before (image_automaton l.image.bytes.now) l.lasso.stem.now l.lasso.cycle.now l.image.counts.states l.position
+    l.taken (buffers l.work l.level)
 
-abbrev pub decreases-loop-count : goal.decreases-loop-count
-decreases-loop-count l = length l.initial.work - l.taken
+abbrev pub decreases-loop-level : goal.decreases-loop-level
+decreases-loop-level l = length l.initial.work - l.taken

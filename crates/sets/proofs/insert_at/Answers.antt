@@ -1,34 +1,18 @@
--- `sets::insert_at` meets its contract: what is held in hand, put at j, gives the list with t at i. Assumes nothing.
-use native.Mathlib.Omega.{arith}
-use native.Mathlib.Numerals.{add-one}
-use mathlib.Core.Path.{◌≡◌, refl, ◌∙◌}
-use lib.ListN.{length-set}
-use Rattle.sets.proofs.Lists.{put_step}
+-- `sets::insert_at` meets its contract: what stands from the place on is copied one place on. Assumes nothing.
+use Rattle.std.proofs.Common.{arith, add-one, length-set, ◌≡◌, ◌-◌, suc}
+use Rattle.std.specs.List.{copy_within}
+use Rattle.sets.proofs.Lists.{shift_put}
 use Rattle.sets.proofs.Stores.{full, shifted}
 use Rattle.sets.proofs.insert_at.Goals as goal
 
-pub returns-then-items-n : goal.returns-then-items-n
-returns-then-items-n c = full c.args.items.now c.args.n _ _ _ (omega arith) (omega arith)
-
-pub loop-j-init : goal.loop-j-init
-loop-j-init c =
-    record { low = omega arith; high = omega arith; room = omega arith; size = refl; whole = refl }
-
-pub loop-j-preserved : goal.loop-j-preserved
-loop-j-preserved c =
-    let inv = c.loop-j.invariant in
-    record {
-      low = omega arith;
-      high = omega arith;
-      room = omega arith;
-      size = simp length-set inv.size;
-      whole = rw add-one (put_step _ _ _ _ (omega arith) ∙ inv.whole);
-    }
-
-pub shape_of-items : goal.shape_of-items
-shape_of-items c = simp length-set c.loop-j.invariant.size
+pub returns-then-items-count : goal.returns-then-items-count
+returns-then-items-count c = full c.args.items.now c.args.count _ _ _ (omega arith) (omega arith)
 
 pub returns : goal.returns
 returns c =
-    let e : c.loop-j.j ≡ c.args.n = omega arith in
-    shifted _ _ _ _ _ _ (omega arith) (omega arith) c.loop-j.invariant.size (rw e at c.loop-j.invariant.whole)
+    let items = c.args.items.now in
+    let n = c.args.count in
+    let copied : c.copy_within.new.self ≡ copy_within items c.args.i n (suc c.args.i) =
+    rw (← add-one) c.copy_within.ensures.after in
+    shifted items _ n c.args.i c.args.t (omega arith) (simp length-set c.copy_within.ensures.len)
+    (rw copied (shift_put c.args.i n (n - c.args.i) c.args.t items _ (omega arith) (omega arith)))

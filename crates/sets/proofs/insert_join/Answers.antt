@@ -3,9 +3,9 @@
 use Rattle.sets.proofs.Folds.{join_kept, join_dropped}
 use Rattle.sets.proofs.insert_join.Goals as goal
 
-pub returns-then-shared-eq0 : goal.returns-then-shared-eq0
-returns-then-shared-eq0 c =
-    join_kept _ _ c.conflict-shared.ensures c.if-shared-eq0.true c.insert.ensures
+pub returns-then-conflicts-eq0 : goal.returns-then-conflicts-eq0
+returns-then-conflicts-eq0 c =
+    join_kept _ _ c.conflict-conflicts.ensures c.if-conflicts-eq0.true c.insert-count.ensures
 
-pub returns : goal.returns
-returns c = join_dropped _ _ c.conflict-shared.ensures _ _ c.if-shared-eq0.false
+pub returns-else-conflicts-eq0 : goal.returns-else-conflicts-eq0
+returns-else-conflicts-eq0 c = join_dropped _ _ c.conflict-conflicts.ensures _ _ c.if-conflicts-eq0.false

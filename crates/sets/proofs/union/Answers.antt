@@ -1,21 +1,19 @@
--- `sets::union` meets its contract: the loop counts down, so it is a right fold (`Folds`). Assumes nothing.
-use native.Mathlib.Omega.{arith}
-use Rattle.sets.proofs.Folds.{fold_union, fold_begins, fold_steps, fold_ends}
-use borrow.Author.Rules.{rules}
+-- `sets::union` meets its contract: the loop runs from the last to the first, so it is a right fold (`Folds`).
+-- Assumes nothing.
+use Rattle.std.proofs.Common.{rules}
+use Rattle.std.proofs.lemmas.List.{length_push}
+use Rattle.std.proofs.lemmas.Iterator.Adapters.{YieldsList-from_rev_slice}
+use Rattle.std.proofs.lemmas.Iterator.Consumers.{YieldsList-turn}
+use Rattle.sets.proofs.Folds.{fold_union, fold_begins, fold_steps, turn}
 use Rattle.sets.proofs.union.Goals as goal
 
-pub loop-i-init : goal.loop-i-init
-loop-i-init c = fold_begins fold_union c.args.xs.now c.args.nx c.requires _ _
+pub loop-x-init : goal.loop-x-init
+loop-x-init c = fold_begins fold_union c.args.xs.now _ _
 
-pub loop-i-preserved : goal.loop-i-preserved
-loop-i-preserved c =
-    fold_steps fold_union c.args.xs.now c.args.nx c.requires c.loop-i.i (omega arith) c.loop-i.invariant
-    (search rules) c.insert-n.ensures
-
-pub shape_of-items : goal.shape_of-items
-shape_of-items c = c.loop-i.invariant.size
-
-pub returns : goal.returns
-returns c =
-    fold_ends fold_union c.args.xs.now c.args.nx c.requires c.loop-i.i (omega arith)
-    c.loop-i.invariant
+pub loop-x-preserved : goal.loop-x-preserved
+loop-x-preserved c =
+    let xs = c.args.xs.now in
+    let step = YieldsList-turn (YieldsList-from_rev_slice xs cc) c.loop-x.yielded _ c.loop-x.yielded_by _ _
+    c.in-Some.x c.in-Some.is c.next.ensures.steps in
+    rw (length_push c.loop-x.yielded c.in-Some.x)
+    (fold_steps fold_union xs (turn step) c.loop-x.invariant (search rules) c.insert-n.ensures)

@@ -1,10 +1,9 @@
--- `sets::union` meets its contract: the loop counts down, so it is a right fold (`Folds`). Assumes nothing.
+-- `sets::union` meets its contract: the loop runs from the last to the first, so it is a right fold (`Folds`).
+-- Assumes nothing.
+use Rattle.std.proofs.Common.{length}
 use Rattle.sets.specs.Sets.{union_n}
 use Rattle.sets.proofs.Folds.{Folding}
 use Rattle.sets.proofs.union.Given as goal
 
-abbrev pub invariant-loop-i : goal.invariant-loop-i
-invariant-loop-i l = Folding union_n l.xs l.nx l.initial.items l.count l.items l.n l.i
-
-abbrev pub decreases-loop-i : goal.decreases-loop-i
-decreases-loop-i l = l.i
+abbrev pub invariant-loop-x : goal.invariant-loop-x
+invariant-loop-x l = Folding union_n l.xs l.initial.items l.count l.items l.n (length l.yielded)

@@ -1,56 +1,40 @@
--- `term::cover_bound` meets its contract: an and, an or by the bounds of its children, every other node has 1.
--- Assumes nothing.
+-- `term::cover_bound` meets its contract: an and, an or by the bounds of its children, every other node has 1; two
+-- numbers up to one more than max_terms have a product that fits. Assumes nothing.
+use mathlib.Core.Path.{◌≡◌, refl}
 use native.Mathlib.Omega.{arith}
-use mathlib.Core.Path.{◌≡◌, refl, sym}
-use Rattle.formula.specs.Formula.{tree}
-use Rattle.term.specs.Memory.{cover_bound}
-use Rattle.term.proofs.Sizes.{ready_small, left_lower, right_lower, of_leaf, of_pair}
-use Rattle.term.proofs.Bounds.{bounds, bound_leaf}
+use native.Mathlib.Nat.{mul-le-mul}
+use Rattle.formula.specs.Kind.{kind_number}
+use Rattle.term.proofs.Sizes.{ready_node}
+use Rattle.term.proofs.Bounds.{children_bounded, bound_of_and, bound_of_or, bound_of_other}
 use Rattle.term.proofs.cover_bound.Goals as goal
 
-pub returns-then-kind-lt-AND : goal.returns-then-kind-lt-AND
-returns-then-kind-lt-AND c =
-    let ready = c.requires.0 in
-    of_leaf ready c.kind_of-kind.ensures (λ f. 1 ≡ cover_bound f) refl
-    (λ f g. sym (bound_leaf _ _ f g c.kind_of-kind.result (λ e. omega arith) (λ e. omega arith)))
+pub overflow_mul-bounds : goal.overflow_mul-bounds
+overflow_mul-bounds c =
+    let ready = ready_node c.args.rule.now.accepted c.requires.0 in
+    let is-and : kind_number c.kind.result ≡ 4 = rw c.in-And.is refl in
+    let few = children_bounded ready _ c.requires.1 c.kind.ensures.number c.left-left.ensures c.right-right.ensures
+    (omega arith) in
+    record { fits = omega (arith, mul-le-mul few.0 few.1) }
 
-pub offset_bounds-bounds-left_of : goal.offset_bounds-bounds-left_of
-offset_bounds-bounds-left_of c =
-    let ready = c.requires.0 in
-    let lower = left_lower ready c.kind_of-kind.ensures c.left_of.ensures (omega arith) in
-    record { fits = omega (arith, ready_small ready, lower) }
+pub overflow_add-bounds : goal.overflow_add-bounds
+overflow_add-bounds c =
+    let ready = ready_node c.args.rule.now.accepted c.requires.0 in
+    let is-or : kind_number c.kind.result ≡ 5 = rw c.in-Or.is refl in
+    let few = children_bounded ready _ c.requires.1 c.kind.ensures.number c.left-left.ensures c.right-right.ensures
+    (omega arith) in
+    record { fits = omega (arith, few) }
 
-pub bounds-bounds-left_of : goal.bounds-bounds-left_of
-bounds-bounds-left_of c =
-    let ready = c.requires.0 in
-    omega (arith, ready_small ready, left_lower ready c.kind_of-kind.ensures c.left_of.ensures (omega arith))
+pub returns-in-And : goal.returns-in-And
+returns-in-And c =
+    bound_of_and (ready_node c.args.rule.now.accepted c.requires.0) _ c.requires.1 c.kind.ensures.number
+    c.left-left.ensures c.right-right.ensures (rw c.in-And.is refl) c.clip.ensures
 
-pub offset_bounds-bounds-right_of : goal.offset_bounds-bounds-right_of
-offset_bounds-bounds-right_of c =
-    let ready = c.requires.0 in
-    let lower = right_lower ready c.kind_of-kind.ensures c.right_of.ensures (omega arith) in
-    record { fits = omega (arith, ready_small ready, lower) }
+pub returns-in-Or : goal.returns-in-Or
+returns-in-Or c =
+    bound_of_or (ready_node c.args.rule.now.accepted c.requires.0) _ c.requires.1 c.kind.ensures.number
+    c.left-left.ensures c.right-right.ensures (rw c.in-Or.is refl) c.clip-in-Or.ensures
 
-pub bounds-bounds-right_of : goal.bounds-bounds-right_of
-bounds-bounds-right_of c =
-    let ready = c.requires.0 in
-    omega (arith, ready_small ready, right_lower ready c.kind_of-kind.ensures c.right_of.ensures (omega arith))
-
-pub bound_pair-requires : goal.bound_pair-requires
-bound_pair-requires c =
-    let ready = c.requires.0 in
-    let rule = c.args.rule.now in
-    let bl = left_lower ready c.kind_of-kind.ensures c.left_of.ensures (omega arith) in
-    let br = right_lower ready c.kind_of-kind.ensures c.right_of.ensures (omega arith) in
-    let most-l = bounds (tree rule c.left_of.result) in
-    let most-r = bounds (tree rule c.right_of.result) in
-    (omega (arith, c.requires.1 _ bl, most-l), omega (arith, c.requires.1 _ br, most-r))
-
-pub returns : goal.returns
-returns c =
-    let ready = c.requires.0 in
-    let bl = left_lower ready c.kind_of-kind.ensures c.left_of.ensures (omega arith) in
-    let br = right_lower ready c.kind_of-kind.ensures c.right_of.ensures (omega arith) in
-    of_pair ready c.kind_of-kind.ensures (λ f. c.bound_pair.result ≡ cover_bound f) c.left_of.ensures
-    c.right_of.ensures (omega arith)
-    (c.bound_pair.ensures _ _ _ _ (c.requires.1 _ bl) (c.requires.1 _ br))
+pub returns-in_default : goal.returns-in_default
+returns-in_default c =
+    bound_of_other (ready_node c.args.rule.now.accepted c.requires.0) c.kind.ensures.number c.in_default.not-And
+    c.in_default.not-Or

@@ -1,25 +1,15 @@
--- `translation::build` meets its contract: the table of terms, or 20, and then both walks.
+-- `translation::build` meets its contract: a refusal sets the tables to zero.
 -- Assumes nothing.
-use mathlib.Core.Path.{◌≡◌, sym}
-use Rattle.term.specs.declared.Tabulated.{Tabulated}
-use Rattle.term.specs.Memory.{Tabulates}
-use Rattle.translation.proofs.Translating.{sizes_are, tabulates_as, size_refused, builds_none}
+use mathlib.Core.Path.{sym, ◌∙◌}
+use Rattle.translation.proofs.Translating.{builds_done, builds_none}
 use Rattle.translation.proofs.build.Goals as goal
-use Rattle.translation.proofs.build.Goals.{After-tabulate-sizes}
 
--- what is in the table, by the answer
-tabled : (c : After-tabulate-sizes) {told : Tabulated} → c.tabulate-sizes.result ≡ told
-    → Tabulates c.args.rule.now told c.tabulate-sizes.new.table
-tabled c e = tabulates_as c.args.rule.now c.tabulate-sizes.new.table e c.tabulate-sizes.ensures
+pub returns-then-is_err : goal.returns-then-is_err
+returns-then-is_err c =
+    builds_none _ _ _ _ _ _ _ c.fill-built.result c.fill-built.ensures (sym c.is_err.ensures.value ∙ c.if-is_err.true)
+    c.zero.ensures c.zero-then-is_err.ensures c.zero-then-is_err-2.ensures
+    c.fill-built.auto.states c.fill-built.auto.transitions c.fill-built.auto.initial
 
-pub walk_both-requires : goal.walk_both-requires
-walk_both-requires c =
-    let table = tabled (goal.at.walk_both-requires c).After-tabulate-sizes c.in-Accepted.is in
-    (sizes_are _ c.requires.0 (sym table.sizes), table.terms, table.conflicts, c.requires.2)
-
-pub returns-in-Refused : goal.returns-in-Refused
-returns-in-Refused c =
-    rw c.carry.ensures
-    (builds_none _ _ _ _ c.refuse.result
-    (size_refused _ (sizes_are _ c.requires.0
-    (sym (tabled (goal.at.returns-in-Refused c).After-tabulate-sizes c.in-Refused.is)))) c.refuse.ensures)
+pub returns-else-is_err : goal.returns-else-is_err
+returns-else-is_err c =
+    builds_done _ _ _ _ _ _ _ c.fill-built.result c.fill-built.ensures (sym c.is_err.ensures.value ∙ c.if-is_err.false)

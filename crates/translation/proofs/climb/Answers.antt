@@ -1,24 +1,24 @@
--- `translation::climb` meets its contract: what is left to count from j comes to what there was from the start.
+-- `translation::climb` meets its contract: what the search over the levels finds is where the climb ends.
 -- Assumes nothing.
-use mathlib.Core.Path.{refl, sym, ◌∙◌}
-use borrow.Author.Tests.{not-true, not-false}
-use Rattle.translation.proofs.Levels.{climb_steps, climb_stops, climb_ends}
+use native.Mathlib.Omega.{arith}
+use mathlib.Core.Bool.{not}
+use mathlib.Core.Path.{refl, sym, ap, ◌∙◌}
+use Prim.Native.Nat.{ℕ, ◌-◌}
+use Rattle.std.proofs.Common.{rules}
+use Rattle.std.proofs.lemmas.Iterator.{YieldsList-from_range}
+use Rattle.std.proofs.lemmas.Iterator.Search.{find_from_yields_List}
+use Rattle.std.specs.Option.{unwrap_or}
+use borrow.Author.Tests.{tests}
+use Rattle.sets.specs.Bits.{has}
+use Rattle.translation.proofs.Levels.{climb_first, same_option}
 use Rattle.translation.proofs.climb.Goals as goal
 
-pub loop-j-init : goal.loop-j-init
-loop-j-init c = refl
-
-pub returns-then-not-has : goal.returns-then-not-has
-returns-then-not-has c =
-    sym
-    (climb_stops _ _ c.loop-j.j c.loop-j-test.true (sym c.has.ensures ∙ not-true _ c.if-not-has.true-raw))
-    ∙ c.loop-j.invariant
-
-pub loop-j-preserved : goal.loop-j-preserved
-loop-j-preserved c =
-    sym
-    (climb_steps _ _ c.loop-j.j c.loop-j-test.true (sym c.has.ensures ∙ not-false _ c.if-not-has.false-raw))
-    ∙ c.loop-j.invariant
-
 pub returns : goal.returns
-returns c = sym (climb_ends _ _ c.loop-j.j c.loop-j-test.false) ∙ c.loop-j.invariant
+returns c =
+    let a = c.args in
+    c.unwrap_or.ensures
+    ∙ ap (λ found. unwrap_or found a.last)
+    (sym (same_option c.find.result)
+    ∙ find_from_yields_List (λ (j : ℕ). not (has a.fulfilled j)) _ _ c.find.result c.find.ensures.ran
+    (YieldsList-from_range a.from a.last (a.last - a.from) refl refl) (λ x b q k. search (rules, tests)))
+    ∙ sym (climb_first a.fulfilled a.last (a.last - a.from) a.from (omega arith))

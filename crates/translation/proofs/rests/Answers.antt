@@ -1,33 +1,20 @@
--- `translation::rests` meets its contract: by the level, and then none of the transitions before i stays (`Seeking`).
+-- `translation::rests` meets its contract: by the level, and then by what the search in the row finds.
 -- Assumes nothing.
-use native.Mathlib.Omega.{arith}
+use mathlib.Core.Bool.{Bool}
+use mathlib.Core.Path.{◌∙◌}
 use Prim.Native.Nat.{ℕ}
-use mathlib.Core.Path.{refl}
-use borrow.Author.Tests.{eq-eqb, ne_eqb}
-use Rattle.sets.proofs.Members.{at_in}
-use Rattle.sets.proofs.Seeking.{seek_finds, seek_steps, seek_ends}
+use borrow.Author.Tests.{tests, eq-eqb}
+use Rattle.std.proofs.Common.{rules}
+use Rattle.std.proofs.lemmas.Iterator.{YieldsList-from_slice}
+use Rattle.std.proofs.lemmas.Iterator.Search.{any_from_yields_List}
+use Rattle.sets.proofs.Seeking.{list_any_is}
+use Rattle.translation.specs.Memory.{stays_n}
 use Rattle.translation.proofs.rests.Goals as goal
 
-pub returns-then-level_of-r : goal.returns-then-level_of-r
-returns-then-level_of-r c = rw (← c.level_of.ensures, ne_eqb _ c.args.r c.if-level_of-r.true)
-
-pub loop-i-init : goal.loop-i-init
-loop-i-init c = record { within = omega arith; rest = refl }
-
-pub stays-requires : goal.stays-requires
-stays-requires c =
-    (c.requires.0 _ (at_in {A = ℕ} 0 c.args.row.now c.loop-i.i c.loop-i-test.true), c.requires.1)
-
-pub returns-then-stays : goal.returns-then-stays
-returns-then-stays c =
-    rw (← c.level_of.ensures, eq-eqb _ c.args.r c.if-level_of-r.false)
-    (seek_finds 0 _ _ c.loop-i.i c.loop-i.invariant (omega arith) c.stays.ensures c.if-stays.true)
-
-pub loop-i-preserved : goal.loop-i-preserved
-loop-i-preserved c =
-    seek_steps 0 _ _ c.loop-i.i c.loop-i.invariant (omega arith) c.stays.ensures c.if-stays.false
-
-pub returns : goal.returns
-returns c =
-    rw (← c.level_of.ensures, eq-eqb _ c.args.r c.if-level_of-r.false)
-    (seek_ends 0 _ _ c.loop-i.i c.loop-i.invariant c.loop-i-test.false)
+pub returns-then-level_of-last : goal.returns-then-level_of-last
+returns-then-level_of-last c =
+    let test : ℕ → Bool = stays_n c.args.last c.args.code in
+    let found =
+    any_from_yields_List test _ _ c.any.result c.any.ensures.ran
+    (YieldsList-from_slice c.args.row.now c.iter.ensures.rest) (λ x b q k. search (rules, tests)) in
+    rw (← c.level_of.ensures, eq-eqb _ c.args.last c.if-level_of-last.true) (found ∙ list_any_is test c.args.row.now)

@@ -1,11 +1,8 @@
--- `translation::start_pairs` meets its contract: the first i codes are numbered (`Starting`).
+-- `translation::start_pairs` meets its contract: the first i codes are numbered (`starts`).
 -- Assumes nothing.
-use Prim.Native.Nat.{◌-◌}
-use Rattle.translation.proofs.Codes.{Starting}
+use mathlib.Core.Path.{◌≡◌}
+use Rattle.translation.proofs.Codes.{starts}
 use Rattle.translation.proofs.start_pairs.Given as goal
 
 abbrev pub invariant-loop-i : goal.invariant-loop-i
-invariant-loop-i l = Starting l.n l.pairs l.index l.i
-
-abbrev pub decreases-loop-i : goal.decreases-loop-i
-decreases-loop-i l = l.n - l.i
+invariant-loop-i l = l.pairs ≡ starts l.i

@@ -1,7 +1,0 @@
--- `office::zimboralo_write` meets its contract: the equation of `write`, its answer packed.
--- Assumes nothing.
-use Rattle.office.proofs.Packed.{packed_buffer}
-use Rattle.office.proofs.zimboralo_write.Goals as goal
-
-pub returns : goal.returns
-returns c = packed_buffer _ _ _ _ c.pack_stored.ensures c.write.ensures
