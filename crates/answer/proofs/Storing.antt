@@ -34,6 +34,12 @@ module _ (xs vs : List ℕ) (n : ℕ) where
       let e : n ≡ i = omega (arith, inv.within) in
       rw e inv.stored
 
+-- a turn of the loop that copies
+pub copy_steps : {X : Type 0} (xs vs ys : List X) (i : ℕ) (x : X) → i < length vs → length vs ≤ length xs
+    → x ≡ get_or vs i x → ys ≡ take i vs ++ drop i xs → set ys i x ≡ take (i + 1) vs ++ drop (i + 1) xs
+copy_steps xs vs ys i x lt room is e =
+    rw (add-one, e) (rw (← is) at (simp zero-add at (paste-suc xs 0 vs i x (omega arith) (omega arith))))
+
 -- a loop that stores zeros over all of xs
 abbrev pub Zeroing : (xs ys : List ℕ) (i : ℕ) → Type 0
 Zeroing xs ys i = Storing xs (replicate (length xs) 0) (length xs) ys i

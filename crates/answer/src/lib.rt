@@ -130,5 +130,7 @@ pub fn copy<T: Copy>(target: &mut [T], source: &[T])
     requires { length source.now ≤ length target.old }
     ensures { target.new ≡ source.now ++ drop (length source.now) target.old }
 {
-    target[..source.len()].copy_from_slice(source);
+    for (i, item) in source.iter().enumerate() {
+        target[i] = *item;
+    }
 }

@@ -80,7 +80,10 @@ fn bit(n: usize) -> u64
     1u64 << n
 }
 
-// The joins of each of a and each of b. Like the next three, with the conflicts of a, of b and of its own joins.
+// The joins of each of a and each of b. Like the next three, with the conflicts of a, of b and of its own joins, and in
+// line: else the compiler copies the lists once more, by a name that the library for C would then need from outside,
+// memmove.
+#[inline(always)]
 fn product(a: Terms, b: Terms) -> Terms
     requires { (a.count ≤ max_terms) × (b.count ≤ max_terms) }
     ensures { (us vs : List ℕ) → IsPacked a us → IsPacked b vs → IsJoined result (insert_product_n us vs [])
@@ -96,6 +99,7 @@ fn product(a: Terms, b: Terms) -> Terms
 }
 
 // a together with b.
+#[inline(always)]
 fn union(a: Terms, b: Terms) -> Terms
     requires { (a.count ≤ max_terms) × (b.count ≤ max_terms) }
     ensures { (us vs : List ℕ) → IsPacked a us → IsPacked b vs
@@ -111,6 +115,7 @@ fn union(a: Terms, b: Terms) -> Terms
 }
 
 // b together with the joins of own and each of a.
+#[inline(always)]
 fn until(a: Terms, b: Terms, own: Term) -> Terms
     requires { (a.count ≤ max_terms) × (b.count ≤ max_terms) }
     ensures { (us vs : List ℕ) → IsPacked a us → IsPacked b vs
@@ -128,6 +133,7 @@ fn until(a: Terms, b: Terms, own: Term) -> Terms
 }
 
 // The joins of each of b and each of a together with own: that list may have one member more than MAX_TERMS.
+#[inline(always)]
 fn release(a: Terms, b: Terms, own: Term) -> Terms
     requires { (a.count ≤ max_terms) × (b.count ≤ max_terms) }
     ensures { (us vs : List ℕ) → IsPacked a us → IsPacked b vs
