@@ -75,6 +75,8 @@ fn fill_leaf(kind: Kind, p: usize, lasso: &Lasso<'_>, table: &mut [bool], at: us
     ensures { Swept (leaf_step (kind_number kind) p lasso.now.stem.now lasso.now.cycle.now) at
         (length lasso.now.stem.now + length lasso.now.cycle.now) false table.old table.new 0 }
 {
+    // a copy, so that the loop need not look it up in what is lent after each store
+    let lasso = *lasso;
     for i in (0..lasso.stem.len() + lasso.cycle.len()).rev() {
         table[at + i] = leaf_here(kind, p, lasso.letter_at(i));
     }
@@ -89,6 +91,8 @@ fn fill_pair(kind: Kind, lasso: &Lasso<'_>, table: &mut [bool], at: Starts)
     ensures { Swept (pair_step (kind_number kind) table.old at.left at.right lasso.now.stem.now lasso.now.cycle.now)
         at.own (length lasso.now.stem.now + length lasso.now.cycle.now) false table.old table.new 0 }
 {
+    // a copy, as above
+    let lasso = *lasso;
     for i in (0..lasso.stem.len() + lasso.cycle.len()).rev() {
         let next = lasso.position_after(i);
         table[at.own + i] = pair_here(

@@ -119,9 +119,9 @@ fn check_node(highest: u8, rule: &[u8], n: usize) -> Result<(), Refusal>
     let kind = kind_of(rule, n);
     let left = left_of(rule, n);
     let right = right_of(rule, n);
+    require(kind <= highest, Reason::UnknownKind, n)?;
     let on_left = left_operand(kind);
     let on_right = right_operand(kind);
-    require(kind <= highest, Reason::UnknownKind, n)?;
     require(
         byte_fits(on_left, left) && byte_fits(on_right, right),
         Reason::BadByte,
@@ -173,8 +173,8 @@ fn check_place(rule: &[u8], k: usize, count: u8) -> Result<(), Refusal>
     requires { (k < node_count rule.now) × (count ≡ places rule.now (node_count rule.now) k) }
     ensures { answer result ≡ place_check rule.now k }
 {
-    let orphan = k != rule.len() / 3 - 1 && count == 0;
-    let shared = Kind::And as u8 <= kind_of(rule, k) && 2 <= count;
+    let orphan = count == 0 && k != rule.len() / 3 - 1;
+    let shared = 2 <= count && Kind::And as u8 <= kind_of(rule, k);
     require(!orphan && !shared, Reason::BadPlaces, k)
 }
 

@@ -146,14 +146,16 @@ fn step_state(
         × Gains next.old next.new
         (Onward (image_automaton image.now.bytes.now) letter (Token rows.now) q) }
 {
-    let count = number_at(image.bytes, CONTENTS_BYTES + 4 * q);
+    // a name of its own, so that the loop need not look it up in what is lent after each store
+    let bytes = image.bytes;
+    let count = number_at(bytes, CONTENTS_BYTES + 4 * q);
     let end = at + 4 * count;
     if row_empty(rows, q) {
         return end;
     }
     let row = row_of(rows, q);
     for i in 0..count {
-        take_transition(image.bytes, at + 4 * i, letter, &row, next);
+        take_transition(bytes, at + 4 * i, letter, &row, next);
     }
     end
 }

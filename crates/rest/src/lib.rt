@@ -83,10 +83,12 @@ fn take_state(
     if image.counts.states <= level.count {
         return;
     }
+    // a name of its own, so that the loop need not look it up in what is lent after each store
+    let bytes = image.bytes;
     let at = places[q];
-    let records = number_at(image.bytes, CONTENTS_BYTES + 4 * q);
+    let records = number_at(bytes, CONTENTS_BYTES + 4 * q);
     for i in 0..records {
-        follow(image.bytes, at + 4 * i, letter, position, work, level);
+        follow(bytes, at + 4 * i, letter, position, work, level);
     }
 }
 
