@@ -2,7 +2,7 @@
 // the untils.
 #![tactic(auto)]
 
-ghost use Rattle.std.specs.Prelude.{◌≡◌, map, ◌+◌, ◌*◌, ◌≤◌, ◌<◌, length, get_or};
+ghost use Rattle.std.specs.Prelude.{◌≡◌, map, ◌++◌, ◌+◌, ◌*◌, ◌≤◌, ◌<◌, length, get_or, drop};
 ghost use Rattle.formula.specs.Limits.{max_nodes};
 ghost use Rattle.sets.specs.Bits.{has};
 ghost use Rattle.term.specs.Limits.{row_places};
@@ -82,10 +82,10 @@ fn fulfilment(rule: &[u8], table: &[u64], nodes: &[usize], t: u64) -> u8
     byte
 }
 
-// Which untils each of ts fulfils, a byte each.
+// Which untils each of ts fulfils, a byte each; the bytes behind these stay.
 pub fn fulfil(rule: &[u8], table: &[u64], untils: &Untils, ts: &[u64], bytes: &mut [u8])
-    requires { (length bytes.old ≡ length ts.now) × Known rule.now table.now untils.now.nodes untils.now.count }
-    ensures { bytes.new ≡ map (fulfilment rule.now) (map unpack ts.now) }
+    requires { (length ts.now ≤ length bytes.old) × Known rule.now table.now untils.now.nodes untils.now.count }
+    ensures { bytes.new ≡ map (fulfilment rule.now) (map unpack ts.now) ++ drop (length ts.now) bytes.old }
 {
     let nodes = &untils.nodes[..untils.count];
     for (i, t) in ts.iter().enumerate() {

@@ -1,10 +1,10 @@
 // Whether two lassos are one word, and so one plan: compare, which refuses by 8, 9 and 28.
 #![tactic(auto)]
 
-ghost use Rattle.std.specs.Prelude.{◌≡◌, ◌+◌, ◌<◌, ◌≤◌, length};
+ghost use Rattle.std.specs.Prelude.{◌≡◌, true, ◌↔◌, ◌+◌, ◌<◌, ◌≤◌, length};
 ghost use Rattle.answer.specs.Result.{answer, fine};
 ghost use Rattle.lasso.specs.Lasso.{letter, remaining, max_letters, lasso_check};
-ghost use Rattle.sameword.specs.Words.{agree, words_agree, compared};
+ghost use Rattle.sameword.specs.Words.{agree, words_agree, SameWord, SameRemaining, compared};
 
 use answer::Refusal;
 use lasso::{Lasso, MAX_LETTERS, keep_remaining};
@@ -33,13 +33,15 @@ fn letters_agree(first: &Lasso<'_>, second: &Lasso<'_>, n: usize) -> bool
 
 // Whether the letters of two lassos without skipped ones agree at each i, for ever: told by those of the longer stem,
 // and behind it as many as both cycles have together (`words_agree_exactly`, proofs/Periods.antt).
-#[tactic(auto, unfolding(crate::specs::Words::words_agree))]
+#[tactic(auto, unfolding(crate::specs::Words::words_agree), using(crate::proofs::Periods::words_agree_exactly))]
 fn same_letters(first: &Lasso<'_>, second: &Lasso<'_>) -> bool
     requires { (0 < length first.now.cycle.now) × (length first.now.stem.now + length first.now.cycle.now ≤ max_letters)
         × (0 < length second.now.cycle.now)
         × (length second.now.stem.now + length second.now.cycle.now ≤ max_letters) }
-    ensures { result ≡ words_agree first.now.stem.now first.now.cycle.now
-        second.now.stem.now second.now.cycle.now }
+    ensures { (result ≡ words_agree first.now.stem.now first.now.cycle.now
+        second.now.stem.now second.now.cycle.now)
+        × ((result ≡ true) ↔ SameWord first.now.stem.now first.now.cycle.now
+        second.now.stem.now second.now.cycle.now) }
 {
     let longer = first.stem.len().max(second.stem.len());
     let n = longer + first.cycle.len() + second.cycle.len();
@@ -51,8 +53,10 @@ fn same_letters(first: &Lasso<'_>, second: &Lasso<'_>) -> bool
 fn same_remaining(first: &Lasso<'_>, second: &Lasso<'_>) -> bool
     requires { (fine ≡ lasso_check first.now.stem.now first.now.cycle.now)
         × (fine ≡ lasso_check second.now.stem.now second.now.cycle.now) }
-    ensures { result ≡ words_agree (remaining first.now.stem.now) (remaining first.now.cycle.now)
-        (remaining second.now.stem.now) (remaining second.now.cycle.now) }
+    ensures { (result ≡ words_agree (remaining first.now.stem.now) (remaining first.now.cycle.now)
+        (remaining second.now.stem.now) (remaining second.now.cycle.now))
+        × ((result ≡ true) ↔ SameRemaining first.now.stem.now first.now.cycle.now
+        second.now.stem.now second.now.cycle.now) }
 {
     let mut first_stem = [0; MAX_LETTERS];
     let mut first_cycle = [0; MAX_LETTERS];
@@ -79,8 +83,10 @@ fn same_remaining(first: &Lasso<'_>, second: &Lasso<'_>) -> bool
 fn same_word(first: &Lasso<'_>, second: &Lasso<'_>) -> bool
     requires { (fine ≡ lasso_check first.now.stem.now first.now.cycle.now)
         × (fine ≡ lasso_check second.now.stem.now second.now.cycle.now) }
-    ensures { result ≡ words_agree (remaining first.now.stem.now) (remaining first.now.cycle.now)
-        (remaining second.now.stem.now) (remaining second.now.cycle.now) }
+    ensures { (result ≡ words_agree (remaining first.now.stem.now) (remaining first.now.cycle.now)
+        (remaining second.now.stem.now) (remaining second.now.cycle.now))
+        × ((result ≡ true) ↔ SameRemaining first.now.stem.now first.now.cycle.now
+        second.now.stem.now second.now.cycle.now) }
 {
     if first.none_skipped() && second.none_skipped() {
         same_letters(first, second)

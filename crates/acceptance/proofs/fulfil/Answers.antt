@@ -1,4 +1,5 @@
--- `acceptance::fulfil` meets its contract: the bytes of the terms passed are in (`Filling`).
+-- `acceptance::fulfil` meets its contract: the bytes of the terms passed are in, and those behind all terms as they were
+-- (`Filling`).
 -- Assumes nothing.
 use Rattle.std.proofs.Common.{arith}
 use Rattle.acceptance.proofs.Gathering.{known_nodes}
@@ -16,4 +17,4 @@ loop-i-preserved c =
     fill_steps _ _ _ c.requires.0 _ c.loop-i.i (omega arith) c.loop-i.invariant c.fulfilment.ensures
 
 pub returns : goal.returns
-returns c = fill_ends _ _ _ c.requires.0 _ c.loop-i.i (omega arith) c.loop-i.invariant
+returns c = fill_ends _ _ _ _ c.loop-i.i (omega arith) c.loop-i.invariant

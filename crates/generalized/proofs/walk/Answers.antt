@@ -2,11 +2,12 @@
 -- Assumes nothing.
 use native.Mathlib.Omega.{arith}
 use mathlib.Core.Path.{◌≡◌, refl, sym, ap, ◌∙◌}
-use mathlib.Core.List.{List, ◌++◌}
+use mathlib.Core.List.{List, [], ◌++◌}
 use Prim.Native.Nat.{ℕ, ◌≤◌}
 use lib.ListN.{length, get_or, take, drop, length-append, length-take, length-drop}
 use lib.Seq.{length-take-le, take_at, take-append-le}
 use Rattle.std.specs.Prelude.{Some, None, Err}
+use Rattle.std.proofs.lemmas.List.{drop_all, append-nil}
 use Rattle.answer.specs.declared.Refusal.{Refusal}
 use Rattle.answer.specs.declared.Reason.TheVariants.{ProductTooLarge}
 use Rattle.generalized.specs.Memory.{Product, Told}
@@ -74,8 +75,13 @@ module _ (c : After-fulfil) where
   abbrev front : List ℕ
   front = take many (c.fulfil.new.bytes ++ drop many c.loop-state.bytes)
 
+  -- and none are behind them that stay
+  none_behind : drop (length terms) (take many c.loop-state.bytes) ≡ []
+  none_behind =
+      drop_all (length terms) _ (omega (arith, c.fulfil.auto.bytes, bytes_size, product_size))
+
   told : Told c.args.rule.now.bytes.now terms front
-  told = rw bytes_are c.fulfil.ensures
+  told = rw bytes_are (c.fulfil.ensures ∙ rw (none_behind, append-nil) refl)
 
   -- what the few that are left stand before
   module _ {few : ℕ} (le : few ≤ length terms) where
