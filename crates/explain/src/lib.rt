@@ -50,8 +50,10 @@ fn first_broken(rule: &Rule<'_>, table: &[bool], n: usize) -> Option<usize>
     if rule.kind(n) != Kind::And {
         return (!table[n * STRIDE]).then_some(n);
     }
-    match first_broken(rule, table, rule.left(n)) {
-        None => first_broken(rule, table, rule.right(n)),
+    let left = rule.left(n);
+    let right = rule.right(n);
+    match first_broken(rule, table, left) {
+        None => first_broken(rule, table, right),
         found => found,
     }
 }

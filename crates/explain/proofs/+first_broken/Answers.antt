@@ -20,24 +20,28 @@ pub first_broken-requires : goal.first_broken-requires
 first_broken-requires t c =
     let is_and : kind_at c.args.rule.now.bytes.now c.args.n ≡ 4 = search rules in
     let l = left_low _ (passes_fine _ c.args.rule.now.accepted) c.args.n c.requires.0 is_and in
-    let x = c.left.ensures in
-    (omega (arith, x), (omega (arith, x), c.requires.1))
+    let r = right_low _ (passes_fine _ c.args.rule.now.accepted) c.args.n c.requires.0 is_and in
+    let x = c.left-left.ensures in
+    let y = c.right-right.ensures in
+    (omega (arith, x, y), (omega (arith, x, y), c.requires.1))
 
 pub first_broken-requires-in-None : goal.first_broken-requires-in-None
 first_broken-requires-in-None t c =
     let is_and : kind_at c.args.rule.now.bytes.now c.args.n ≡ 4 = search rules in
+    let l = left_low _ (passes_fine _ c.args.rule.now.accepted) c.args.n c.requires.0 is_and in
     let r = right_low _ (passes_fine _ c.args.rule.now.accepted) c.args.n c.requires.0 is_and in
-    let y = c.right.ensures in
-    (omega (arith, y), (omega (arith, y), c.requires.1))
+    let x = c.left-left.ensures in
+    let y = c.right-right.ensures in
+    (omega (arith, x, y), (omega (arith, x, y), c.requires.1))
 
 pub returns-in-None : goal.returns-in-None
 returns-in-None t c =
     let is_and : kind_number c.kind.result ≡ 4 = search rules in
-    in_right _ _ (passes_fine _ c.args.rule.now.accepted) _ c.requires.0 _ c.kind.ensures.number _ _ c.left.ensures
-    c.right.ensures is_and c.in-None.ensures c.first_broken-in-None.ensures
+    in_right _ _ (passes_fine _ c.args.rule.now.accepted) _ c.requires.0 _ c.kind.ensures.number _ _ c.left-left.ensures
+    c.right-right.ensures is_and c.in-None.ensures c.first_broken-in-None.ensures
 
 pub returns-in_default : goal.returns-in_default
 returns-in_default t c =
     let is_and : kind_number c.kind.result ≡ 4 = search rules in
-    in_left _ _ (passes_fine _ c.args.rule.now.accepted) _ c.requires.0 _ c.kind.ensures.number _ _ c.left.ensures refl
+    in_left _ _ (passes_fine _ c.args.rule.now.accepted) _ c.requires.0 _ c.kind.ensures.number _ _ c.left-left.ensures refl
     is_and _ c.in_default.not-None c.first_broken.ensures
