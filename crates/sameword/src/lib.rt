@@ -33,7 +33,7 @@ fn letters_agree(first: &Lasso<'_>, second: &Lasso<'_>, n: usize) -> bool
 
 // Whether the letters of two lassos without skipped ones agree at each i, for ever: told by those of the longer stem,
 // and behind it as many as both cycles have together (`words_agree_exactly`, proofs/Periods.antt).
-#[tactic(auto, unfolding(crate::specs::Words::words_agree), using(crate::proofs::Periods::words_agree_exactly))]
+#[tactic(auto, unfolding(crate::specs::Words::words_agree))]
 fn same_letters(first: &Lasso<'_>, second: &Lasso<'_>) -> bool
     requires { (0 < length first.now.cycle.now) × (length first.now.stem.now + length first.now.cycle.now ≤ max_letters)
         × (0 < length second.now.cycle.now)
